@@ -29,8 +29,8 @@ block_val = vstruct (vcons (vstruct vnil) vnil)
 abbrev pub mark_own : List Val → Fml
 mark_own = (of_fields (of_fields [] ∷ [])).own_val (tt, tt)
 
-pub block_told : (vs : List Val) → shadow (mark_own vs) → vs ≡ block_val ∷ []
-block_told vs s = s.1.0 ∙ (λ i. vstruct (of_list (s.1.1.0.1.0 i ++ [])) ∷ [])
+pub block_is : (vs : List Val) → shadow (mark_own vs) → vs ≡ block_val ∷ []
+block_is vs s = s.1.0 ∙ (λ i. vstruct (of_list (s.1.1.0.1.0 i ++ [])) ∷ [])
 
 pub mark_made : {M : Type 1} {𝓤 : Ura M} (𝓛 : Logic 𝓤) → ent 𝓤 (emp 𝓤) (sem 𝓛 (mark_own (block_val ∷ [])))
 mark_made 𝓛 = makes_shadow 𝓛 (mark_own (block_val ∷ [])) (λ _. (tt, ((λ _. (tt, tt)), tt))) ((vstruct vnil ∷ [], tt), (refl, ((tt, (refl, tt)), tt)))

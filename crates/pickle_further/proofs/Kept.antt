@@ -20,7 +20,7 @@ use Rattle.pickle_further.specs.declared.engine.TaleEnd.{TaleEnd}
 use Rattle.pickle_further.specs.Going.{Standing, going, Tale}
 use Rattle.pickle_further.specs.Parts.{ignoring, buffering, holding, standing_first, lost_by}
 use Rattle.pickle_further.specs.CallsText.{tale_calls, first_loss, loss_line, loss_text, kept_behind, kept_status, kept_with, kept_calls, CutsText, PutsText, CompletesText, CutsCallsText}
-use Rattle.pickle_further.specs.Inside.{standing, Goes, tale_here, IsTold}
+use Rattle.pickle_further.specs.Inside.{standing, Goes, tale_here, WroteTale}
 use Rattle.pickle_further.proofs.Pieces.{cut_before, cut_after, pieces}
 use Rattle.pickle_further.proofs.Tales.{next_tale}
 
@@ -31,8 +31,8 @@ abbrev first : Manner → List ℕ → Standing
 first how bytes = standing_first how.detail pickles.OneMemo bytes
 
 -- what the first item came to
-abbrev pub told : Manner → List ℕ → Gone → State → Tale
-told how bytes gone t = tale_here how.holes (length bytes) way (standing t bytes (first how bytes).at (first how bytes).naming) gone
+abbrev pub kept_tale : Manner → List ℕ → Gone → State → Tale
+kept_tale how bytes gone t = tale_here how.holes (length bytes) way (standing t bytes (first how bytes).at (first how bytes).naming) gone
 
 -- the lines with the last ones, and what is behind them
 abbrev lines_of : Manner → List ℕ → Tale → List ℕ
@@ -41,61 +41,61 @@ lines_of how bytes t = t.lines.text ++ calls_end_text bytes t.lines.imports t.li
 abbrev more_of : Manner → List ℕ → List ℕ
 more_of how bytes = kept_behind how bytes (first_loss how.detail bytes)
 
-kept_is : (how : Manner) (bytes : List ℕ) (gone : Gone) (t : State) → Goes (going way (first how bytes)) gone t → kept_calls how bytes ≡ kept_with how bytes (first_loss how.detail bytes) (tale_calls how bytes (told how bytes gone t))
+kept_is : (how : Manner) (bytes : List ℕ) (gone : Gone) (t : State) → Goes (going way (first how bytes)) gone t → kept_calls how bytes ≡ kept_with how bytes (first_loss how.detail bytes) (tale_calls how bytes (kept_tale how bytes gone t))
 unfolding kept_calls
 kept_is how bytes gone t g = ap (λ (x : Tale). kept_with how bytes (first_loss how.detail bytes) (tale_calls how bytes x)) (next_tale how.holes (length bytes) way (first how bytes) gone t g)
 
-kept_all : (how : Manner) (bytes : List ℕ) (gone : Gone) (t : State) → Goes (going way (first how bytes)) gone t → (kept_calls how bytes).text ≡ lines_of how bytes (told how bytes gone t) ++ more_of how bytes
+kept_all : (how : Manner) (bytes : List ℕ) (gone : Gone) (t : State) → Goes (going way (first how bytes)) gone t → (kept_calls how bytes).text ≡ lines_of how bytes (kept_tale how bytes gone t) ++ more_of how bytes
 unfolding ◌⧺◌
 kept_all how bytes gone t g = ap (λ (o : Output). o.text) (kept_is how bytes gone t g)
 
-lines_end : (how : Manner) (bytes : List ℕ) (x : Tale) (a b : Told) (e : TaleEnd) → IsTold a b x e
+lines_end : (how : Manner) (bytes : List ℕ) (x : Tale) (a b : Told) (e : TaleEnd) → WroteTale a b x e
     → lines_of how bytes x ≡ x.lines.text ++ calls_end_text bytes e.course.imports e.course.calls (ending_in how.holes (ending.Closed 0 e.closing))
 lines_end how bytes x a b e w = rw (w.imports, w.calls, w.closing) refl
 
-lines_written : (how : Manner) (bytes : List ℕ) (x : Tale) (a b c : Told) (e : TaleEnd) → IsTold a b x e → Wrote b c (calls_end_text bytes e.course.imports e.course.calls (ending_in how.holes (ending.Closed 0 e.closing)))
+lines_written : (how : Manner) (bytes : List ℕ) (x : Tale) (a b c : Told) (e : TaleEnd) → WroteTale a b x e → Wrote b c (calls_end_text bytes e.course.imports e.course.calls (ending_in how.holes (ending.Closed 0 e.closing)))
     → Wrote a c (lines_of how bytes x)
 lines_written how bytes x a b c e w q = rw (lines_end how bytes x a b e w) (Wrote-trans a b c x.lines.text (calls_end_text bytes e.course.imports e.course.calls (ending_in how.holes (ending.Closed 0 e.closing))) w.written q)
 
-cut_of : (how : Manner) (bytes : List ℕ) (gone : Gone) (t : State) (a b : Told) (x : TextStop) → Goes (going way (first how bytes)) gone t → CutsText a b (lines_of how bytes (told how bytes gone t) ++ more_of how bytes) x
+cut_of : (how : Manner) (bytes : List ℕ) (gone : Gone) (t : State) (a b : Told) (x : TextStop) → Goes (going way (first how bytes)) gone t → CutsText a b (lines_of how bytes (kept_tale how bytes gone t) ++ more_of how bytes) x
     → CutsCallsText how pickles.OneMemo bytes a b x
 cut_of how bytes gone t a b x g w = (kept_calls how bytes, refl, rw (kept_all how bytes gone t g) w)
 
 -- the first lines, cut short
-pub kept_cut : (how : Manner) (bytes : List ℕ) (gone : Gone) (t : State) (a b : Told) (x : TextStop) → Goes (going way (first how bytes)) gone t → CutsText a b (told how bytes gone t).lines.text x
+pub kept_cut : (how : Manner) (bytes : List ℕ) (gone : Gone) (t : State) (a b : Told) (x : TextStop) → Goes (going way (first how bytes)) gone t → CutsText a b (kept_tale how bytes gone t).lines.text x
     → CutsCallsText how pickles.OneMemo bytes a b x
-kept_cut how bytes gone t a b x g w = cut_of how bytes gone t a b x g (cut_before a b (lines_of how bytes (told how bytes gone t)) (more_of how bytes) x (go w))
+kept_cut how bytes gone t a b x g w = cut_of how bytes gone t a b x g (cut_before a b (lines_of how bytes (kept_tale how bytes gone t)) (more_of how bytes) x (go w))
   where
     l : Tale
-    l = told how bytes gone t
+    l = kept_tale how bytes gone t
 
     go : CutsText a b l.lines.text x → CutsText a b (lines_of how bytes l) x
     go w = cut_before a b l.lines.text (calls_end_text bytes l.lines.imports l.lines.calls (ending_in how.holes (ending.Closed 0 l.closing))) x w
 
 -- all lines and a beginning of the last ones
-pub kept_broken : (how : Manner) (bytes : List ℕ) (gone : Gone) (t : State) (a b c : Told) (e : TaleEnd) → Goes (going way (first how bytes)) gone t → IsTold a b (told how bytes gone t) e
+pub kept_broken : (how : Manner) (bytes : List ℕ) (gone : Gone) (t : State) (a b c : Told) (e : TaleEnd) → Goes (going way (first how bytes)) gone t → WroteTale a b (kept_tale how bytes gone t) e
     → Broke b c (calls_end_text bytes e.course.imports e.course.calls (ending_in how.holes (ending.Closed 0 e.closing))) → CutsCallsText how pickles.OneMemo bytes a c stop.Failed
 kept_broken how bytes gone t a b c e g w q =
-    let l : Tale = told how bytes gone t in
+    let l : Tale = kept_tale how bytes gone t in
     let end : List ℕ = calls_end_text bytes e.course.imports e.course.calls (ending_in how.holes (ending.Closed 0 e.closing)) in
     let cut : Broke a c (lines_of how bytes l) = rw (lines_end how bytes l a b e w) (Broke-after a b c l.lines.text end w.written q) in
     cut_of how bytes gone t a c stop.Failed g (cut_before a c (lines_of how bytes l) (more_of how bytes) stop.Failed cut)
 
 -- all of these and a beginning of what is behind them
-pub behind_cut : (how : Manner) (bytes : List ℕ) (gone : Gone) (t : State) (a b c d : Told) (e : TaleEnd) (loss : Option ℕ) (x : TextStop) → Goes (going way (first how bytes)) gone t → IsTold a b (told how bytes gone t) e
+pub behind_cut : (how : Manner) (bytes : List ℕ) (gone : Gone) (t : State) (a b c d : Told) (e : TaleEnd) (loss : Option ℕ) (x : TextStop) → Goes (going way (first how bytes)) gone t → WroteTale a b (kept_tale how bytes gone t) e
     → Wrote b c (calls_end_text bytes e.course.imports e.course.calls (ending_in how.holes (ending.Closed 0 e.closing))) → loss ≡ first_loss how.detail bytes → CutsText c d (kept_behind how bytes loss) x
     → CutsCallsText how pickles.OneMemo bytes a d x
 behind_cut how bytes gone t a b c d e loss x g w q is k =
-    let l : Tale = told how bytes gone t in
+    let l : Tale = kept_tale how bytes gone t in
     let more : CutsText c d (kept_behind how bytes (first_loss how.detail bytes)) x = rw (← is) k in
     cut_of how bytes gone t a d x g (cut_after a c d (lines_of how bytes l) (kept_behind how bytes (first_loss how.detail bytes)) x (lines_written how bytes l a b c e w q) more)
 
 -- all of it
-pub kept_done : (how : Manner) (bytes : List ℕ) (gone : Gone) (t : State) (a b c d : Told) (e : TaleEnd) (loss : Option ℕ) (status : ℕ) → Goes (going way (first how bytes)) gone t → IsTold a b (told how bytes gone t) e
+pub kept_done : (how : Manner) (bytes : List ℕ) (gone : Gone) (t : State) (a b c d : Told) (e : TaleEnd) (loss : Option ℕ) (status : ℕ) → Goes (going way (first how bytes)) gone t → WroteTale a b (kept_tale how bytes gone t) e
     → Wrote b c (calls_end_text bytes e.course.imports e.course.calls (ending_in how.holes (ending.Closed 0 e.closing))) → status ≡ ending_status (ending.Closed 0 e.closing) → loss ≡ first_loss how.detail bytes
     → Wrote c d (kept_behind how bytes loss) → CompletesText how pickles.OneMemo bytes a d (kept_status loss status)
 kept_done how bytes gone t a b c d e loss status g w q is lost k =
-    let l : Tale = told how bytes gone t in
+    let l : Tale = kept_tale how bytes gone t in
     let more : Wrote c d (kept_behind how bytes (first_loss how.detail bytes)) = rw (← lost) k in
     let all : Wrote a d (kept_calls how bytes).text = rw (kept_all how bytes gone t g) (Wrote-trans a c d (lines_of how bytes l) (kept_behind how bytes (first_loss how.detail bytes)) (lines_written how bytes l a b c e w q) more) in
     let same : kept_status loss status ≡ (kept_calls how bytes).status =

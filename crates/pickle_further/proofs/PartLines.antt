@@ -46,17 +46,17 @@ one_item holes n w p None (Some x) is closes more =
     let after : Option Standing = search sought.Event n w (stands_after p g) in
     let none : search sought.Event (suc n) w p ≡ None =
     ap₂ (λ (y : Option Event) (z : Option Closing). if is_some y then Some p else (if is_some z then None else after)) is closes in
-    let told : tale holes (suc n) w p ≡ tale_after (record { text = []; imports = 0; calls = 0 }) (tale_over x) =
+    let here : tale holes (suc n) w p ≡ tale_after (record { text = []; imports = 0; calls = 0 }) (tale_over x) =
     ap₂ (λ (y : Option Event) (z : Option Closing). tale_after (counted_text (in_file holes p.at.offset) p.naming g.state.heap y) (option_map_or tale_over z (tale holes n w (stands_after p g)))) is closes in
-    subst (BeginsAtLine holes (suc n) w p) (sym none) (ap (λ (t : Tale). t.lines.text) told ∙ no_text x)
+    subst (BeginsAtLine holes (suc n) w p) (sym none) (ap (λ (t : Tale). t.lines.text) here ∙ no_text x)
 one_item holes n w p None None is closes more =
     let g : Going = going w p in
     let after : Option Standing = search sought.Event n w (stands_after p g) in
     let on : search sought.Event (suc n) w p ≡ after =
     ap₂ (λ (y : Option Event) (z : Option Closing). if is_some y then Some p else (if is_some z then None else after)) is closes in
-    let told : tale holes (suc n) w p ≡ tale_after (record { text = []; imports = 0; calls = 0 }) (tale holes n w (stands_after p g)) =
+    let here : tale holes (suc n) w p ≡ tale_after (record { text = []; imports = 0; calls = 0 }) (tale holes n w (stands_after p g)) =
     ap₂ (λ (y : Option Event) (z : Option Closing). tale_after (counted_text (in_file holes p.at.offset) p.naming g.state.heap y) (option_map_or tale_over z (tale holes n w (stands_after p g)))) is closes in
-    subst (BeginsAtLine holes (suc n) w p) (sym on) (carried holes n w p (stands_after p g) after (told ∙ nothing_added (tale holes n w (stands_after p g))) more)
+    subst (BeginsAtLine holes (suc n) w p) (sym on) (carried holes n w p (stands_after p g) after (here ∙ nothing_added (tale holes n w (stands_after p g))) more)
 
 no_items : (holes : List Hole) (w : Way) (p : Standing) → BeginsAtLine holes 0 w p (search sought.Event 0 w p)
 unfolding tale search

@@ -18,9 +18,9 @@ use Rattle.pickle_show.specs.declared.naming.Naming.{Naming}
 use Rattle.pickle_show.specs.Naming.{begin}
 use Rattle.pickle_further.specs.declared.engine.TaleEnd.{TaleEnd}
 use Rattle.pickle_further.specs.Going.{Standing, going, Tale, search_from}
-use Rattle.pickle_further.specs.Parts.{part_end, header, tale_text, told_text, text_from, found_text}
+use Rattle.pickle_further.specs.Parts.{part_end, header, tale_text, part_text, text_from, found_text}
 use Rattle.pickle_further.specs.CallsText.{CutsText, PutsText}
-use Rattle.pickle_further.specs.Inside.{standing, standing_of, Goes, tale_here, IsTold, Finds}
+use Rattle.pickle_further.specs.Inside.{standing, standing_of, Goes, tale_here, WroteTale, Finds}
 use Rattle.pickle_further.proofs.Pieces.{pieces, cut_before}
 use Rattle.pickle_further.proofs.Tales.{next_tale}
 
@@ -28,32 +28,32 @@ pub tale_cut : (holes : List Hole) (t : Tale) (a b : Told) (x : TextStop) → Cu
 unfolding tale_text ◌⧺◌
 tale_cut holes t a b x w = cut_before a b t.lines.text (part_end t.lines.imports t.lines.calls (closing_in holes t.closing)) x w
 
-tale_is : (holes : List Hole) (t : Tale) (a b : Told) (e : TaleEnd) → IsTold a b t e → tale_text holes t ≡ t.lines.text ++ part_end e.course.imports e.course.calls (closing_in holes e.closing)
+tale_is : (holes : List Hole) (t : Tale) (a b : Told) (e : TaleEnd) → WroteTale a b t e → tale_text holes t ≡ t.lines.text ++ part_end e.course.imports e.course.calls (closing_in holes e.closing)
 unfolding tale_text ◌⧺◌
 tale_is holes t a b e w = rw (w.imports, w.calls, w.closing) refl
 
-pub end_cut : (holes : List Hole) (t : Tale) (a b c : Told) (e : TaleEnd) → IsTold a b t e → Broke b c (part_end e.course.imports e.course.calls (closing_in holes e.closing)) → Broke a c (tale_text holes t)
+pub end_cut : (holes : List Hole) (t : Tale) (a b c : Told) (e : TaleEnd) → WroteTale a b t e → Broke b c (part_end e.course.imports e.course.calls (closing_in holes e.closing)) → Broke a c (tale_text holes t)
 end_cut holes t a b c e w q = rw (tale_is holes t a b e w) (Broke-after a b c t.lines.text (part_end e.course.imports e.course.calls (closing_in holes e.closing)) w.written q)
 
-pub end_done : (holes : List Hole) (t : Tale) (a b c : Told) (e : TaleEnd) → IsTold a b t e → Wrote b c (part_end e.course.imports e.course.calls (closing_in holes e.closing)) → Wrote a c (tale_text holes t)
+pub end_done : (holes : List Hole) (t : Tale) (a b c : Told) (e : TaleEnd) → WroteTale a b t e → Wrote b c (part_end e.course.imports e.course.calls (closing_in holes e.closing)) → Wrote a c (tale_text holes t)
 end_done holes t a b c e w q = rw (tale_is holes t a b e w) (Wrote-trans a b c t.lines.text (part_end e.course.imports e.course.calls (closing_in holes e.closing)) w.written q)
 
 -- ---- from here on
 
--- an item that was gone over is told
-told_is : (holes : List Hole) (w : Way) (s t : State) (v : Visited) → Goes (going w (standing_of s v)) v.gone t
-    → told_text holes w (Some (standing_of s v)) ≡ header w.frames ++ tale_text holes (tale_here holes (length v.rest.now) w (standing_of t v) v.gone)
+-- the part that begins with an item that was gone over
+part_is : (holes : List Hole) (w : Way) (s t : State) (v : Visited) → Goes (going w (standing_of s v)) v.gone t
+    → part_text holes w (Some (standing_of s v)) ≡ header w.frames ++ tale_text holes (tale_here holes (length v.rest.now) w (standing_of t v) v.gone)
 unfolding ◌⧺◌
-told_is holes w s t v g = ap (λ (x : Tale). header w.frames ++ tale_text holes x) (next_tale holes (length v.rest.now) w (standing_of s v) v.gone t g)
+part_is holes w s t v g = ap (λ (x : Tale). header w.frames ++ tale_text holes x) (next_tale holes (length v.rest.now) w (standing_of s v) v.gone t g)
 
 pub header_broken : (holes : List Hole) (w : Way) (s t : State) (v : Visited) (a b : Told) → Goes (going w (standing_of s v)) v.gone t → Broke a b (header w.frames)
-    → Broke a b (told_text holes w (Some (standing_of s v)))
-header_broken holes w s t v a b g q = rw (told_is holes w s t v g) (Broke-more a b (header w.frames) (tale_text holes (tale_here holes (length v.rest.now) w (standing_of t v) v.gone)) q)
+    → Broke a b (part_text holes w (Some (standing_of s v)))
+header_broken holes w s t v a b g q = rw (part_is holes w s t v g) (Broke-more a b (header w.frames) (tale_text holes (tale_here holes (length v.rest.now) w (standing_of t v) v.gone)) q)
 
 pub tale_puts : {A : Type 0} (holes : List Hole) (w : Way) (s t : State) (v : Visited) (a b c : Told) (r : Result A TextStop) → Goes (going w (standing_of s v)) v.gone t → Wrote a b (header w.frames)
-    → PutsText b c (tale_text holes (tale_here holes (length v.rest.now) w (standing_of t v) v.gone)) r → PutsText a c (told_text holes w (Some (standing_of s v))) r
+    → PutsText b c (tale_text holes (tale_here holes (length v.rest.now) w (standing_of t v) v.gone)) r → PutsText a c (part_text holes w (Some (standing_of s v))) r
 tale_puts holes w s t v a b c r g q k =
-    rw (told_is holes w s t v g) (pieces a b c (header w.frames) (tale_text holes (tale_here holes (length v.rest.now) w (standing_of t v) v.gone)) r q k)
+    rw (part_is holes w s t v g) (pieces a b c (header w.frames) (tale_text holes (tale_here holes (length v.rest.now) w (standing_of t v) v.gone)) r q k)
 
 -- ---- what is looked for
 
@@ -70,16 +70,16 @@ none_puts w text None t a is f = rw is (Wrote-none a)
 
 -- the first item with an event
 pub event_puts : {A : Type 0} (holes : List Hole) (w : Way) (p : Standing) (v : Visited) (x : Option Visited) (t : State) (a b : Told) (r : Result A TextStop) → x ≡ Some v
-    → Finds w (search_from sought.Event w p) x t → ((s : State) → Goes (going w (standing_of s v)) v.gone t → PutsText a b (told_text holes w (Some (standing_of s v))) r)
+    → Finds w (search_from sought.Event w p) x t → ((s : State) → Goes (going w (standing_of s v)) v.gone t → PutsText a b (part_text holes w (Some (standing_of s v))) r)
     → PutsText a b (text_from holes w p) r
 unfolding text_from
 event_puts holes w p v x t a b r is f puts =
-    found_puts w (told_text holes w) (search_from sought.Event w p) v t a b r (subst (λ (y : Option Visited). Finds w (search_from sought.Event w p) y t) is f) puts
+    found_puts w (part_text holes w) (search_from sought.Event w p) v t a b r (subst (λ (y : Option Visited). Finds w (search_from sought.Event w p) y t) is f) puts
 
 pub no_event_puts : (holes : List Hole) (w : Way) (p : Standing) (x : Option Visited) (t : State) (a : Told) → x ≡ None → Finds w (search_from sought.Event w p) x t → Wrote a a (text_from holes w p)
 unfolding text_from
 no_event_puts holes w p x t a is f =
-    none_puts w (told_text holes w) (search_from sought.Event w p) t a refl (subst (λ (y : Option Visited). Finds w (search_from sought.Event w p) y t) is f)
+    none_puts w (part_text holes w) (search_from sought.Event w p) t a refl (subst (λ (y : Option Visited). Finds w (search_from sought.Event w p) y t) is f)
 
 -- the first item whose reading loses bytes
 pub lost_puts : {A : Type 0} (holes : List Hole) (how : Detail) (w : Way) (s : State) (bytes : List ℕ) (at : Spot) (m : Naming) (v : Visited) (x : Option Visited) (t : State) (a b : Told) (r : Result A TextStop)

@@ -26,7 +26,7 @@ use Rattle.pickle_further.specs.declared.way.Spot.{Spot}
 use Rattle.pickle_further.specs.declared.going.Gone.{Gone}
 use Rattle.pickle_further.specs.Going.{Standing, going, stands_after, spot_after, Tale, tale_over, tale_after, tale}
 use Rattle.pickle_further.specs.CallsText.{CutsText}
-use Rattle.pickle_further.specs.Inside.{standing, Goes, here, tale_here, ended, IsTold, InTale}
+use Rattle.pickle_further.specs.Inside.{standing, Goes, here, tale_here, ended, WroteTale, InTale}
 
 -- ---- writing
 
@@ -62,7 +62,7 @@ line_broken whole a b c course e t w q =
     rw (w.lines ∙ after_line w.front e t) (Broke-more a c (w.front ++ e.text) t.lines.text (Broke-after a b c w.front e.text w.written q))
 
 -- it ends
-pub tale_done : (whole : Tale) (a b : Told) (course : Course) (c : Closing) → InTale whole a b course (tale_over c) → IsTold a b whole (record { course = course; closing = c })
+pub tale_done : (whole : Tale) (a b : Told) (course : Course) (c : Closing) → InTale whole a b course (tale_over c) → WroteTale a b whole (record { course = course; closing = c })
 tale_done whole a b course c w = record {
   written = subst (Wrote a b) (sym (w.lines ∙ append-nil w.front)) w.written;
   imports = omega (arith, w.imports);
@@ -129,7 +129,7 @@ next_tale holes n w p gone t g = elim g.state [
 -- ---- the loop
 
 pub record InLoop (holes : List Hole) (w : Way) (whole : Tale) (old now : Told) (s : State) (rest : List ℕ) (at : Spot) (gone : Gone) (course : Course) (left : ℕ) : Type 0 where
-  pub told : InTale whole old now course (tale_here holes left w (standing s rest at course.naming) gone)
+  pub in_tale : InTale whole old now course (tale_here holes left w (standing s rest at course.naming) gone)
   pub size : gone.size ≤ length rest
   pub few : left ≤ 2 ^ 30
   pub small : length rest ≤ 2 ^ 30
@@ -143,8 +143,8 @@ pub record InLoop (holes : List Hole) (w : Way) (whole : Tale) (old now : Told) 
 abbrev pub behind : State → List ℕ → Spot → Gone → Naming → Standing
 behind s rest at gone m = standing s (drop gone.size rest) (spot_after at gone) m
 
--- what is told is this item's, and what comes then
-goes_told : (holes : List Hole) (w : Way) (whole : Tale) (a b c : Told) (s t : State) (rest : List ℕ) (at : Spot) (gone next : Gone) (course more : Course) (left m : ℕ)
+-- the tale is this item's line, and what comes then
+goes_in_tale : (holes : List Hole) (w : Way) (whole : Tale) (a b c : Told) (s t : State) (rest : List ℕ) (at : Spot) (gone next : Gone) (course more : Course) (left m : ℕ)
     → InTale whole a b course (tale_here holes left w (standing s rest at course.naming) gone) → Wrote b c (line_of (in_file holes at.offset) course.naming s.heap gone.event)
     → more.imports ≡ course.imports + imports_of s.heap gone.event → more.calls ≡ course.calls + calls_of s.heap gone.event
     → more.naming ≡ naming_after gone.row (length s.heap) course.naming
@@ -152,12 +152,12 @@ goes_told : (holes : List Hole) (w : Way) (whole : Tale) (a b c : Told) (s t : S
     → tale_here holes left w (standing s rest at course.naming) gone ≡ tale_after (counted_text (in_file holes at.offset) course.naming s.heap gone.event) (tale holes left w (behind s rest at gone (naming_after gone.row (length s.heap) course.naming)))
     → Goes (going w (behind s rest at gone more.naming)) next t
     → InTale whole a c more (tale_here holes m w (behind t rest at gone more.naming) next)
-goes_told holes w whole a b c s t rest at gone next course more left m k q i j naming suc_is is g =
+goes_in_tale holes w whole a b c s t rest at gone next course more left m k q i j naming suc_is is g =
     let p : Standing = behind s rest at gone more.naming in
     let named : tale holes left w (behind s rest at gone (naming_after gone.row (length s.heap) course.naming)) ≡ tale holes left w p = ap (λ (n : Naming). tale holes left w (behind s rest at gone n)) (sym naming) in
-    let told : tale_here holes left w (standing s rest at course.naming) gone ≡ tale_after (counted_text (in_file holes at.offset) course.naming s.heap gone.event) (tale holes left w p) =
+    let same_tale : tale_here holes left w (standing s rest at course.naming) gone ≡ tale_after (counted_text (in_file holes at.offset) course.naming s.heap gone.event) (tale holes left w p) =
     is ∙ ap (tale_after (counted_text (in_file holes at.offset) course.naming s.heap gone.event)) named in
-    let here_is : InTale whole a b course (tale_after (counted_text (in_file holes at.offset) course.naming s.heap gone.event) (tale holes left w p)) = subst (InTale whole a b course) told k in
+    let here_is : InTale whole a b course (tale_after (counted_text (in_file holes at.offset) course.naming s.heap gone.event) (tale holes left w p)) = subst (InTale whole a b course) same_tale k in
     let line : InTale whole a c more (tale holes left w p) = line_written whole a b c course more (counted_text (in_file holes at.offset) course.naming s.heap gone.event) (tale holes left w p) here_is q i j in
     let then_is : tale holes left w p ≡ tale_here holes m w (behind t rest at gone more.naming) next = ap (λ (n : ℕ). tale holes n w p) suc_is ∙ next_tale holes m w p next t g in
     subst (InTale whole a c more) then_is line
@@ -176,7 +176,7 @@ goes_round holes w whole a b c s t rest at gone next course more left k q i j na
     let less : left - 1 ≡ m = omega (arith, behind.count) in
     let shorter : length (drop gone.size rest) ≡ length rest - gone.size = length-drop gone.size rest in
     rw less (record {
-      told = goes_told holes w whole a b c s t rest at gone next course more left m k.told q i j naming behind.count behind.tale_is g;
+      in_tale = goes_in_tale holes w whole a b c s t rest at gone next course more left m k.in_tale q i j naming behind.count behind.tale_is g;
       size = size;
       few = omega (arith, k.few, behind.count);
       small = omega (arith, k.small, shorter);
@@ -191,15 +191,15 @@ goes_round holes w whole a b c s t rest at gone next course more left k q i j na
 pub last_line : (holes : List Hole) (w : Way) (whole : Tale) (a b c : Told) (s : State) (rest : List ℕ) (at : Spot) (gone : Gone) (course more : Course) (left : ℕ) (x : Closing)
     → InLoop holes w whole a b s rest at gone course left → Wrote b c (line_of (in_file holes at.offset) course.naming s.heap gone.event)
     → more.imports ≡ course.imports + imports_of s.heap gone.event → more.calls ≡ course.calls + calls_of s.heap gone.event
-    → ended gone left at.offset ≡ Some x → IsTold a c whole (record { course = more; closing = x })
+    → ended gone left at.offset ≡ Some x → WroteTale a c whole (record { course = more; closing = x })
 last_line holes w whole a b c s rest at gone course more left x k q i j e =
     tale_done whole a c more x (line_written whole a b c course more (counted_text (in_file holes at.offset) course.naming s.heap gone.event) (tale_over x)
-    (subst (InTale whole a b course) (ends_here holes left w (standing s rest at course.naming) gone x e) k.told) q i j)
+    (subst (InTale whole a b course) (ends_here holes left w (standing s rest at course.naming) gone x e) k.in_tale) q i j)
 
 -- the line is cut short
 pub item_broken : (holes : List Hole) (w : Way) (whole : Tale) (a b c : Told) (s : State) (rest : List ℕ) (at : Spot) (gone : Gone) (course : Course) (left : ℕ)
     → InLoop holes w whole a b s rest at gone course left → Broke b c (line_of (in_file holes at.offset) course.naming s.heap gone.event) → Broke a c whole.lines.text
-item_broken holes w whole a b c s rest at gone course left k q = line_broken whole a b c course (counted_text (in_file holes at.offset) course.naming s.heap gone.event) _ k.told q
+item_broken holes w whole a b c s rest at gone course left k q = line_broken whole a b c course (counted_text (in_file holes at.offset) course.naming s.heap gone.event) _ k.in_tale q
 
 -- memory runs out behind the line of an item
 pub memory_behind : (holes : List Hole) (w : Way) (whole : Tale) (a b c : Told) (s : State) (rest : List ℕ) (at : Spot) (gone : Gone) (course : Course) (left : ℕ)
@@ -208,7 +208,7 @@ pub memory_behind : (holes : List Hole) (w : Way) (whole : Tale) (a b c : Told) 
 memory_behind holes w whole a b c s rest at gone course left k q =
     let e : CountedText = counted_text (in_file holes at.offset) course.naming s.heap gone.event in
     let more : Course = record { imports = course.imports + e.imports; calls = course.calls + e.calls; naming = course.naming; left = course.left } in
-    memory_stops whole a c more _ (line_written whole a b c course more e _ k.told q refl refl)
+    memory_stops whole a c more _ (line_written whole a b c course more e _ k.in_tale q refl refl)
 
 -- ---- errors
 

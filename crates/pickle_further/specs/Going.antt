@@ -79,7 +79,7 @@ then_as m o place (Err r) = Err r
 abbrev pub moved_so : LoaderMove → Operation → ℕ → State → Result State Refusal
 moved_so m o place s = then_as m o place (move_as m.row o place s)
 
--- what goes into an object that the machine would refuse is told as well
+-- what goes into an object that the machine would refuse is shown as well
 abbrev pub event_by : LoaderMove → State → State → Option Fill → Option Event
 event_by m s t None = event_of m.row (before_of s) t
 event_by m s t (Some f) = Some (event.Filled f.filling f.count f.target)

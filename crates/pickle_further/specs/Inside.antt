@@ -38,7 +38,7 @@ standing_behind bytes s r = standing s (drop r.offset bytes) (record { offset = 
 abbrev pub loss_from : Way → Standing → Option ℕ
 loss_from w p = option_map (λ (q : Standing). q.at.offset) (search_from sought.Lost w p)
 
--- it ended before an item, which told nothing
+-- it ended before an item, which has no line
 pub record IsOver (gone : Gone) : Type 0 where
   pub silent : gone.event ≡ None
   pub closing : (c : Closing) × (gone.closing ≡ Some c)
@@ -61,7 +61,7 @@ abbrev pub EndsAtFault : NotTaken → ℕ → Gone → Type 0
 EndsAtFault (stop.Fault f) offset gone = gone ≡ nothing (closing.Fault (tail.Front f) offset)
 EndsAtFault stop.Memory offset gone = ⊥
 
--- what is told from an item on that was gone over, by the state after it, and of at most n items behind it
+-- the tale from an item on that was gone over, by the state after it, and of at most n items behind it
 abbrev pub here : Gone → Standing → Going
 here gone p = record { gone = gone; state = p.state }
 
@@ -106,7 +106,7 @@ FindsRoom t None = ⊤
 -- ---- the lines of a tale
 
 -- they were written, and this is how many imports and calls they are, and how it ended
-pub record IsTold (old new : Told) (t : Tale) (end : TaleEnd) : Type 0 where
+pub record WroteTale (old new : Told) (t : Tale) (end : TaleEnd) : Type 0 where
   pub written : Wrote old new t.lines.text
   pub imports : end.course.imports ≡ t.lines.imports
   pub calls : end.course.calls ≡ t.lines.calls

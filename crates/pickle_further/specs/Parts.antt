@@ -66,13 +66,13 @@ unfoldable pub tale_text : List Hole → Tale → List ℕ
 tale_text holes t = t.lines.text ⧺ part_end t.lines.imports t.lines.calls (closing_in holes t.closing)
 
 -- from the first item with an event on, if there is one
-abbrev pub told_text : List Hole → Way → Option Standing → List ℕ
-told_text holes w (Some p) = header w.frames ⧺ tale_text holes (tale_of holes w p)
-told_text holes w None = []
+abbrev pub part_text : List Hole → Way → Option Standing → List ℕ
+part_text holes w (Some p) = header w.frames ⧺ tale_text holes (tale_of holes w p)
+part_text holes w None = []
 
 -- from here on: nothing where no item has an event
 unfoldable pub text_from : List Hole → Way → Standing → List ℕ
-text_from holes w p = told_text holes w (search_from sought.Event w p)
+text_from holes w p = part_text holes w (search_from sought.Event w p)
 
 -- ---- where the lines end
 

@@ -2,7 +2,7 @@
 
 ghost use Rattle.std.specs.Prelude.{◌≡◌, ◌<◌, ◌≤◌, ◌+◌, ◌*◌, ◌-◌, ◌^◌, length, IfOk, IfErr};
 ghost use Rattle.pickle_further.specs.CallsText.{CutsText};
-ghost use Rattle.pickle_further.specs.Inside.{standing, tale_at, ended, IsTold};
+ghost use Rattle.pickle_further.specs.Inside.{standing, tale_at, ended, WroteTale};
 
 use crate::going::{Gone, go};
 use crate::machine::LoaderMachine;
@@ -83,7 +83,7 @@ pub fn write_items<S: Page>(
     requires heap { length machine.old.state.heap + 2 * length bytes.now ≤ 2 ^ 32 - 8 }
     requires offset { from.offset ≤ 2 ^ 31 }
     requires place { from.place ≤ 2 ^ 31 }
-    ensures ok { IfOk result (IsTold (S.told page.old) (S.told page.new) (tale_at holes.now way (standing machine.old.state bytes.now from naming) first)) }
+    ensures ok { IfOk result (WroteTale (S.told page.old) (S.told page.new) (tale_at holes.now way (standing machine.old.state bytes.now from naming) first)) }
     ensures err { IfErr result (CutsText (S.told page.old) (S.told page.new)
         (tale_at holes.now way (standing machine.old.state bytes.now from naming) first).lines.text) }
 {

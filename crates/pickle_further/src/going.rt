@@ -72,7 +72,7 @@ fn move_so(
     Ok(())
 }
 
-/// The event of a move: what went into an object is told as well where the machine would refuse it.
+/// The event of a move: what went into an object is shown as well where the machine would refuse it.
 fn event_by(m: LoaderMove, before: Before, machine: &LoaderMachine) -> Option<Event>
     ensures { (s : State) → before ≡ before_of s → result ≡ event_by m s machine.now.state m.fill }
 {

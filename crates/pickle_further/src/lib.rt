@@ -2,7 +2,7 @@
 //! called.
 //!
 //! The lines are those of the machine up to where it refuses an item, where the bytes have a fault, or where loaders disagree. From there
-//! on loaders may go on, and a loader that keeps frames in a buffer may read other bytes. What they do is told in parts of the text of
+//! on loaders may go on, and a loader that keeps frames in a buffer may read other bytes. What they do is shown in parts of the text of
 //! their own.
 #![tactic(auto)]
 

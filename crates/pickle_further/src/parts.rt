@@ -1,11 +1,11 @@
-//! What loaders may do behind the end of the lines. The bytes are what is left of a file without these holes; the offsets that are told are
+//! What loaders may do behind the end of the lines. The bytes are what is left of a file without these holes; the offsets that are shown are
 //! those in the file.
 
 ghost use Rattle.std.specs.Prelude.{◌≡◌, ◌≤◌, ◌^◌, length, Some, IfOk, IfErr};
 ghost use Rattle.pickle_io.specs.Device.{Writes};
 ghost use Rattle.pickle_further.specs.CallsText.{PutsText};
 ghost use Rattle.pickle_further.specs.Going.{search_from};
-ghost use Rattle.pickle_further.specs.Parts.{stop_words, stop_line, ends_line, part_end, ignored_words, buffered_words, held_words, header_words, header, tale_text, told_text, text_from, found_text};
+ghost use Rattle.pickle_further.specs.Parts.{stop_words, stop_line, ends_line, part_end, ignored_words, buffered_words, held_words, header_words, header, tale_text, part_text, text_from, found_text};
 ghost use Rattle.pickle_machine.specs.State.{State};
 ghost use Rattle.pickle_show.specs.Naming.{begin};
 ghost use Rattle.pickle_further.specs.Inside.{standing, standing_begun, standing_of, loss_from, tale_at, IsGoneOver, HasRoom};
@@ -140,7 +140,7 @@ fn write_tale<S: Page>(
 }
 
 /// Writes what loaders may do from this item on, which has an event.
-fn write_told<S: Page>(
+fn write_part<S: Page>(
     alloc: Global,
     holes: &Holes,
     way: Way,
@@ -150,7 +150,7 @@ fn write_told<S: Page>(
 ) -> Result<(), TextStop>
     requires { HasRoom machine.old.state item }
     ensures { (s : State) → IsGoneOver way s item.entry machine.old.state
-        → PutsText (S.told page.old) (S.told page.new) (told_text holes.now way (Some (standing_of s item.entry))) result }
+        → PutsText (S.told page.old) (S.told page.new) (part_text holes.now way (Some (standing_of s item.entry))) result }
 {
     write_header(way.frames, page)?;
     write_tale(alloc, holes, way, item, machine, page)
@@ -170,7 +170,7 @@ fn write_visited<S: Page>(
         → PutsText (S.told page.old) (S.told page.new) (text_from holes.now way (standing_of s item.entry)) result }
 {
     match seek(alloc, way, Sought::Event, item, machine)? {
-        Some(found) => write_told(alloc, holes, way, found, machine, page),
+        Some(found) => write_part(alloc, holes, way, found, machine, page),
         None => Ok(()),
     }
 }

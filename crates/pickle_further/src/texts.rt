@@ -293,7 +293,7 @@ fn write_kept<S: Page>(
 
 /// Writes what the pickles of the bytes would import and call: a line for each item that does, the last lines, and behind a refused item,
 /// a fault, or an end of which loaders disagree what those may do that go on. Answers the status: 0 where the reading ended with the
-/// bytes, right behind a STOP, else 1. The bytes are what is left of a file without these holes, and the offsets that are told are those in
+/// bytes, right behind a STOP, else 1. The bytes are what is left of a file without these holes, and the offsets that are shown are those in
 /// the file. There are to be no more bytes than the limit.
 ///
 /// `Memory` (M) where memory runs out, `Failed` where the sink fails; what was written then is a beginning of the text.

@@ -3,7 +3,7 @@ use Rattle.std.specs.Prelude.{◌≡◌, ℕ, ◌<◌, List, [], length, slice_g
 use Rattle.pickle_holes.specs.declared.hole.Hole.{Hole}
 use Rattle.pickle_holes.specs.Holes.{most, AreHoles, without, in_file}
 
--- each byte that is left stands in the file at the offset that is told
+-- each byte that is left stands in the file at the offset that is shown
 abbrev pub BytesKeepTheirOffsets : Type 0
 BytesKeepTheirOffsets = (holes : List Hole) (bytes : List ℕ) (place : ℕ) → AreHoles 0 holes → length bytes < most → place < length (without holes bytes)
     → slice_get (without holes bytes) place ≡ slice_get bytes (in_file holes place)

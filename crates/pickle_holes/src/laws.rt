@@ -2,7 +2,7 @@
 
 ghost use Rattle.pickle_holes.specs.Laws.{BytesKeepTheirOffsets, NothingLeftOut};
 
-/// Each byte that is left stands in the file at the offset that is told.
+/// Each byte that is left stands in the file at the offset that is shown.
 pub fn bytes_keep_their_offsets()
     ensures { BytesKeepTheirOffsets }
 {}

@@ -1,5 +1,5 @@
 //! Holes of a file: bytes that are left out, as the raw numbers that stand between opcodes. What is left is read as if it stood alone,
-//! and told with the offsets that it has in the file.
+//! and shown with the offsets that it has in the file.
 #![tactic(auto)]
 
 mod cut;

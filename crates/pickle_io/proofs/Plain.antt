@@ -20,19 +20,19 @@ stands_by b true y z e f g h = absurd cc
 stands_there : (b : ℕ) → stands b ≡ true → quoted_byte b ≡ b ∷ []
 stands_there b h = stands_by b (b == 92) (b == 39) (nat_le 32 b && nat_le b 126) refl refl refl h
 
-abbrev told : ℕ → Bool
-told b = if eqb (get_or PLAIN b 0) 49 then stands b else true
+abbrev agrees : ℕ → Bool
+agrees b = if eqb (get_or PLAIN b 0) 49 then stands b else true
 
-abbrev all_told : ℕ → Bool
-all_told zero = true
-all_told (suc b) = told b && all_told b
+abbrev all_agree : ℕ → Bool
+all_agree zero = true
+all_agree (suc b) = agrees b && all_agree b
 
-told_below : (n b : ℕ) → T (all_told n) → b < n → T (told b)
-told_below zero b t h = absurd (omega arith)
-told_below (suc n) b t h =
+agrees_below : (n b : ℕ) → T (all_agree n) → b < n → T (agrees b)
+agrees_below zero b t h = absurd (omega arith)
+agrees_below (suc n) b t h =
     elim (eq-zero-or-pos (n - b)) [
-      | inl z ↦ let e : b ≡ n = omega arith in rw e (and_l _ (all_told n) t)
-      | inr g ↦ told_below n b (and_r _ (all_told n) t) (omega arith)
+      | inl z ↦ let e : b ≡ n = omega arith in rw e (and_l _ (all_agree n) t)
+      | inr g ↦ agrees_below n b (and_r _ (all_agree n) t) (omega arith)
     ]
 
 is_true : (x : Bool) → T x → x ≡ true
@@ -41,7 +41,7 @@ is_true false t = absurd t
 
 plain_there : (b : ℕ) → b < 256 → get_or PLAIN b 0 ≡ 49 → quoted_byte b ≡ b ∷ []
 plain_there b low h =
-    let t : T (if eqb (get_or PLAIN b 0) 49 then stands b else true) = told_below 256 b tt low in
+    let t : T (if eqb (get_or PLAIN b 0) 49 then stands b else true) = agrees_below 256 b tt low in
     let u : T (if eqb 49 49 then stands b else true) = rw h at t in
     stands_there b (is_true (stands b) u)
 

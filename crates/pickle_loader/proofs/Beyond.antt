@@ -24,7 +24,7 @@ use Rattle.pickle_show.specs.Event.{before_of, event_of}
 use Rattle.pickle_loader.specs.Environment.{Value, Plain, Act, Extension, Call, New, NewEx, Unpickler, World}
 use Rattle.pickle_loader.specs.Unpickler.{Step, Ran, Stopped, Raised, item, get, if_able, can_call, can_call_with, instantiated, load_reduce, load_newobj, load_newobj_ex, load_obj, load_ext, load_readonly_buffer, viewed, viewed_string}
 use Rattle.pickle_loader.specs.Dispatch.{dispatch, load_op}
-use Rattle.pickle_loader.specs.Told.{told_of, acts_told, protocol_after}
+use Rattle.pickle_loader.specs.Listed.{listed_of, acts_listed, protocol_after}
 use Rattle.pickle_loader.specs.Values.{origin, IsFrom, Knows}
 use Rattle.pickle_loader.specs.Laws.{sections, entries, IsSame}
 use Rattle.pickle_loader.specs.Beyond.{HasValue, less_of, StepFollows, MapsNew, WideMovesAreFollowed}
@@ -140,7 +140,7 @@ same_of w V t proto q is knows = record {
   objects = knows;
 }
 
-pub follows_by : (w : World) (V : ℕ → Value) (s t : State) (acts new : List Act) (proto : ℕ) (x : Step) → MapsNew V s t x → Good V w s.heap acts t new proto x → StepFollows w V (told_of acts ++ new) proto t x
+pub follows_by : (w : World) (V : ℕ → Value) (s t : State) (acts new : List Act) (proto : ℕ) (x : Step) → MapsNew V s t x → Good V w s.heap acts t new proto x → StepFollows w V (listed_of acts ++ new) proto t x
 follows_by w V s t acts new proto (Ran q) maps good =
     let all = good maps in
     (same_of w V t proto q all.0 all.1, all.2, ap (λ (x : Unpickler). x.proto) all.0)
@@ -153,9 +153,9 @@ wide_moves_are_followed w V s t u o place value running same moved maps =
     let now : fresh s ≡ s = fresh_same s running in
     let step : outcome (refusal_of (less_of o s) s) (next_of (less_of o s) (kind_of o) place s) ≡ Ok t = subst (λ (f : State). outcome (refusal_of (less_of o s) f) (next_of (less_of o s) (kind_of o) place f) ≡ Ok t) now moved in
     let both = has_moved (refusal_of (less_of o s) s) (next_of (less_of o s) (kind_of o) place s) t step in
-    let good : Good V w s.heap u.acts t (acts_told V u.proto s t (event_of (less_of o s) (before_of s) t)) (protocol_after o.opcode o.arg u.proto) (load_op w o (image V s u.proto u.acts)) =
-    subst (λ (t : State). Good V w s.heap u.acts t (acts_told V u.proto s t (event_of (less_of o s) (before_of s) t)) (protocol_after o.opcode o.arg u.proto) (load_op w o (image V s u.proto u.acts))) both.1
+    let good : Good V w s.heap u.acts t (acts_listed V u.proto s t (event_of (less_of o s) (before_of s) t)) (protocol_after o.opcode o.arg u.proto) (load_op w o (image V s u.proto u.acts)) =
+    subst (λ (t : State). Good V w s.heap u.acts t (acts_listed V u.proto s t (event_of (less_of o s) (before_of s) t)) (protocol_after o.opcode o.arg u.proto) (load_op w o (image V s u.proto u.acts))) both.1
     (op_good h o (w.fails (unpickler h) o) value both.0) in
     let is : u ≡ image V s u.proto u.acts = same_image w V s u same in
-    follows_by w V s t u.acts (acts_told V u.proto s t (event_of (less_of o s) (before_of s) t)) (protocol_after o.opcode o.arg u.proto) (load_op w o u) maps
-    (subst (λ (x : Unpickler). Good V w s.heap u.acts t (acts_told V u.proto s t (event_of (less_of o s) (before_of s) t)) (protocol_after o.opcode o.arg u.proto) (load_op w o x)) (sym is) good)
+    follows_by w V s t u.acts (acts_listed V u.proto s t (event_of (less_of o s) (before_of s) t)) (protocol_after o.opcode o.arg u.proto) (load_op w o u) maps
+    (subst (λ (x : Unpickler). Good V w s.heap u.acts t (acts_listed V u.proto s t (event_of (less_of o s) (before_of s) t)) (protocol_after o.opcode o.arg u.proto) (load_op w o x)) (sym is) good)

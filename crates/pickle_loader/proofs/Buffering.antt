@@ -29,7 +29,7 @@ use Rattle.pickle_loader.proofs.CutLines.{some_size}
 use Rattle.pickle_loader.proofs.Cuts.{drop_zero}
 use Rattle.pickle_loader.proofs.Fetching.{InFrame, reads}
 use Rattle.pickle_loader.proofs.Items.{own_dispatch}
-use Rattle.pickle_loader.proofs.Plain.{IsOf, Itself, Keyed, IsSilent, IsTold, Takes, Ends, Fails, IsRead, is_read, at_whole, plainly, file_behind, cut_ends, whole_front}
+use Rattle.pickle_loader.proofs.Plain.{IsOf, Itself, Keyed, IsSilent, IsCovered, Takes, Ends, Fails, IsRead, is_read, at_whole, plainly, file_behind, cut_ends, whole_front}
 use Rattle.pickle_loader.proofs.Unframing.{frames_only_end}
 
 -- ---- what is taken
@@ -216,12 +216,12 @@ across_by left bytes some is ends all =
     ∙ ap (λ (l : List ℕ). across true bytes 0 (lenient l)) (take-append-drop left bytes)
 
 -- of a file, or behind what was read of a frame
-across_told : (r mid after : Reader) (o : Operation) (rest : List ℕ) → taken frames.Buffered (frame_left r.frame) (all_left r) ≡ across true (all_left r) 0 (lenient (all_left r)) → IsTold (all_left r) o rest
+across_covered : (r mid after : Reader) (o : Operation) (rest : List ℕ) → taken frames.Buffered (frame_left r.frame) (all_left r) ≡ across true (all_left r) 0 (lenient (all_left r)) → IsCovered (all_left r) o rest
     → frame_left mid.frame ≡ 0 → all_left mid ≡ rest → all_left after ≡ rest → behind o.opcode o.arg mid ≡ Some after → IsTaken frames.Buffered r o after
-across_told r mid after o rest is (Takes l takes of size more) none left all e =
+across_covered r mid after o rest is (Takes l takes of size more) none left all e =
     buffer_reads r mid after o 0 l (is ∙ ap (across true (all_left r) 0) takes) of (record { kept = none; rest = left ∙ sym more; within = size }) e
-across_told r mid after o rest is (Ends ends more runs silent) none left all e = Last (all ∙ more) silent
-across_told r mid after o rest is (Fails fails) none left all e = Never fails
+across_covered r mid after o rest is (Ends ends more runs silent) none left all e = Last (all ∙ more) silent
+across_covered r mid after o rest is (Fails fails) none left all e = Never fails
 
 -- no frame, or one at its end
 file_taken : (r after : Reader) (o : Operation) → frame_bytes r.frame ≡ [] → fetch (opened r.file) ≡ Fetch o after → IsTaken frames.Buffered r o after
@@ -229,9 +229,9 @@ file_taken r after o none e =
     let left : frame_left r.frame ≡ 0 = no_bytes r.frame none in
     let all : all_left r ≡ r.file = ap (λ (l : List ℕ). l ++ r.file) none in
     let p = plainly r.file o after e in
-    across_told r (opened p.rest) after o p.rest
+    across_covered r (opened p.rest) after o p.rest
     (across_by (frame_left r.frame) (all_left r) [] (ap (λ (n : ℕ). take n (all_left r)) left ∙ take_zero (all_left r)) refl refl)
-    (subst (λ (l : List ℕ). IsTold l o p.rest) (sym all) p.told) refl refl (file_behind o.opcode o.arg p.rest after p.moved) p.moved
+    (subst (λ (l : List ℕ). IsCovered l o p.rest) (sym all) p.covered) refl refl (file_behind o.opcode o.arg p.rest after p.moved) p.moved
   where
     no_bytes : (frame : Option (List ℕ)) → frame_bytes frame ≡ [] → frame_left frame ≡ 0
     no_bytes None f = refl
@@ -242,9 +242,9 @@ file_taken r after o none e =
     take_zero (x ∷ xs) = refl
 
 -- a frame in which it ends
-within_told : (c : Opcode) (rest file : List ℕ) (n : ℕ) (o : Operation) (after : Reader) → arg_size (form_of c) rest ≡ Some n → IsTold (code_of c ∷ rest) o (drop n rest)
+within_covered : (c : Opcode) (rest file : List ℕ) (n : ℕ) (o : Operation) (after : Reader) → arg_size (form_of c) rest ≡ Some n → IsCovered (code_of c ∷ rest) o (drop n rest)
     → behind o.opcode o.arg (record { frame = Some (drop n rest); file = file }) ≡ Some after → IsTaken frames.Buffered (record { frame = Some (code_of c ∷ rest); file = file }) o after
-within_told c rest file n o after size (Takes l takes of within_size more) e =
+within_covered c rest file n o after size (Takes l takes of within_size more) e =
     let some : List ℕ = code_of c ∷ rest in
     let front : take (length some) (some ++ file) ≡ some = take-append_seam some file in
     let left : length some - l.size ≡ length (drop n rest) = sym (length-drop l.size some) ∙ ap length more in
@@ -257,9 +257,9 @@ within_told c rest file n o after size (Takes l takes of within_size more) e =
       rest = ap (λ (x : List ℕ). x ++ file) (sym more) ∙ sym (drop-append-le l.size some file within_size);
       within = omega (arith, within_size, length-append some file);
     }) e
-within_told c rest file n o after size (Ends ends more runs silent) e =
+within_covered c rest file n o after size (Ends ends more runs silent) e =
     let two : false ≡ true = sym ends ∙ ap ends_in (whole_front c rest n size) in absurd cc
-within_told c rest file n o after size (Fails fails) e = Never fails
+within_covered c rest file n o after size (Fails fails) e = Never fails
 
 -- a frame that it leaves
 first_all : (c : Opcode) (rest : List ℕ) → form_read (form_of c) rest ≡ length rest → first_read (code_of c ∷ rest) ≡ length (code_of c ∷ rest)
@@ -292,9 +292,9 @@ across_taken c rest file o after fetches none it =
     let left : all_left after ≡ p.rest = sym (flat.2 run) ∙ file_behind o.opcode o.arg p.rest flat.0 p.moved in
     let here : all_left mid ≡ mid.file = ap all_left (outside mid crossed.1) in
     let there : all_left after ≡ mid.file = file_behind o.opcode o.arg mid.file after (ap (behind o.opcode o.arg) (sym (outside mid crossed.1)) ∙ moved) in
-    across_told r mid after o p.rest
+    across_covered r mid after o p.rest
     (across_by (length some) (some ++ file) some (take-append_seam some file) (cut_ends c rest none) (first_all c rest crossed.0))
-    p.told (ap frame_left crossed.1) (here ∙ sym there ∙ left) left moved
+    p.covered (ap frame_left crossed.1) (here ∙ sym there ∙ left) left moved
 
 frame_taken : (code : ℕ) (rest file : List ℕ) (o : Operation) (after : Reader) → fetch (record { frame = Some (code ∷ rest); file = file }) ≡ Fetch o after → IsTaken frames.Buffered (record { frame = Some (code ∷ rest); file = file }) o after
 frame_taken code rest file o after e = by_code (opcode_of code) refl
@@ -305,7 +305,7 @@ frame_taken code rest file o after e = by_code (opcode_of code) refl
     by_size : (c : Opcode) (x : Option ℕ) → code_of c ≡ code → opcode_of code ≡ Some c → arg_size (form_of c) rest ≡ x → IsTaken frames.Buffered (record { frame = Some (code ∷ rest); file = file }) o after
     by_size c (Some n) coded is size =
         let w = at_whole (InFrame file) c rest n o after size (ap (λ (y : Option Opcode). with_code y (record { frame = Some rest; file = file })) (sym is) ∙ sym fetched_code ∙ e) in
-        subst (λ (b : ℕ). IsTaken frames.Buffered (record { frame = Some (b ∷ rest); file = file }) o after) coded (within_told c rest file n o after size w.told w.moved)
+        subst (λ (b : ℕ). IsTaken frames.Buffered (record { frame = Some (b ∷ rest); file = file }) o after) coded (within_covered c rest file n o after size w.covered w.moved)
     by_size c None coded is size =
         let it = is_read c (read_arg (form_of c) (record { frame = Some rest; file = file })) o after (ap (λ (y : Option Opcode). with_code y (record { frame = Some rest; file = file })) (sym is) ∙ sym fetched_code ∙ e) in
         subst (λ (b : ℕ). IsTaken frames.Buffered (record { frame = Some (b ∷ rest); file = file }) o after) coded
@@ -322,7 +322,7 @@ buffer_taken (Some (code ∷ rest)) file o after e = frame_taken code rest file 
 
 -- ---- with frames ignored
 
-plain_taken : (r after more : Reader) (o : Operation) (rest : List ℕ) → IsTold (all_left r) o rest → all_left more ≡ rest → (is_stop o.opcode ≡ false → all_left more ≡ all_left after) → IsTaken frames.Ignored r o after
+plain_taken : (r after more : Reader) (o : Operation) (rest : List ℕ) → IsCovered (all_left r) o rest → all_left more ≡ rest → (is_stop o.opcode ≡ false → all_left more ≡ all_left after) → IsTaken frames.Ignored r o after
 unfolding taken
 plain_taken r after more o rest (Takes l takes of size next) left stop =
     Reads (taken_as 0 0 l) (ap plain takes) (loads_item o (taken_as 0 0 l) (taken_as 0 0 l) refl refl of) (λ runs. none_more l (all_left r) ∙ next ∙ sym left ∙ stop runs)
@@ -333,7 +333,7 @@ ignored_taken : (r after : Reader) (o : Operation) → fetch r ≡ Fetch o after
 ignored_taken r after o e =
     let flat = frames_only_end r after o e in
     let p = plainly (all_left r) o flat.0 flat.1 in
-    plain_taken r after flat.0 o p.rest p.told (file_behind o.opcode o.arg p.rest flat.0 p.moved) flat.2
+    plain_taken r after flat.0 o p.rest p.covered (file_behind o.opcode o.arg p.rest flat.0 p.moved) flat.2
 
 pub are_taken : (f : Frames) (r : Reader) (o : Operation) (after : Reader) → (f ≡ frames.Held → ⊥) → fetch r ≡ Fetch o after → IsTaken f r o after
 are_taken frames.Ignored r o after not_held e = ignored_taken r after o e

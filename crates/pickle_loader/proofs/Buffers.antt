@@ -23,7 +23,7 @@ use Rattle.pickle_further.specs.declared.way.Way.{Way}
 use Rattle.pickle_further.specs.Going.{Standing, Going as Gone, used_op, moved_so, gone_to, gone_by, going, stands_after}
 use Rattle.pickle_further.specs.Parts.{ignoring, standing_first}
 use Rattle.pickle_loader.specs.Environment.{Value, Act}
-use Rattle.pickle_loader.specs.Told.{protocol_after}
+use Rattle.pickle_loader.specs.Listed.{protocol_after}
 use Rattle.pickle_loader.specs.Onward.{stands_behind, stands_on, stands, protocol_read, protocol_on, protocol, acts_gone, acts_on, acts_before, unbuffered, NoneLost, BufferedIsRead}
 
 -- ---- what is taken where nothing is lost

@@ -1,4 +1,4 @@
--- Along the bytes of a file, what is told of the unpickler in Python with its frames is a beginning of what the lines tell.
+-- Along the bytes of a file, what is listed of the unpickler in Python with its frames is a beginning of what the lines list.
 use Rattle.std.proofs.Common.{◌≡◌, ◌⊎◌, ℕ, zero, suc, Bool, true, false, List, [], ◌∷◌, ◌++◌, length, take, drop, ◌-◌, Option, Some, None, Ok, refl, sym, ap, subst, ◌∙◌, inl, inr}
 use Rattle.std.specs.Prelude.{nat_le, if◌then◌else◌, Result}
 use Rattle.std.proofs.lemmas.List.{append_assoc}
@@ -22,7 +22,7 @@ use Rattle.pickle_loader.specs.Environment.{Value, Act, Unpickler, World}
 use Rattle.pickle_loader.specs.Unpickler.{Step, Ran, Stopped, Raised, item}
 use Rattle.pickle_loader.specs.Dispatch.{dispatch, Loaded, Going, Ended, Failed, loaded, acts_of, load_op, load_item}
 use Rattle.pickle_loader.specs.Reader.{Reader, Fetched, Fetch, NoFetch, fetch, all_left, frame_left, frame_bytes}
-use Rattle.pickle_loader.specs.Told.{told_of}
+use Rattle.pickle_loader.specs.Listed.{listed_of}
 use Rattle.pickle_loader.specs.Laws.{Holds}
 use Rattle.pickle_loader.specs.Onward.{load_taken, dispatch_as, Onward, again, reads_on, load_more, load_read, load_on, load_way, stands, state_behind, protocol, acts_on, acts_before, begins_anew}
 use Rattle.pickle_loader.specs.Bytes.{Loading, goes_on, load_fetched, load_next, load_bytes}
@@ -88,13 +88,13 @@ IsLevel frames.Ignored y r = y.rest ≡ all_left r
 IsLevel frames.Buffered y r = (y.rest ≡ all_left r) × (y.left ≡ frame_left r.frame)
 IsLevel frames.Held y r = ⊥
 
--- both loaded the same; or the unpickler told a beginning and does nothing more
+-- both loaded the same; or the unpickler did a beginning and does nothing more
 data IsBeside (acts : List Act) (p : Pickles) (f : Frames) (x : Loading) (y : Onward) : Type 0 where
   Level : x.now ≡ y.now → (reads_on p x.now ≡ true → IsLevel f y x.reader) → IsBeside acts p f x y
   Over : Begins acts x.now → (Raises x.now) ⊎ (all_left x.reader ≡ []) → IsBeside acts p f x y
 
 longer : (acts more : List Act) (l : Loaded) → Begins acts l → Begins (acts ++ more) l
-longer acts more l b = (b.0 ++ more, sym (append_assoc (told_of (acts_of l)) b.0 more) ∙ ap (λ (a : List Act). a ++ more) b.1)
+longer acts more l b = (b.0 ++ more, sym (append_assoc (listed_of (acts_of l)) b.0 more) ∙ ap (λ (a : List Act). a ++ more) b.1)
 
 -- ---- where nothing is left
 
@@ -138,7 +138,7 @@ reader_of p (Going u) e = (u, record { once = λ w o. refl; more = λ w item. re
 reader_of p (Ended v u) e = (again p u, record { once = λ w o. refl; more = λ w item. refl; acts = again_acts p u })
 reader_of p (Failed acts) e = absurd cc
 
--- it told nothing
+-- nothing of it is listed
 quiet_begins : (acts : List Act) (u : Unpickler) (x : Step) → Begins acts (Going u) → IsQuiet u x → Begins acts (loaded x)
 quiet_begins acts u (Ran q) b quiet = (b.0, ap (λ (l : List Act). l ++ b.0) quiet ∙ b.1)
 quiet_begins acts u (Stopped v q) b quiet = absurd quiet
@@ -215,7 +215,7 @@ fetched_next w acts p f x y (Fetch o after) is tells reads same level begins =
     let u : Unpickler = t.0 in
     let all = level_taken f y x.reader level in
     let z : Result Taken FrontFault = taken f y.left y.rest in
-    let here : Begins acts (Going u) = subst (λ (l : List Act). (rest : List Act) × (told_of l ++ rest ≡ acts)) t.1.acts begins in
+    let here : Begins acts (Going u) = subst (λ (l : List Act). (rest : List Act) × (listed_of l ++ rest ≡ acts)) t.1.acts begins in
     subst (λ (l : Loaded). IsBeside acts p f (record { now = l; reader = after }) (load_read (never_fails w) p y z)) (sym (t.1.once w o))
     (op_next w acts p f o after u (load_read (never_fails w) p y z) (w.fails u o) here
     (go_next w acts p f o x.reader after u y z tells all.0 refl here (λ item e. now_is u t.1 item z e) (are_taken f x.reader o after (not_held p f tells) is) (λ item e. all.1 ∙ e)))
@@ -252,9 +252,9 @@ beside w p f bytes V tells begins (suc n) =
     beside_next w (acts_before V (way_of p f) (standing_first detail.Cut p bytes) n)
     (acts_on V (way_of p f) (protocol (way_of p f) (standing_first detail.Cut p bytes) n) (stands (way_of p f) (standing_first detail.Cut p bytes) n)) p f (load_framed w p bytes n) (load_way (never_fails w) (way_of p f) bytes n) tells (begins n) (beside w p f bytes V tells begins n)
 
-told_beside : (acts : List Act) (p : Pickles) (f : Frames) (x : Loading) (y : Onward) → Begins acts y.now → IsBeside acts p f x y → Begins acts x.now
-told_beside acts p f x y begins (Level same level) = subst (λ (l : Loaded). Begins acts l) (sym same) begins
-told_beside acts p f x y begins (Over b over) = b
+listed_beside : (acts : List Act) (p : Pickles) (f : Frames) (x : Loading) (y : Onward) → Begins acts y.now → IsBeside acts p f x y → Begins acts x.now
+listed_beside acts p f x y begins (Level same level) = subst (λ (l : Loaded). Begins acts l) (sym same) begins
+listed_beside acts p f x y begins (Over b over) = b
 
 -- as long as bytes are left, what the lines say of the one it says of the other
 left_is : (bytes : List ℕ) (x : Option State) (s : State) → state_left bytes x ≡ Some s → x ≡ Some s
@@ -278,7 +278,7 @@ nothing_beyond_by_frames w p f bytes tells =
     let first : Standing = standing_first detail.Cut p bytes in (
       V,
       record {
-        acts = λ n. told_beside (acts_before V (way_of p f) first n) p f (load_framed w p bytes n) (load_way (never_fails w) (way_of p f) bytes n) (all.1.acts n) (beside w p f bytes V tells all.1.acts n);
+        acts = λ n. listed_beside (acts_before V (way_of p f) first n) p f (load_framed w p bytes n) (load_way (never_fails w) (way_of p f) bytes n) (all.1.acts n) (beside w p f bytes V tells all.1.acts n);
         values = λ n s e.
             holds_beside w V (acts_before V (way_of p f) first n) p f (load_framed w p bytes n) (load_way (never_fails w) (way_of p f) bytes n) (state_behind (way_of p f) first n) s (beside w p f bytes V tells all.1.acts n) e
             (all.1.values n s (left_is (all_left (load_framed w p bytes n).reader) (state_behind (way_of p f) first n) s e));
@@ -295,12 +295,12 @@ nothing_else_by_frames how w bytes o e status =
     let none = no_loss how bytes o e status in (
       V,
       record {
-        acts = λ n. tells_all V how frames.Buffered bytes n (told_of (acts_of (load_framed w pickles.OneMemo bytes n).now)) none
-            (told_beside (acts_before V way first n) pickles.OneMemo frames.Buffered (load_framed w pickles.OneMemo bytes n) (load_way (never_fails w) way bytes n) (all.told.acts n)
-            (beside w pickles.OneMemo frames.Buffered bytes V refl all.told.acts n));
+        acts = λ n. tells_all V how frames.Buffered bytes n (listed_of (acts_of (load_framed w pickles.OneMemo bytes n).now)) none
+            (listed_beside (acts_before V way first n) pickles.OneMemo frames.Buffered (load_framed w pickles.OneMemo bytes n) (load_way (never_fails w) way bytes n) (all.listed.acts n)
+            (beside w pickles.OneMemo frames.Buffered bytes V refl all.listed.acts n));
         values = λ n s is.
             holds_beside w V (acts_before V way first n) pickles.OneMemo frames.Buffered (load_framed w pickles.OneMemo bytes n) (load_way (never_fails w) way bytes n) (state_behind (ignoring pickles.OneMemo) said n) s
-            (beside w pickles.OneMemo frames.Buffered bytes V refl all.told.acts n) is
+            (beside w pickles.OneMemo frames.Buffered bytes V refl all.listed.acts n) is
             (memo_holds how.detail (never_fails w) frames.Buffered bytes all n s (nothing_lost how.detail bytes none frames.Buffered n)
             (left_is (all_left (load_framed w pickles.OneMemo bytes n).reader) (state_behind (ignoring pickles.OneMemo) said n) s is));
       },

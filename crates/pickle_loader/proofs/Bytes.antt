@@ -27,7 +27,7 @@ use Rattle.pickle_loader.specs.Environment.{Value, Act, Unpickler, World}
 use Rattle.pickle_loader.specs.Unpickler.{Step, Ran, Stopped, Raised}
 use Rattle.pickle_loader.specs.Dispatch.{Loaded, Going, Ended, Failed, loaded, acts_of, load_op, dispatch, load_item, load}
 use Rattle.pickle_loader.specs.Reader.{Fetched, NoFetch, fetch, frame_left, Fetches, opened, StopsEndFrames}
-use Rattle.pickle_loader.specs.Told.{told_of, told_at, told}
+use Rattle.pickle_loader.specs.Listed.{listed_of, listed_at, listed}
 use Rattle.pickle_loader.specs.Laws.{Follows, Holds}
 use Rattle.pickle_loader.specs.Bytes.{Loading, goes_on, load_fetched, load_next, load_bytes, BytesAreListed, NothingElse}
 use Rattle.pickle_loader.proofs.Still.{move_to}
@@ -133,41 +133,41 @@ fetches_all many bytes d r =
 
 same_load : (w : World) (many : Bool) (bytes : List ℕ) (d : Contents) (n : ℕ) → ReadsAs many bytes d → length bytes < 2 ^ 64 → n ≤ length (ops_of d) → n ≤ (calls_end d).place → (load_bytes w many bytes n).now ≡ load w many (ops_of d) n
 unfolding load_bytes load
-same_load w many bytes d zero reads small within listed = refl
-same_load w many bytes d (suc m) reads small within listed =
+same_load w many bytes d zero reads small within reached = refl
+same_load w many bytes d (suc m) reads small within reached =
     let less : length (document_bytes d) < 2 ^ 64 = subst (λ (l : List ℕ). length l < 2 ^ 64) (sym reads.whole) small in
     let all : suc m + 0 ≡ suc m = omega arith in
     let first : FetchesFor (suc m + 0) (opened bytes) (ops_of d) =
     subst (λ (k : ℕ). FetchesFor k (opened bytes) (ops_of d)) (sym all)
-    (subst (λ (l : List ℕ). FetchesFor (suc m) (opened l) (ops_of d)) reads.whole (fetched_for d m reads.document.formed reads.framing less (none_listed d m listed))) in
+    (subst (λ (l : List ℕ). FetchesFor (suc m) (opened l) (ops_of d)) reads.whole (fetched_for d m reads.document.formed reads.framing less (none_listed d m reached))) in
     (along_for w many bytes (ops_of d) (suc m) 0 first within).same
 
 pub bytes_are_listed : BytesAreListed
 bytes_are_listed w many bytes d reads small =
     let law = loads_are_listed w d reads.document.formed in
-    let listed : (n : ℕ) (s : State) → run (start many) (ops_of d) n ≡ Some s → Follows w law.0 (told law.0 many (ops_of d) n) s (load w many (ops_of d) n) =
-    subst (λ (b : Bool). (n : ℕ) (s : State) → run (start b) (ops_of d) n ≡ Some s → Follows w law.0 (told law.0 b (ops_of d) n) s (load w b (ops_of d) n)) reads.mode law.1 in (
+    let follows : (n : ℕ) (s : State) → run (start many) (ops_of d) n ≡ Some s → Follows w law.0 (listed law.0 many (ops_of d) n) s (load w many (ops_of d) n) =
+    subst (λ (b : Bool). (n : ℕ) (s : State) → run (start b) (ops_of d) n ≡ Some s → Follows w law.0 (listed law.0 b (ops_of d) n) s (load w b (ops_of d) n)) reads.mode law.1 in (
       law.0,
-      λ n s e h. subst (λ (l : Loaded). Follows w law.0 (told law.0 many (ops_of d) n) s l)
-          (sym (same_load w many bytes d n reads small (run_within (start many) (ops_of d) n s e) h)) (listed n s e),
+      λ n s e h. subst (λ (l : Loaded). Follows w law.0 (listed law.0 many (ops_of d) n) s l)
+          (sym (same_load w many bytes d n reads small (run_within (start many) (ops_of d) n s e) h)) (follows n s e),
     )
 
 -- ---- nothing else
 
--- told is a beginning of what is told later
-pub told_more : (V : ℕ → Value) (many : Bool) (ops : List Operation) (n m : ℕ) → m ≤ n → (rest : List Act) × (told V many ops n ≡ told V many ops m ++ rest)
-unfolding told
-told_more V many ops zero m h = let none : 0 ≡ m = omega (arith, h) in ([], ap (told V many ops) none ∙ sym (append-nil (told V many ops m)))
-told_more V many ops (suc n) m h = elim (cases_lt m (suc n)) [
+-- what is listed is a beginning of what is listed later
+pub listed_more : (V : ℕ → Value) (many : Bool) (ops : List Operation) (n m : ℕ) → m ≤ n → (rest : List Act) × (listed V many ops n ≡ listed V many ops m ++ rest)
+unfolding listed
+listed_more V many ops zero m h = let none : 0 ≡ m = omega (arith, h) in ([], ap (listed V many ops) none ∙ sym (append-nil (listed V many ops m)))
+listed_more V many ops (suc n) m h = elim (cases_lt m (suc n)) [
   | inl less ↦
-      let before = told_more V many ops n m (omega (arith, less)) in
-      (before.0 ++ told_at V many ops n, ap (λ (l : List Act). l ++ told_at V many ops n) before.1 ∙ append_assoc (told V many ops m) before.0 (told_at V many ops n))
-  | inr far ↦ let same : suc n ≡ m = omega (arith, h, far) in ([], ap (told V many ops) same ∙ sym (append-nil (told V many ops m)))
+      let before = listed_more V many ops n m (omega (arith, less)) in
+      (before.0 ++ listed_at V many ops n, ap (λ (l : List Act). l ++ listed_at V many ops n) before.1 ∙ append_assoc (listed V many ops m) before.0 (listed_at V many ops n))
+  | inr far ↦ let same : suc n ≡ m = omega (arith, h, far) in ([], ap (listed V many ops) same ∙ sym (append-nil (listed V many ops m)))
 ]
 
-front_of : (w : World) (V : ℕ → Value) (acts : List Act) (s : State) (l : Loaded) → Follows w V acts s l → (rest : List Act) × (told_of (acts_of l) ++ rest ≡ acts)
-front_of w V acts s (Going u) f = ([], append-nil (told_of u.acts) ∙ f.1)
-front_of w V acts s (Ended v u) f = ([], append-nil (told_of u.acts) ∙ f.1)
+front_of : (w : World) (V : ℕ → Value) (acts : List Act) (s : State) (l : Loaded) → Follows w V acts s l → (rest : List Act) × (listed_of (acts_of l) ++ rest ≡ acts)
+front_of w V acts s (Going u) f = ([], append-nil (listed_of u.acts) ∙ f.1)
+front_of w V acts s (Ended v u) f = ([], append-nil (listed_of u.acts) ∙ f.1)
 front_of w V acts s (Failed done) f = f
 
 holds_of : (w : World) (V : ℕ → Value) (acts : List Act) (s : State) (l : Loaded) → Follows w V acts s l → Holds w V s l
@@ -341,17 +341,17 @@ nothing_else how w many bytes d reads small status =
           | inl less ↦
               let before = run_before (start many) (ops_of d) (length (ops_of d)) n far.state last (omega (arith, less)) in
               let front = front_of w law.0 _ before.0 (load_bytes w many bytes n).now (law.1 n before.0 before.1 (omega (arith, less, place))) in
-              let more = told_more law.0 many (ops_of d) (length (ops_of d)) n (omega (arith, less)) in
-              let done : List Act = told_of (acts_of (load_bytes w many bytes n).now) in
-              (front.0 ++ more.0, joined done front.0 more.0 (told law.0 many (ops_of d) n) (told law.0 many (ops_of d) (length (ops_of d))) front.1 more.1)
+              let more = listed_more law.0 many (ops_of d) (length (ops_of d)) n (omega (arith, less)) in
+              let done : List Act = listed_of (acts_of (load_bytes w many bytes n).now) in
+              (front.0 ++ more.0, joined done front.0 more.0 (listed law.0 many (ops_of d) n) (listed law.0 many (ops_of d) (length (ops_of d))) front.1 more.1)
           | inr far_off ↦
               let front = front_of w law.0 _ far.state (load_bytes w many bytes (length (ops_of d))).now (law.1 (length (ops_of d)) far.state last (omega (arith, place))) in
               let place : n ≡ length (ops_of d) + (n - length (ops_of d)) = omega (arith, far_off) in
               let same : acts_of (load_bytes w many bytes n).now ≡ acts_of (load_bytes w many bytes (length (ops_of d))).now =
               ap (λ (m : ℕ). acts_of (load_bytes w many bytes m).now) place ∙ all_over w many bytes d (n - length (ops_of d)) r stopped in
-              (front.0, ap (λ (l : List Act). told_of l ++ front.0) same ∙ front.1)
+              (front.0, ap (λ (l : List Act). listed_of l ++ front.0) same ∙ front.1)
         ];
         values = λ n s e.
-            holds_of w law.0 (told law.0 many (ops_of d) n) s (load_bytes w many bytes n).now (law.1 n s e (omega (arith, place, run_within (start many) (ops_of d) n s e)));
+            holds_of w law.0 (listed law.0 many (ops_of d) n) s (load_bytes w many bytes n).now (law.1 n s e (omega (arith, place, run_within (start many) (ops_of d) n s e)));
       },
     )

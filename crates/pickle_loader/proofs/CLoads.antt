@@ -25,8 +25,8 @@ use Rattle.pickle_machine.specs.Run.{run}
 use Rattle.pickle_loader.specs.Environment.{Value, Act, World}
 use Rattle.pickle_loader.specs.Unpickler.{Step, Raised}
 use Rattle.pickle_loader.specs.Dispatch.{Loaded, loaded, acts_of}
-use Rattle.pickle_loader.specs.Told.{told_of, told}
-use Rattle.pickle_loader.specs.Laws.{Holds, IsTold}
+use Rattle.pickle_loader.specs.Listed.{listed_of, listed}
+use Rattle.pickle_loader.specs.Laws.{Holds, AreListed}
 use Rattle.pickle_loader.specs.Beyond.{HasValue}
 use Rattle.pickle_loader.specs.Onward as onward
 use Rattle.pickle_loader.specs.Onward.{Onward, reads_on, load_more, load_read, load_on, load_way, state_behind, acts_before}
@@ -37,7 +37,7 @@ use Rattle.pickle_loader.proofs.Items.{IsItem, Itself, Gets, Puts, are_items}
 use Rattle.pickle_loader.proofs.Environments.{holds_same}
 use Rattle.pickle_loader.proofs.Ways.{nothing_beyond}
 use Rattle.pickle_loader.proofs.Bytes.{joined}
-use Rattle.pickle_loader.proofs.Ends.{through, read_is_told}
+use Rattle.pickle_loader.proofs.Ends.{through, read_is_listed}
 use Rattle.pickle_loader.proofs.Streamed.{streamed}
 use Rattle.pickle_loader.proofs.Reached.{reached_behind, streamed_behind}
 
@@ -131,31 +131,31 @@ ways_same w way bytes (suc n) = on_same w way (c_load_way w way bytes n) (load_w
 pub one_load : OneLoad
 one_load w way bytes n = (ways_same w way bytes n).is
 
--- ---- what is told
+-- ---- what is listed
 
--- what is told of the one in Python is told of the one in C
-pub told_in_c : (w : World) (way : Way) (bytes : List ℕ) (V : ℕ → Value) (lines : ℕ → List Act) (state : ℕ → Option State) → IsTold (as_in_c w) V lines state (λ n. (load_way (as_in_c w) way bytes n).now)
-    → IsTold w V lines state (λ n. seen_loaded (c_load_way w way bytes n).now)
-told_in_c w way bytes V lines state told = record {
-  acts = λ n. subst (λ (x : Onward). (rest : List Act) × (told_of (acts_of x.now) ++ rest ≡ lines n)) (sym (one_load w way bytes n)) (told.acts n);
-  values = λ n s e. holds_same (as_in_c w) w V s (seen_loaded (c_load_way w way bytes n).now) refl (subst (λ (x : Onward). Holds (as_in_c w) V s x.now) (sym (one_load w way bytes n)) (told.values n s e));
+-- what is listed of the one in Python is listed of the one in C
+pub listed_in_c : (w : World) (way : Way) (bytes : List ℕ) (V : ℕ → Value) (lines : ℕ → List Act) (state : ℕ → Option State) → AreListed (as_in_c w) V lines state (λ n. (load_way (as_in_c w) way bytes n).now)
+    → AreListed w V lines state (λ n. seen_loaded (c_load_way w way bytes n).now)
+listed_in_c w way bytes V lines state listed = record {
+  acts = λ n. subst (λ (x : Onward). (rest : List Act) × (listed_of (acts_of x.now) ++ rest ≡ lines n)) (sym (one_load w way bytes n)) (listed.acts n);
+  values = λ n s e. holds_same (as_in_c w) w V s (seen_loaded (c_load_way w way bytes n).now) refl (subst (λ (x : Onward). Holds (as_in_c w) V s x.now) (sym (one_load w way bytes n)) (listed.values n s e));
 }
 
 -- by other lines, of which the first are a beginning, and states that are among those
-told_by : (w : World) (V : ℕ → Value) (lines all : ℕ → List Act) (from to : ℕ → Option State) (loads : ℕ → Loaded) → IsTold w V lines from loads → ((n : ℕ) → (rest : List Act) × (lines n ++ rest ≡ all n)) → ((n : ℕ) (s : State) → to n ≡ Some s → from n ≡ Some s)
-    → IsTold w V all to loads
-told_by w V lines all from to loads told more same = record {
+listed_by : (w : World) (V : ℕ → Value) (lines all : ℕ → List Act) (from to : ℕ → Option State) (loads : ℕ → Loaded) → AreListed w V lines from loads → ((n : ℕ) → (rest : List Act) × (lines n ++ rest ≡ all n)) → ((n : ℕ) (s : State) → to n ≡ Some s → from n ≡ Some s)
+    → AreListed w V all to loads
+listed_by w V lines all from to loads listed more same = record {
   acts = λ n.
-      let front = told.acts n in
+      let front = listed.acts n in
       let behind = more n in
-      (front.0 ++ behind.0, joined (told_of (acts_of (loads n))) front.0 behind.0 (lines n) (all n) front.1 (sym behind.1));
-  values = λ n s e. told.values n s (same n s e);
+      (front.0 ++ behind.0, joined (listed_of (acts_of (loads n))) front.0 behind.0 (lines n) (all n) front.1 (sym behind.1));
+  values = λ n s e. listed.values n s (same n s e);
 }
 
 pub nothing_beyond_in_c : NothingBeyondInC
 nothing_beyond_in_c w way bytes =
     let all = nothing_beyond (as_in_c w) way bytes in
-    (all.0, told_in_c w way bytes all.0 (acts_before all.0 way (standing_first detail.Cut way.pickles bytes)) (state_behind way (standing_first detail.Cut way.pickles bytes)) all.1)
+    (all.0, listed_in_c w way bytes all.0 (acts_before all.0 way (standing_first detail.Cut way.pickles bytes)) (state_behind way (standing_first detail.Cut way.pickles bytes)) all.1)
 
 pub nothing_else_in_c : NothingElseInC
 nothing_else_in_c how w p bytes d anew reads small status =
@@ -164,9 +164,9 @@ nothing_else_in_c how w p bytes d anew reads small status =
     let first : Standing = standing_first detail.Cut p bytes in
     let less : length (document_bytes d) < 2 ^ 64 = subst (λ (l : List ℕ). length l < 2 ^ 64) (sym reads.whole) small in (
       V,
-      told_by w V (acts_before V (ignoring p) first) (λ n. told V d.many (ops_of d) (length (ops_of d))) (state_behind (ignoring p) first) (run (start d.many) (ops_of d)) (λ n. seen_loaded (c_load_way w (ignoring p) bytes n).now) all.1
-          (λ n. subst (λ (l : List ℕ). (rest : List Act) × (acts_before V (ignoring p) (standing_first detail.Cut p l) n ++ rest ≡ told V d.many (ops_of d) (length (ops_of d)))) reads.whole
-          (read_is_told V p d reads.document.formed less anew reads.mode (through how d status) n))
+      listed_by w V (acts_before V (ignoring p) first) (λ n. listed V d.many (ops_of d) (length (ops_of d))) (state_behind (ignoring p) first) (run (start d.many) (ops_of d)) (λ n. seen_loaded (c_load_way w (ignoring p) bytes n).now) all.1
+          (λ n. subst (λ (l : List ℕ). (rest : List Act) × (acts_before V (ignoring p) (standing_first detail.Cut p l) n ++ rest ≡ listed V d.many (ops_of d) (length (ops_of d)))) reads.whole
+          (read_is_listed V p d reads.document.formed less anew reads.mode (through how d status) n))
           (λ n s e. subst (λ (l : List ℕ). state_behind (ignoring p) (standing_first detail.Cut p l) n ≡ Some s) reads.whole (reached_behind detail.Cut p d reads.document.formed less anew reads.mode n s e)),
     )
 
@@ -179,10 +179,10 @@ nothing_else_in_a_stream how w p bytes d anew reads small status =
     let less : length (document_bytes d) < 2 ^ 64 = subst (λ (l : List ℕ). length l < 2 ^ 64) (sym reads.whole) small in
     let t = through how d status in (
       V,
-      told_by w V (acts_before V (buffering p) first) (λ n. told V d.many (ops_of d) (length (ops_of d))) (state_behind (buffering p) first) (run (start d.many) (ops_of d)) (λ n. seen_loaded (c_load_way w (buffering p) bytes n).now) all.1
-          (λ n. subst (λ (l : List ℕ). (rest : List Act) × (acts_before V (buffering p) (standing_first detail.Cut p l) n ++ rest ≡ told V d.many (ops_of d) (length (ops_of d)))) reads.whole
-          (subst (λ (l : List Act). (rest : List Act) × (l ++ rest ≡ told V d.many (ops_of d) (length (ops_of d)))) (sym (streamed detail.Cut V p d reads.document.formed less anew (reads.mode, reads.framing) t n))
-          (read_is_told V p d reads.document.formed less anew reads.mode t n)))
+      listed_by w V (acts_before V (buffering p) first) (λ n. listed V d.many (ops_of d) (length (ops_of d))) (state_behind (buffering p) first) (run (start d.many) (ops_of d)) (λ n. seen_loaded (c_load_way w (buffering p) bytes n).now) all.1
+          (λ n. subst (λ (l : List ℕ). (rest : List Act) × (acts_before V (buffering p) (standing_first detail.Cut p l) n ++ rest ≡ listed V d.many (ops_of d) (length (ops_of d)))) reads.whole
+          (subst (λ (l : List Act). (rest : List Act) × (l ++ rest ≡ listed V d.many (ops_of d) (length (ops_of d)))) (sym (streamed detail.Cut V p d reads.document.formed less anew (reads.mode, reads.framing) t n))
+          (read_is_listed V p d reads.document.formed less anew reads.mode t n)))
           (λ n s e. subst (λ (l : List ℕ). state_behind (buffering p) (standing_first detail.Cut p l) n ≡ Some s) reads.whole
           (streamed_behind detail.Cut V p d reads.document.formed less anew (reads.mode, reads.framing) t n ∙ reached_behind detail.Cut p d reads.document.formed less anew reads.mode n s e)),
     )

@@ -1,4 +1,4 @@
--- Where the lines end with status 0, all that is told of a reading with frames ignored is in them.
+-- Where the lines end with status 0, all that is listed of a reading with frames ignored is in them.
 use Rattle.std.proofs.Common.{◌≡◌, ◌⊎◌, ℕ, zero, suc, ◌^◌, ◌<◌, ◌≤◌, true, List, [], ◌++◌, length, drop, Option, Some, None, refl, sym, ap, ◌∙◌, inl, inr, arith}
 use Rattle.std.specs.Prelude.{◌==◌}
 use Rattle.std.proofs.lemmas.Bool.{cases_lt}
@@ -27,11 +27,11 @@ use Rattle.pickle_further.specs.declared.way.Pickles.{Pickles}
 use Rattle.pickle_further.specs.Going.{Standing, Going as Gone, gone_by, going, over}
 use Rattle.pickle_further.specs.Parts.{ignoring, are_many, standing_first}
 use Rattle.pickle_loader.specs.Environment.{Value, Act}
-use Rattle.pickle_loader.specs.Told.{told}
+use Rattle.pickle_loader.specs.Listed.{listed}
 use Rattle.pickle_loader.specs.Onward.{stands_behind, stands_on, stands, protocol, acts_gone, acts_on, acts_before, begins_anew}
 use Rattle.pickle_loader.proofs.Still.{move_to}
 use Rattle.pickle_loader.proofs.Lines.{zero_end, not_refused, all_reached}
-use Rattle.pickle_loader.proofs.Bytes.{drop_all, told_more, run_before, status_finish, closing_none}
+use Rattle.pickle_loader.proofs.Bytes.{drop_all, listed_more, run_before, status_finish, closing_none}
 use Rattle.pickle_loader.proofs.Items.{none_taken}
 use Rattle.pickle_loader.proofs.Onwards.{zero_length}
 use Rattle.pickle_loader.proofs.Readings.{beside_all, acts_next, accepted_move, rest_is}
@@ -46,11 +46,11 @@ pub record IsThrough (d : Contents) : Type 0 where
 abbrev First : Pickles → Contents → Standing
 First p d = standing_first detail.Cut p (document_bytes d)
 
--- how far the lines are told: up to a place at which the reading stands, or it ended
+-- how far the lines go: up to a place at which the reading stands, or it ended
 record Far (V : ℕ → Value) (p : Pickles) (d : Contents) (n : ℕ) : Type 0 where
   place : ℕ
   within : place ≤ length (ops_of d)
-  acts : acts_before V (ignoring p) (First p d) n ≡ told V d.many (ops_of d) place
+  acts : acts_before V (ignoring p) (First p d) n ≡ listed V d.many (ops_of d) place
   here : (stands (ignoring p) (First p d) n ≡ None) ⊎ (place ≡ n)
 
 -- ---- behind the last item
@@ -76,8 +76,8 @@ stands_suc : (p : Pickles) (d : Contents) (n : ℕ) (x : Option Standing) → st
 unfolding stands
 stands_suc p d n x is = ap (stands_on (ignoring p)) is
 
-first_zero : (V : ℕ → Value) (p : Pickles) (d : Contents) → acts_before V (ignoring p) (First p d) 0 ≡ told V d.many (ops_of d) 0
-unfolding acts_before told
+first_zero : (V : ℕ → Value) (p : Pickles) (d : Contents) → acts_before V (ignoring p) (First p d) 0 ≡ listed V d.many (ops_of d) 0
+unfolding acts_before listed
 first_zero V p d = refl
 
 no_both : {A : Type 0} (x : Option Standing) (q : Standing) → x ≡ Some q → x ≡ None → A
@@ -151,9 +151,9 @@ through how d status =
       tail = zero_length d.tail (sym (ap (λ (r : Option Refusal). kept_by d (closing_to d k r) == 0) none ∙ ap (λ (f : Finish). kept_by d (closing_of d f) == 0) stopped) ∙ ended.2);
     }
 
-pub read_is_told : (V : ℕ → Value) (p : Pickles) (d : Contents) → IsFormed d → length (document_bytes d) < 2 ^ 64 → begins_anew p ≡ true → d.many ≡ are_many p → IsThrough d → (n : ℕ)
-    → (rest : List Act) × (acts_before V (ignoring p) (standing_first detail.Cut p (document_bytes d)) n ++ rest ≡ told V d.many (ops_of d) (length (ops_of d)))
-read_is_told V p d formed small anew mode t n =
+pub read_is_listed : (V : ℕ → Value) (p : Pickles) (d : Contents) → IsFormed d → length (document_bytes d) < 2 ^ 64 → begins_anew p ≡ true → d.many ≡ are_many p → IsThrough d → (n : ℕ)
+    → (rest : List Act) × (acts_before V (ignoring p) (standing_first detail.Cut p (document_bytes d)) n ++ rest ≡ listed V d.many (ops_of d) (length (ops_of d)))
+read_is_listed V p d formed small anew mode t n =
     let far = far_all V p d formed small anew mode t n in
-    let more = told_more V d.many (ops_of d) (length (ops_of d)) far.place far.within in
+    let more = listed_more V d.many (ops_of d) (length (ops_of d)) far.place far.within in
     (more.0, ap (λ (l : List Act). l ++ more.0) far.acts ∙ sym more.1)

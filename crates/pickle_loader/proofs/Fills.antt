@@ -30,10 +30,10 @@ use Rattle.pickle_show.specs.Event.{top_of, before_of, object_is, taken_count, f
 use Rattle.pickle_show.proofs.Steps.{top_is, is_there, Same, Grown, after_changes}
 use Rattle.pickle_loader.specs.Environment.{PyType, PyList, PyDict, PySet, PyByteArray, Value, Plain, Own, Foreign, Act, SetState, Fill, Method, Reply, Raises, Answers, Unpickler, World}
 use Rattle.pickle_loader.specs.Unpickler.{Step, Ran, item, answered, tell, pop, on_top, pop_mark, put_in, fill_own, fill, fill_none, fills, fill_pairs, then_raises, load_append, load_appends, load_setitem, load_setitems, load_additems, load_build}
-use Rattle.pickle_loader.specs.Told.{told_of, acts_told, taken, objects_in}
+use Rattle.pickle_loader.specs.Listed.{listed_of, acts_listed, taken, objects_in}
 use Rattle.pickle_loader.proofs.Images.{image, pop_image, on_top_image, mark_image, last_image}
 use Rattle.pickle_loader.specs.Values.{origin, IsFrom, Knows}
-use Rattle.pickle_loader.proofs.Pushes.{StandsAs, stands_as, knows_more, Good, told_one}
+use Rattle.pickle_loader.proofs.Pushes.{StandsAs, stands_as, knows_more, Good, listed_one}
 use Rattle.pickle_loader.proofs.Methods.{Here, unpickler, fresh_acts, RowGood, passes, quiet, raised_good}
 
 -- ---- objects that got changes
@@ -54,16 +54,16 @@ knows_changed w V acts heap j more knows id o e = elim (after_changes heap j mor
   | Grown old at was is ↦ subst (λ (y : Object). IsFrom w acts y.kind (V id) (origin y.kind (map V y.parts))) (sym is) (knows id old (ap (slice_get heap) at ∙ was))
 ]
 
--- ---- what is told
+-- ---- what is listed
 
-into_told : (V : ℕ → Value) (proto : ℕ) (s t : State) (f : Filling) (n : ℕ) (b : Bool)
-    → acts_told V proto s t (if b then Some (event.Filled f n (top_of t)) else None) ≡ (if nat_lt 0 n && b then Fill f (V (top_of t)) (map V (take (objects_in f n) (taken s t))) ∷ [] else [])
-into_told V proto s t f n true = go (nat_lt 0 n) _
+into_listed : (V : ℕ → Value) (proto : ℕ) (s t : State) (f : Filling) (n : ℕ) (b : Bool)
+    → acts_listed V proto s t (if b then Some (event.Filled f n (top_of t)) else None) ≡ (if nat_lt 0 n && b then Fill f (V (top_of t)) (map V (take (objects_in f n) (taken s t))) ∷ [] else [])
+into_listed V proto s t f n true = go (nat_lt 0 n) _
   where
     go : (c : Bool) (acts : List Act) → (if c then acts else []) ≡ (if c && true then acts else [])
     go true acts = refl
     go false acts = refl
-into_told V proto s t f n false = go (nat_lt 0 n) _
+into_listed V proto s t f n false = go (nat_lt 0 n) _
   where
     go : (c : Bool) (acts : List Act) → [] ≡ (if c && false then acts else [])
     go true acts = refl
@@ -113,24 +113,24 @@ count_is : (s u : State) (items : List ℕ) → Splits s u items → stack_size 
 count_is s u items e = omega (arith, ap length e, length-append (stack_of u) items, length-stack_of s, length-stack_of u)
 
 -- what a filling tells of a target
-abbrev pub told_into : Bool → Filling → Value → List Value → List Act
-told_into true f v vs = Fill f v vs ∷ []
-told_into false f v vs = []
+abbrev pub listed_into : Bool → Filling → Value → List Value → List Act
+listed_into true f v vs = Fill f v vs ∷ []
+listed_into false f v vs = []
 
 -- no state is set
 abbrev pub IsFill : Filling → Type 0
 IsFill f = (b : Before) (t : State) → filled_event f b t ≡ into f (filled_count f (taken_count b t)) t
 
-pub filled_told : (h : Here) (f : Filling) (u : State) (items : List ℕ) (more : List Change) → IsFill f → Splits h.s u items → (n : ℕ) → filled_count f (length items) ≡ n → length items ≤ objects_in f n
+pub filled_listed : (h : Here) (f : Filling) (u : State) (items : List ℕ) (more : List Change) → IsFill f → Splits h.s u items → (n : ℕ) → filled_count f (length items) ≡ n → length items ≤ objects_in f n
     → (nat_lt 0 n && touches f n (change_top more u).heap (top_of u)) ≡ (nat_lt 0 n && object_is is_opaque (change_top more u).heap (top_of u))
-    → acts_told h.V h.proto h.s (change_top more u) (filled_event f (before_of h.s) (change_top more u))
+    → acts_listed h.V h.proto h.s (change_top more u) (filled_event f (before_of h.s) (change_top more u))
     ≡ (if nat_lt 0 n && object_is is_opaque (change_top more u).heap (top_of u) then Fill f (h.V (top_of u)) (map h.V items) ∷ [] else [])
-filled_told h f u items more fe split n same whole agrees =
+filled_listed h f u items more fe split n same whole agrees =
     let t : State = change_top more u in
     let count : filled_count f (taken_count (before_of h.s) t) ≡ n = ap (filled_count f) (count_is h.s u items split) ∙ same in
-    ap (acts_told h.V h.proto h.s t) (fe (before_of h.s) t)
-    ∙ ap (λ (m : ℕ). acts_told h.V h.proto h.s t (into f m t)) count
-    ∙ into_told h.V h.proto h.s t f n (touches f n t.heap (top_of t))
+    ap (acts_listed h.V h.proto h.s t) (fe (before_of h.s) t)
+    ∙ ap (λ (m : ℕ). acts_listed h.V h.proto h.s t (into f m t)) count
+    ∙ into_listed h.V h.proto h.s t f n (touches f n t.heap (top_of t))
     ∙ ap (λ (b : Bool). if b then Fill f (h.V (top_of t)) (map h.V (take (objects_in f n) (taken h.s t))) ∷ [] else []) agrees
     ∙ ap (λ (l : List ℕ). if nat_lt 0 n && object_is is_opaque t.heap (top_of t) then Fill f (h.V (top_of t)) (map h.V l) ∷ [] else []) (ap (take (objects_in f n)) (taken_is h.s u items split) ∙ take_all (objects_in f n) items whole)
 
@@ -148,13 +148,13 @@ knows_at_once : (h : Here) (u : State) (more : List Change) → u.heap ≡ h.s.h
 knows_at_once h u more e = knows_changed h.w h.V h.acts u.heap (deep 0 u.top) more (subst (λ (l : List Object). Knows h.w h.V h.acts l) (sym e) h.knows)
 
 -- into a value of the unpickler's own
-put_good : (h : Here) (u : State) (more : List Change) (new : List Act) (f : Filling) (t : PyType) (n : ℕ) (vs : List Value) (acts : List Act) (done : List Act) → u.heap ≡ h.s.heap → new ≡ [] → acts ≡ h.acts ++ done → told_of acts ≡ told_of h.acts
+put_good : (h : Here) (u : State) (more : List Change) (new : List Act) (f : Filling) (t : PyType) (n : ℕ) (vs : List Value) (acts : List Act) (done : List Act) → u.heap ≡ h.s.heap → new ≡ [] → acts ≡ h.acts ++ done → listed_of acts ≡ listed_of h.acts
     → Filled h u more new (put_in f (Own t n) vs (image h.V u h.proto acts))
 unfolding Filled
 put_good h u more new f t n vs acts done e none is same foretold = (
   refl,
   knows_more h.w h.V acts (Fill f (Own t n) vs ∷ []) (change_top more u).heap (subst (λ (l : List Act). Knows h.w h.V l (change_top more u).heap) (sym is) (knows_after h u more done e)),
-  quiet acts (Fill f (Own t n) vs) refl ∙ same ∙ sym (append-nil (told_of h.acts)) ∙ ap (λ (l : List Act). told_of h.acts ++ l) (sym none),
+  quiet acts (Fill f (Own t n) vs) refl ∙ same ∙ sym (append-nil (listed_of h.acts)) ∙ ap (λ (l : List Act). listed_of h.acts ++ l) (sym none),
 )
 
 put_by_good : (h : Here) (r : Reply) (u : State) (more : List Change) (new : List Act) (f : Filling) (t : PyType) (n : ℕ) (vs : List Value) → u.heap ≡ h.s.heap → new ≡ []
@@ -164,11 +164,11 @@ put_by_good h Raises u more new f t n vs e none = raised_good h.V h.w h.s.heap h
 put_by_good h (Answers x) u more new f t n vs e none = put_good h u more new f t n vs (h.acts ++ Method ∷ []) (Method ∷ []) e none refl (quiet h.acts Method refl)
 
 -- into a value from elsewhere
-tell_good : (h : Here) (r : Reply) (u : State) (more : List Change) (new : List Act) (a : Act) → u.heap ≡ h.s.heap → told_of (a ∷ []) ≡ new
+tell_good : (h : Here) (r : Reply) (u : State) (more : List Change) (new : List Act) (a : Act) → u.heap ≡ h.s.heap → listed_of (a ∷ []) ≡ new
     → Filled h u more new (answered r a (image h.V u h.proto h.acts) (λ v q. Ran q))
 unfolding Filled
-tell_good h Raises u more new a e is = ([], append-nil (told_of (h.acts ++ a ∷ [])) ∙ told_one h.acts a ∙ ap (λ (l : List Act). told_of h.acts ++ l) is)
-tell_good h (Answers x) u more new a e is = λ foretold. (refl, knows_after h u more (a ∷ []) e, told_one h.acts a ∙ ap (λ (l : List Act). told_of h.acts ++ l) is)
+tell_good h Raises u more new a e is = ([], append-nil (listed_of (h.acts ++ a ∷ [])) ∙ listed_one h.acts a ∙ ap (λ (l : List Act). listed_of h.acts ++ l) is)
+tell_good h (Answers x) u more new a e is = λ foretold. (refl, knows_after h u more (a ∷ []) e, listed_one h.acts a ∙ ap (λ (l : List Act). listed_of h.acts ++ l) is)
 
 FillGood : Here → State → List Change → List Act → Filling → List Value → Value → Type 0
 FillGood h u more new f vs v = Filled h u more new (fill h.w f v vs (image h.V u h.proto h.acts))
@@ -179,7 +179,7 @@ unfolding FillGood
 own_good h u more new f t n vs v e g = subst (λ (y : Value). Filled h u more new (fill h.w f y vs (image h.V u h.proto h.acts))) (sym e) g
 
 by_class : (h : Here) (u : State) (more : List Change) (new : List Act) (f : Filling) (vs : List Value) (v : Value) (c : Class) → u.heap ≡ h.s.heap → f ≢ filling.Build
-    → class_meets (demand.Target f) c ≡ true → StandsAs h.w c v → new ≡ told_into (is_any c) f v vs → FillGood h u more new f vs v
+    → class_meets (demand.Target f) c ≡ true → StandsAs h.w c v → new ≡ listed_into (is_any c) f v vs → FillGood h u more new f vs v
 unfolding FillGood
 by_class h u more new f vs v class.Opaque e ne m (t, n, is) new_is =
     subst (λ (y : Value). Filled h u more new (fill h.w f y vs (image h.V u h.proto h.acts))) (sym is)
@@ -202,32 +202,32 @@ none_good h u more new (Foreign t n) e none = looked_up h.w.looks_up_for_nothing
   where
     looked_up : (b : Bool) → Filled h u more new (if b then tell h.w Method (image h.V u h.proto h.acts) else Ran (image h.V u h.proto h.acts))
     looked_up true = tell_good h (h.w.reply h.acts Method) u more new Method e (sym none)
-    looked_up false = λ foretold. (refl, knows_at_once h u more e, sym (append-nil (told_of h.acts)) ∙ ap (λ (l : List Act). told_of h.acts ++ l) (sym none))
-none_good h u more new (Own t n) e none = λ foretold. (refl, knows_at_once h u more e, sym (append-nil (told_of h.acts)) ∙ ap (λ (l : List Act). told_of h.acts ++ l) (sym none))
-none_good h u more new (Plain k) e none = λ foretold. (refl, knows_at_once h u more e, sym (append-nil (told_of h.acts)) ∙ ap (λ (l : List Act). told_of h.acts ++ l) (sym none))
+    looked_up false = λ foretold. (refl, knows_at_once h u more e, sym (append-nil (listed_of h.acts)) ∙ ap (λ (l : List Act). listed_of h.acts ++ l) (sym none))
+none_good h u more new (Own t n) e none = λ foretold. (refl, knows_at_once h u more e, sym (append-nil (listed_of h.acts)) ∙ ap (λ (l : List Act). listed_of h.acts ++ l) (sym none))
+none_good h u more new (Plain k) e none = λ foretold. (refl, knows_at_once h u more e, sym (append-nil (listed_of h.acts)) ∙ ap (λ (l : List Act). listed_of h.acts ++ l) (sym none))
 
 -- an object is known by its class
-told_by_class : (h : Here) (f : Filling) (u : State) (items : List ℕ) (more : List Change) (o : Object) (n : ℕ) → IsFill f → Splits h.s u items → u.heap ≡ h.s.heap → 0 < length u.top
+listed_by_class : (h : Here) (f : Filling) (u : State) (items : List ℕ) (more : List Change) (o : Object) (n : ℕ) → IsFill f → Splits h.s u items → u.heap ≡ h.s.heap → 0 < length u.top
     → filled_count f (length items) ≡ n → length items ≤ objects_in f n → 0 < n → slice_get u.heap (deep 0 u.top) ≡ Some o → f ≢ filling.Build → class_meets (demand.Target f) (class_of o.kind) ≡ true
-    → acts_told h.V h.proto h.s (change_top more u) (filled_event f (before_of h.s) (change_top more u)) ≡ told_into (is_any (class_of o.kind)) f (h.V (deep 0 u.top)) (map h.V items)
-told_by_class h f u items more o n fe split same top count whole some there ne fine =
+    → acts_listed h.V h.proto h.s (change_top more u) (filled_event f (before_of h.s) (change_top more u)) ≡ listed_into (is_any (class_of o.kind)) f (h.V (deep 0 u.top)) (map h.V items)
+listed_by_class h f u items more o n fe split same top count whole some there ne fine =
     let t : State = change_top more u in
     let target : top_of u ≡ deep 0 u.top = top_is u top in
     let here : slice_get t.heap (top_of u) ≡ Some (record o { changes = o.changes ++ more }) = ap (slice_get t.heap) target ∙ changed_get u.heap (deep 0 u.top) more o there in
     let opaque : object_is is_opaque t.heap (top_of u) ≡ is_any (class_of o.kind) = ap (λ (g : Option Object). option_map_or (λ (x : Object). is_opaque x.kind) g false) here in
-    filled_told h f u items more fe split n count whole (ap (λ (b : Bool). nat_lt 0 n && b) (touched f n t.heap (top_of u) (record o { changes = o.changes ++ more }) ne some here fine))
+    filled_listed h f u items more fe split n count whole (ap (λ (b : Bool). nat_lt 0 n && b) (touched f n t.heap (top_of u) (record o { changes = o.changes ++ more }) ne some here fine))
     ∙ ap (λ (b : Bool). if b && object_is is_opaque t.heap (top_of u) then Fill f (h.V (top_of u)) (map h.V items) ∷ [] else []) (lt-ltb 0 n some)
     ∙ ap (λ (b : Bool). if b then Fill f (h.V (top_of u)) (map h.V items) ∷ [] else []) opaque
     ∙ ap (λ (i : ℕ). if is_any (class_of o.kind) then Fill f (h.V i) (map h.V items) ∷ [] else []) target
     ∙ go (is_any (class_of o.kind))
   where
-    go : (b : Bool) → (if b then Fill f (h.V (deep 0 u.top)) (map h.V items) ∷ [] else []) ≡ told_into b f (h.V (deep 0 u.top)) (map h.V items)
+    go : (b : Bool) → (if b then Fill f (h.V (deep 0 u.top)) (map h.V items) ∷ [] else []) ≡ listed_into b f (h.V (deep 0 u.top)) (map h.V items)
     go true = refl
     go false = refl
 
-told_none : (h : Here) (f : Filling) (u : State) (more : List Change) → IsFill f → Splits h.s u [] → filled_count f 0 ≡ 0
-    → acts_told h.V h.proto h.s (change_top more u) (filled_event f (before_of h.s) (change_top more u)) ≡ []
-told_none h f u more fe split count = filled_told h f u [] more fe split 0 count (omega arith) refl
+listed_empty : (h : Here) (f : Filling) (u : State) (more : List Change) → IsFill f → Splits h.s u [] → filled_count f 0 ≡ 0
+    → acts_listed h.V h.proto h.s (change_top more u) (filled_event f (before_of h.s) (change_top more u)) ≡ []
+listed_empty h f u more fe split count = filled_listed h f u [] more fe split 0 count (omega arith) refl
 
 -- what is needed to fill
 record CanFill (h : Here) (f : Filling) (u : State) (items : List ℕ) : Type 0 where
@@ -242,14 +242,14 @@ record CanFill (h : Here) (f : Filling) (u : State) (items : List ℕ) : Type 0 
   target : 0 < length items → object_meets (demand.Target f) h.s (deep 0 u.top) ≡ true
 
 fills_good : (h : Here) (f : Filling) (u : State) (items : List ℕ) (more : List Change) → CanFill h f u items
-    → Filled h u more (acts_told h.V h.proto h.s (change_top more u) (filled_event f (before_of h.s) (change_top more u))) (fills h.w f (h.V (deep 0 u.top)) (map h.V items) (image h.V u h.proto h.acts))
+    → Filled h u more (acts_listed h.V h.proto h.s (change_top more u) (filled_event f (before_of h.s) (change_top more u))) (fills h.w f (h.V (deep 0 u.top)) (map h.V items) (image h.V u h.proto h.acts))
 unfolding FillGood
-fills_good h f u [] more c = none_good h u more _ (h.V (deep 0 u.top)) c.same (told_none h f u more c.fe c.split c.zero_count)
+fills_good h f u [] more c = none_good h u more _ (h.V (deep 0 u.top)) c.same (listed_empty h f u more c.fe c.split c.zero_count)
 fills_good h f u (x ∷ xs) more c =
     let o = is_there (meets (demand.Target f)) h.s.heap (deep 0 u.top) (c.target (omega arith)) in
     let there : slice_get u.heap (deep 0 u.top) ≡ Some o.0 = ap (λ (l : List Object). slice_get l (deep 0 u.top)) c.same ∙ o.1 in
     by_class h u more _ f (map h.V (x ∷ xs)) (h.V (deep 0 u.top)) (class_of o.0.kind) c.same c.ne o.2 (stands_as h.w h.acts o.0.kind (map h.V o.0.parts) (h.V (deep 0 u.top)) (h.knows (deep 0 u.top) o.0 o.1))
-    (told_by_class h f u (x ∷ xs) more o.0 (filled_count f (length (x ∷ xs))) c.fe c.split c.same c.top refl (c.whole (omega arith)) (c.count (omega arith)) there c.ne o.2)
+    (listed_by_class h f u (x ∷ xs) more o.0 (filled_count f (length (x ∷ xs))) c.fe c.split c.same c.top refl (c.whole (omega arith)) (c.count (omega arith)) there c.ne o.2)
 
 -- ---- rows that take objects from the top
 
@@ -382,7 +382,7 @@ build_good h k e =
     let size : length u.top ≡ length h.s.top - 1 = length-take-le (length h.s.top - 1) h.s.top (omega arith) in
     let value : item 0 (map h.V items) ≡ h.V (top_of h.s) = last_image h.V h.s (omega (arith, below)) ∙ ap h.V (sym (top_is h.s (omega (arith, below)))) in
     let target : h.V (deep 0 u.top) ≡ h.V (top_of u) = ap h.V (sym (top_is u (omega (arith, size, below)))) in
-    let told : SetState (h.V (deep 0 u.top)) (item 0 (map h.V items)) ∷ [] ≡ new = ap (λ (v : Value). SetState (h.V (deep 0 u.top)) v ∷ []) value ∙ ap (λ (v : Value). SetState v (h.V (top_of h.s)) ∷ []) target in
+    let listed : SetState (h.V (deep 0 u.top)) (item 0 (map h.V items)) ∷ [] ≡ new = ap (λ (v : Value). SetState (h.V (deep 0 u.top)) v ∷ []) value ∙ ap (λ (v : Value). SetState v (h.V (top_of h.s)) ∷ []) target in
     subst (λ (x : Step). Good h.V h.w h.s.heap h.acts (change_top more u) new h.proto x) (sym (pop_image h.V h.s h.proto h.acts 1 (λ vs q. on_top q (λ target. tell h.w (SetState target (item 0 vs)) q)) (le-leb 1 (length h.s.top) (omega (arith, below)))))
     (subst (λ (x : Step). Good h.V h.w h.s.heap h.acts (change_top more u) new h.proto x) (sym (on_top_image h.V u h.proto h.acts (λ target. tell h.w (SetState target (item 0 (map h.V items))) (image h.V u h.proto h.acts)) (le-leb 1 (length u.top) (omega (arith, size, below)))))
-    (tell_good h (h.w.reply h.acts (SetState (h.V (deep 0 u.top)) (item 0 (map h.V items)))) u more new (SetState (h.V (deep 0 u.top)) (item 0 (map h.V items))) refl told))
+    (tell_good h (h.w.reply h.acts (SetState (h.V (deep 0 u.top)) (item 0 (map h.V items)))) u more new (SetState (h.V (deep 0 u.top)) (item 0 (map h.V items))) refl listed))

@@ -30,7 +30,7 @@ use Rattle.pickle_show.specs.Naming.{Spelled, Pair, NewPair, short_of, may_be_na
 use Rattle.pickle_show.specs.Calls.{naming_on, naming_at}
 use Rattle.pickle_show.specs.LineLaws.{IsRead, two_quoted, import_said}
 use Rattle.pickle_show.proofs.Imports.{line_of_import, line_of_inst}
-use Rattle.pickle_loader.specs.Told.{protocol_after, protocol_at}
+use Rattle.pickle_loader.specs.Listed.{protocol_after, protocol_at}
 use Rattle.pickle_loader.specs.FindClass.{fixed, find_class, said_with, found_said, FoundIsSaid}
 use Rattle.pickle_loader.proofs.Still.{move_to}
 use Rattle.pickle_loader.proofs.Listing.{next_protocol}

@@ -26,7 +26,7 @@ use Rattle.pickle_further.specs.declared.way.Way.{Way}
 use Rattle.pickle_further.specs.Going.{Standing, Going, refused_at, used_op, moved_so, over, gone_to, gone_by, going}
 use Rattle.pickle_further.specs.Parts.{ignoring, buffering, holding, standing_first}
 use Rattle.pickle_loader.specs.Environment.{Value, Act}
-use Rattle.pickle_loader.specs.Told.{acts_told}
+use Rattle.pickle_loader.specs.Listed.{acts_listed}
 use Rattle.pickle_loader.specs.Onward.{stands_behind, stands_on, stands, protocol, acts_gone, acts_on, acts_before, unbuffered, NoneLost}
 use Rattle.pickle_loader.proofs.Streams.{settled_op}
 use Rattle.pickle_loader.proofs.Buffers.{none_of, alike_all}
@@ -131,7 +131,7 @@ held_none p how bytes n none = λ j q less there.
     let kept : (going (buffering p) q).gone.lost ≡ false = none j q less same in
     ap (λ (g : Going). g.gone.lost) (held_item p q kept) ∙ kept
 
--- ---- what is told where nothing is lost
+-- ---- what is listed where nothing is lost
 
 pub none_at_all : (w : Way) (how : Detail) (bytes : List ℕ) (n : ℕ) → NoneLost w (standing_first how w.pickles bytes) (suc (length bytes)) → NoneLost w (standing_first how w.pickles bytes) n
 none_at_all w how bytes n none = λ j q less there. none j q (omega (arith, few w (standing_first how w.pickles bytes) j q there)) there
@@ -160,7 +160,7 @@ tells_item : (V : ℕ → Value) (w : Way) (how : Detail) (bytes : List ℕ) (n 
 tells_item V w how bytes n q None is there none =
     let p : Standing = standing_first how w.pickles bytes in
     let alike = alike_all how V w bytes n q there (λ j r less stood. none j r (omega (arith, less)) stood) in
-    let nothing : acts_gone V (protocol w p n) q (going w q) ≡ [] = ap (λ (y : Option Event). acts_told V (protocol w p n) (fresh q.state) (going w q).state y) is in
+    let nothing : acts_gone V (protocol w p n) q (going w q) ≡ [] = ap (λ (y : Option Event). acts_listed V (protocol w p n) (fresh q.state) (going w q).state y) is in
     (n, omega arith, acts_next V w p n (Some q) there ∙ ap (λ (l : List Act). acts_before V w p n ++ l) nothing ∙ append-nil (acts_before V w p n) ∙ alike.acts)
 tells_item V w how bytes n q (Some e) is there none =
     let p : Standing = standing_first how w.pickles bytes in

@@ -1,4 +1,4 @@
--- The unpickler that holds what a state holds, under a map from numbers of objects to values; and what is told of acts.
+-- The unpickler that holds what a state holds, under a map from numbers of objects to values; and what is listed of acts.
 use Rattle.std.proofs.Common.{◌≡◌, ℕ, zero, suc, ◌-◌, ◌<◌, ◌≤◌, Bool, true, false, cond, List, [], ◌∷◌, ◌++◌, length, map, take, drop, get_or, Option, Some, refl, ap, ◌∙◌, arith}
 use Rattle.std.specs.Prelude.{slice_get, nat_le, nat_lt, if◌then◌else◌}
 use Rattle.std.specs.Option.{unwrap_or}
@@ -14,16 +14,16 @@ use Rattle.pickle_machine.specs.State.{Marked, State}
 use Rattle.pickle_machine.specs.Move.{deep, last_of, without, under, deeper, cut}
 use Rattle.pickle_loader.specs.Environment.{Value, Plain, Act, Unpickler}
 use Rattle.pickle_loader.specs.Unpickler.{Step, Raised, item, pop, on_top, to_mark, pop_mark}
-use Rattle.pickle_loader.specs.Told.{is_told, told_of}
+use Rattle.pickle_loader.specs.Listed.{is_listed, listed_of}
 use Rattle.pickle_loader.specs.Laws.{sections, entries}
 
--- ---- what is told of acts
+-- ---- what is listed of acts
 
-pub told-append : (xs ys : List Act) → told_of (xs ++ ys) ≡ told_of xs ++ told_of ys
-told-append [] ys = refl
-told-append (x ∷ xs) ys = go (is_told x) (told-append xs ys)
+pub listed-append : (xs ys : List Act) → listed_of (xs ++ ys) ≡ listed_of xs ++ listed_of ys
+listed-append [] ys = refl
+listed-append (x ∷ xs) ys = go (is_listed x) (listed-append xs ys)
   where
-    go : (b : Bool) → told_of (xs ++ ys) ≡ told_of xs ++ told_of ys → (if b then x ∷ told_of (xs ++ ys) else told_of (xs ++ ys)) ≡ (if b then x ∷ told_of xs else told_of xs) ++ told_of ys
+    go : (b : Bool) → listed_of (xs ++ ys) ≡ listed_of xs ++ listed_of ys → (if b then x ∷ listed_of (xs ++ ys) else listed_of (xs ++ ys)) ≡ (if b then x ∷ listed_of xs else listed_of xs) ++ listed_of ys
     go true ih = ap (λ (l : List Act). x ∷ l) ih
     go false ih = ih
 

@@ -33,7 +33,7 @@ use Rattle.pickle_further.specs.Going.{used_op, then_as, moved_so}
 use Rattle.pickle_loader.specs.Environment.{Value, Method, Unpickler, World}
 use Rattle.pickle_loader.specs.Unpickler.{Step, Raised, load_get, load_put, tell}
 use Rattle.pickle_loader.specs.Dispatch.{dispatch}
-use Rattle.pickle_loader.specs.Told.{told_of, protocol_after}
+use Rattle.pickle_loader.specs.Listed.{listed_of, protocol_after}
 use Rattle.pickle_loader.specs.Laws.{entries, IsSame}
 use Rattle.pickle_loader.specs.Whole.{IsWhole}
 use Rattle.pickle_loader.specs.Beyond.{HasValue, is_missing, RaisesAt, Comes}
@@ -208,7 +208,7 @@ row_comes : (h : Here) (r : Row) (o : Operation) (step : Step) (x : Option Refus
 row_comes h r o step None is whole right =
     let t : State = next_of r (kind_of o) h.place h.s in
     (whole_next r (kind_of o) h.place h.s whole (no_view_kind o.opcode o.arg) is, λ maps. follows_by h.w h.V h.s t h.acts (fresh_acts h r t) h.proto step maps (right.good is))
-row_comes h r o step (Some e) is whole right = subst (λ (y : Step). RaisesAt (told_of h.acts) y) (sym (right.raises e is)) refl
+row_comes h r o step (Some e) is whole right = subst (λ (y : Step). RaisesAt (listed_of h.acts) y) (sym (right.raises e is)) refl
 
 one_comes : (h : Here) (r : Row) (o : Operation) (step : Step) → h.s.stopped ≡ false → IsWhole h.s → IsRight h r o step → Comes h.w h.V h.s (unpickler h) (one_move r) h.proto step (moved_so (one_move r) o h.place h.s)
 one_comes h r o step running whole right =

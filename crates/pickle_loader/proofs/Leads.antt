@@ -25,7 +25,7 @@ use Rattle.pickle_further.specs.declared.way.Pickles.{Pickles}
 use Rattle.pickle_further.specs.declared.way.Pickles.TheVariants as pickles
 use Rattle.pickle_further.specs.Going.{then_as, moved_so, event_by, keeps, state_after}
 use Rattle.pickle_loader.specs.Environment.{Value}
-use Rattle.pickle_loader.specs.Told.{acts_told}
+use Rattle.pickle_loader.specs.Listed.{acts_listed}
 use Rattle.pickle_loader.proofs.Still.{Still, still, keeps_many, grows, fresh_running, fresh_same, stop_only}
 use Rattle.pickle_loader.proofs.Beyond.{has_moved}
 use Rattle.pickle_loader.proofs.Items.{IsItem, Itself, Gets, Puts}
@@ -201,22 +201,22 @@ once_led m o place s t once running e =
 
 -- ---- the acts of an event
 
-acts_made_by : (V : ℕ → Value) (proto : ℕ) (s t : State) (id : ℕ) (g : Option Object) → acts_told V proto s (cleared t) (made_as t.heap id g) ≡ acts_told V proto s t (made_as t.heap id g)
+acts_made_by : (V : ℕ → Value) (proto : ℕ) (s t : State) (id : ℕ) (g : Option Object) → acts_listed V proto s (cleared t) (made_as t.heap id g) ≡ acts_listed V proto s t (made_as t.heap id g)
 acts_made_by V proto s t id None = refl
 acts_made_by V proto s t id (Some o) = go (is_shown t.heap o)
   where
-    go : (b : Bool) → acts_told V proto s (cleared t) (if b then Some (event.Made id) else None) ≡ acts_told V proto s t (if b then Some (event.Made id) else None)
+    go : (b : Bool) → acts_listed V proto s (cleared t) (if b then Some (event.Made id) else None) ≡ acts_listed V proto s t (if b then Some (event.Made id) else None)
     go true = refl
     go false = refl
 
 -- those of STOP are the same on a stack that begins anew
 acts_kept : (V : ℕ → Value) (proto place : ℕ) (p : Pickles) (o : Operation) (r : Row) (q s t : State) (b : Bool) → keeps p o.opcode ≡ b → is_stop o.opcode ≡ true → r ≡ row.Stop
-    → acts_told V proto s (cond b (cleared t) t) (event_by (loader_move o.opcode r s) q t (loader_move o.opcode r s).fill) ≡ acts_told V proto s t (event_by (loader_move o.opcode r s) q t (loader_move o.opcode r s).fill)
+    → acts_listed V proto s (cond b (cleared t) t) (event_by (loader_move o.opcode r s) q t (loader_move o.opcode r s).fill) ≡ acts_listed V proto s t (event_by (loader_move o.opcode r s) q t (loader_move o.opcode r s).fill)
 acts_kept V proto place p o r q s t false k stop is = refl
 acts_kept V proto place p o r q s t true k stop is = go o.opcode (stop_is o.opcode stop) r is
   where
     go : (x : Opcode) → x ≡ op.Stop → (y : Row) → y ≡ row.Stop
-        → acts_told V proto s (cleared t) (event_by (loader_move x y s) q t (loader_move x y s).fill) ≡ acts_told V proto s t (event_by (loader_move x y s) q t (loader_move x y s).fill)
+        → acts_listed V proto s (cleared t) (event_by (loader_move x y s) q t (loader_move x y s).fill) ≡ acts_listed V proto s t (event_by (loader_move x y s) q t (loader_move x y s).fill)
     go op.Stop e row.Stop f = acts_made_by V proto s t (length q.heap) (slice_get t.heap (length q.heap))
     go op.Stop e _ f = absurd cc
     go _ e y f = absurd cc
@@ -227,12 +227,12 @@ keeps_stop pickles.First o e = absurd cc
 keeps_stop pickles.All o e = absurd cc
 
 acts_after_by : (V : ℕ → Value) (proto place : ℕ) (p : Pickles) (o : Operation) (r : Row) (q s t : State) (b : Bool) → keeps p o.opcode ≡ b → IsItem o r
-    → acts_told V proto s (cond b (cleared t) t) (event_by (loader_move o.opcode r s) q t (loader_move o.opcode r s).fill) ≡ acts_told V proto s t (event_by (loader_move o.opcode r s) q t (loader_move o.opcode r s).fill)
+    → acts_listed V proto s (cond b (cleared t) t) (event_by (loader_move o.opcode r s) q t (loader_move o.opcode r s).fill) ≡ acts_listed V proto s t (event_by (loader_move o.opcode r s) q t (loader_move o.opcode r s).fill)
 acts_after_by V proto place p o r q s t false k is = refl
 acts_after_by V proto place p o r q s t true k is =
     let stop : is_stop o.opcode ≡ true = keeps_stop p o.opcode k in
     acts_kept V proto place p o r q s t true k stop (stop_row o r is (stop_is o.opcode stop))
 
 pub acts_after : (V : ℕ → Value) (proto place : ℕ) (p : Pickles) (o : Operation) (r : Row) (q s t : State) → IsItem o r
-    → acts_told V proto s (state_after p o.opcode t) (event_by (loader_move o.opcode r s) q t (loader_move o.opcode r s).fill) ≡ acts_told V proto s t (event_by (loader_move o.opcode r s) q t (loader_move o.opcode r s).fill)
+    → acts_listed V proto s (state_after p o.opcode t) (event_by (loader_move o.opcode r s) q t (loader_move o.opcode r s).fill) ≡ acts_listed V proto s t (event_by (loader_move o.opcode r s) q t (loader_move o.opcode r s).fill)
 acts_after V proto place p o r q s t is = acts_after_by V proto place p o r q s t (keeps p o.opcode) refl is

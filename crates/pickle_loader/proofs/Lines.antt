@@ -1,4 +1,4 @@
--- What is told has a line, and with status 0 all is told.
+-- What is listed has a line, and with status 0 all is listed.
 use Rattle.std.proofs.Common.{subst, Bool, true, false, cond, ◌++◌, length-append, ◌≡◌, ℕ, zero, suc, ◌<◌, ◌≤◌, List, [], ◌∷◌, length, Option, Some, None, refl, sym, ap, ◌∙◌, arith}
 use Rattle.std.proofs.lemmas.List.{append-nil}
 use Rattle.std.specs.Prelude.{◌==◌, slice_get, decimal, codes}
@@ -28,8 +28,8 @@ use Rattle.pickle_show.specs.Manner.{Manner}
 use Rattle.pickle_show.specs.declared.naming.Naming.{Naming}
 use Rattle.pickle_show.specs.Calls.{naming_at, entry_on, entry_at, first_inside, closing_to, kept_by, end_to, end_from, end_by, calls_end, calls}
 use Rattle.pickle_loader.specs.Environment.{Value, Act, World}
-use Rattle.pickle_loader.specs.Told.{told, told_of, acts_told, told_on, told_at, protocol_at}
-use Rattle.pickle_loader.specs.Laws.{Follows, ToldHasLine, AllTold, NoLineNoAct}
+use Rattle.pickle_loader.specs.Listed.{listed, listed_of, acts_listed, listed_on, listed_at, protocol_at}
+use Rattle.pickle_loader.specs.Laws.{Follows, ActsHaveLines, AllListed, NoLineNoAct}
 use Rattle.pickle_loader.specs.Dispatch.{Loaded, Going, Ended, Failed, acts_of, load_item, load}
 use Rattle.pickle_loader.proofs.Still.{move_to}
 use Rattle.pickle_loader.proofs.Listing.{loads_are_listed, next_load}
@@ -41,19 +41,19 @@ pub long : (offset : ℕ) (m : Naming) (heap : List Object) (e : Event) → 0 < 
 unfolding event_line
 long offset m heap e = omega (arith, one_line (right_aligned 5 (decimal offset) ⧺ codes ": " ⧺ event_text m heap e) newline)
 
-event_tells : (V : ℕ → Value) (proto offset : ℕ) (m : Naming) (s t : State) (x : Option Event) → line_of offset m t.heap x ≡ [] → acts_told V proto s t x ≡ []
+event_tells : (V : ℕ → Value) (proto offset : ℕ) (m : Naming) (s t : State) (x : Option Event) → line_of offset m t.heap x ≡ [] → acts_listed V proto s t x ≡ []
 event_tells V proto offset m s t None h = refl
 event_tells V proto offset m s t (Some e) h = absurd (omega (arith, long offset m t.heap e, ap length h))
 
-item_tells : (V : ℕ → Value) (proto offset : ℕ) (m : Naming) (x : Option Operation) (y z : Option State) → (entry_on offset m x y z).text ≡ [] → told_on V proto x y z ≡ []
+item_tells : (V : ℕ → Value) (proto offset : ℕ) (m : Naming) (x : Option Operation) (y z : Option State) → (entry_on offset m x y z).text ≡ [] → listed_on V proto x y z ≡ []
 item_tells V proto offset m (Some o) (Some s) (Some t) h = event_tells V proto offset m (fresh s) t (event_of (row_of o) (before_of (fresh s)) t) h
 item_tells V proto offset m (Some o) (Some s) None h = refl
 item_tells V proto offset m (Some o) None z h = refl
 item_tells V proto offset m None y z h = refl
 
-pub told_has_line : ToldHasLine
-unfolding told_at entry_at
-told_has_line how V d k some = λ none. some (item_tells V (protocol_at (ops_of d) k) (in_file how.holes (offset_of d k)) (naming_at how.detail d k) (item_at d k) (run (start d.many) (ops_of d) k) (run (start d.many) (ops_of d) (suc k)) none)
+pub acts_have_lines : ActsHaveLines
+unfolding listed_at entry_at
+acts_have_lines how V d k some = λ none. some (item_tells V (protocol_at (ops_of d) k) (in_file how.holes (offset_of d k)) (naming_at how.detail d k) (item_at d k) (run (start d.many) (ops_of d) k) (run (start d.many) (ops_of d) (suc k)) none)
 
 -- ---- status 0
 
@@ -108,8 +108,8 @@ all_reached d k s (Some o) is here none most within =
     run_suc (start d.many) (ops_of d) k s here ∙ ap (λ (x : Option Operation). after x k (Some s)) is ∙ ap (λ (r : Option Refusal). result_ok (outcome r (next o k s))) none in
     absurd (omega (arith, most (suc k) (next o k s) (omega (arith, slice_get_within (ops_of d) k o is)) more))
 
-pub all_told : AllTold
-all_told how w d formed status =
+pub all_listed : AllListed
+all_listed how w d formed status =
     let law = loads_are_listed w d formed in
     let far = is_reached (start d.many) (ops_of d) (length (ops_of d)) in
     let k : ℕ = reached (start d.many) (ops_of d) (length (ops_of d)) in
@@ -120,21 +120,21 @@ all_told how w d formed status =
 
 -- ---- no line, no act
 
-told_same : (how : Manner) (V : ℕ → Value) (d : Contents) (k : ℕ) → (entry_at how d k).text ≡ [] → told V d.many (ops_of d) (suc k) ≡ told V d.many (ops_of d) k
-unfolding told told_at entry_at
-told_same how V d k none =
-    ap (λ (l : List Act). told V d.many (ops_of d) k ++ l)
+listed_same : (how : Manner) (V : ℕ → Value) (d : Contents) (k : ℕ) → (entry_at how d k).text ≡ [] → listed V d.many (ops_of d) (suc k) ≡ listed V d.many (ops_of d) k
+unfolding listed listed_at entry_at
+listed_same how V d k none =
+    ap (λ (l : List Act). listed V d.many (ops_of d) k ++ l)
     (item_tells V (protocol_at (ops_of d) k) (in_file how.holes (offset_of d k)) (naming_at how.detail d k) (item_at d k) (run (start d.many) (ops_of d) k) (run (start d.many) (ops_of d) (suc k)) none)
-    ∙ append-nil (told V d.many (ops_of d) k)
+    ∙ append-nil (listed V d.many (ops_of d) k)
 
--- no more is told than the state tells
-at_most : (w : World) (V : ℕ → Value) (acts : List Act) (s : State) (l : Loaded) → Follows w V acts s l → length (told_of (acts_of l)) ≤ length acts
+-- no more is listed than the state has
+at_most : (w : World) (V : ℕ → Value) (acts : List Act) (s : State) (l : Loaded) → Follows w V acts s l → length (listed_of (acts_of l)) ≤ length acts
 at_most w V acts s (Going u) f = omega (arith, ap length f.1)
 at_most w V acts s (Ended v u) f = omega (arith, ap length f.1)
-at_most w V acts s (Failed done) f = omega (arith, ap length f.1, length-append (told_of done) f.0)
+at_most w V acts s (Failed done) f = omega (arith, ap length f.1, length-append (listed_of done) f.0)
 
 no_more : (w : World) (V : ℕ → Value) (many : Bool) (acts : List Act) (s t : State) (o : Operation) (l : Loaded) → Follows w V acts s l → Follows w V acts t (load_item w many (Some o) l)
-    → length (told_of (acts_of (load_item w many (Some o) l))) ≤ length (told_of (acts_of l))
+    → length (listed_of (acts_of (load_item w many (Some o) l))) ≤ length (listed_of (acts_of l))
 no_more w V many acts s t o (Going u) f g = omega (arith, at_most w V acts t (load_item w many (Some o) (Going u)) g, ap length f.1)
 no_more w V many acts s t o (Ended v u) f g = omega (arith, at_most w V acts t (load_item w many (Some o) (Ended v u)) g, ap length f.1)
 no_more w V many acts s t o (Failed done) f g = omega arith
@@ -145,8 +145,8 @@ no_line_no_act how w d formed k t e none =
     let m = move_to (start d.many) (ops_of d) k t e in
     let before = law.1 k m.before m.reached in
     let next : load w d.many (ops_of d) (suc k) ≡ load_item w d.many (Some m.item) (load w d.many (ops_of d) k) = next_load w d.many (ops_of d) k m.item m.there in
-    let after : Follows w law.0 (told law.0 d.many (ops_of d) k) t (load_item w d.many (Some m.item) (load w d.many (ops_of d) k)) =
-    subst (λ (l : Loaded). Follows w law.0 (told law.0 d.many (ops_of d) k) t l) next
-    (subst (λ (acts : List Act). Follows w law.0 acts t (load w d.many (ops_of d) (suc k))) (told_same how law.0 d k none) (law.1 (suc k) t e)) in
-    subst (λ (l : Loaded). length (told_of (acts_of l)) ≤ length (told_of (acts_of (load w d.many (ops_of d) k)))) (sym next)
-    (no_more w law.0 d.many (told law.0 d.many (ops_of d) k) m.before t m.item (load w d.many (ops_of d) k) before after)
+    let after : Follows w law.0 (listed law.0 d.many (ops_of d) k) t (load_item w d.many (Some m.item) (load w d.many (ops_of d) k)) =
+    subst (λ (l : Loaded). Follows w law.0 (listed law.0 d.many (ops_of d) k) t l) next
+    (subst (λ (acts : List Act). Follows w law.0 acts t (load w d.many (ops_of d) (suc k))) (listed_same how law.0 d k none) (law.1 (suc k) t e)) in
+    subst (λ (l : Loaded). length (listed_of (acts_of l)) ≤ length (listed_of (acts_of (load w d.many (ops_of d) k)))) (sym next)
+    (no_more w law.0 d.many (listed law.0 d.many (ops_of d) k) m.before t m.item (load w d.many (ops_of d) k) before after)

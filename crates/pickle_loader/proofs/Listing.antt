@@ -20,7 +20,7 @@ use Rattle.pickle_show.specs.Event.{before_of, event_of}
 use Rattle.pickle_loader.specs.Environment.{Value, Plain, Act, Unpickler, World}
 use Rattle.pickle_loader.specs.Unpickler.{Step, Ran, Stopped, Raised}
 use Rattle.pickle_loader.specs.Dispatch.{dispatch, load_op, Loaded, Going, Ended, Failed, loaded, new_unpickler, load_item, load}
-use Rattle.pickle_loader.specs.Told.{told_of, acts_told, told_on, told_at, told, protocol_after, protocol_next, protocol_at}
+use Rattle.pickle_loader.specs.Listed.{listed_of, acts_listed, listed_on, listed_at, listed, protocol_after, protocol_next, protocol_at}
 use Rattle.pickle_loader.specs.Beyond.{HasValue}
 use Rattle.pickle_loader.specs.Laws.{IsResult, Follows, LoadsAreListed}
 use Rattle.pickle_loader.proofs.Images.{image}
@@ -34,9 +34,9 @@ use Rattle.pickle_loader.proofs.Still.{still, keeps_many, grows, fresh_running, 
 -- ---- how far both are
 
 abbrev pub Standing : (ℕ → Value) → World → List Act → ℕ → State → Loaded → Type 0
-Standing V w acts proto s (Going u) = (u ≡ image V (fresh s) proto u.acts) × Knows w V u.acts s.heap × (told_of u.acts ≡ acts)
-Standing V w acts proto s (Ended v u) = (told_of u.acts ≡ acts) × Knows w V u.acts s.heap × (s.stopped ≡ s.many) × (proto ≡ 0) × (0 < length s.results) × IsResult V s v
-Standing V w acts proto s (Failed done) = (rest : List Act) × (told_of done ++ rest ≡ acts)
+Standing V w acts proto s (Going u) = (u ≡ image V (fresh s) proto u.acts) × Knows w V u.acts s.heap × (listed_of u.acts ≡ acts)
+Standing V w acts proto s (Ended v u) = (listed_of u.acts ≡ acts) × Knows w V u.acts s.heap × (s.stopped ≡ s.many) × (proto ≡ 0) × (0 < length s.results) × IsResult V s v
+Standing V w acts proto s (Failed done) = (rest : List Act) × (listed_of done ++ rest ≡ acts)
 
 -- ---- one step
 
@@ -65,55 +65,55 @@ abbrev pub tells : Here → Operation → List Act
 tells h o = fresh_acts h (row_of o) (after_item h o)
 
 -- the result of a method leads on
-leads_on : (h : Here) (before : List Act) (o : Operation) (x : Step) → load_op h.w o (unpickler h) ≡ x → h.s.stopped ≡ false → told_of h.acts ≡ before
+leads_on : (h : Here) (before : List Act) (o : Operation) (x : Step) → load_op h.w o (unpickler h) ≡ x → h.s.stopped ≡ false → listed_of h.acts ≡ before
     → ((q : Unpickler) → x ≡ Ran q → length h.s.heap < length (after_item h o).heap → h.V (length h.s.heap) ≡ top_value q.stack)
     → Good h.V h.w h.s.heap h.acts (after_item h o) (tells h o) (protocol_after o.opcode o.arg h.proto) x
     → Standing h.V h.w (before ++ tells h o) (protocol_after o.opcode o.arg h.proto) (after_item h o) (loaded x)
-leads_on h before o (Ran q) is running told agrees good =
+leads_on h before o (Ran q) is running listed agrees good =
     let all = good (agrees q refl) in
-    let more : told_of q.acts ≡ before ++ tells h o = all.2 ∙ ap (λ (l : List Act). l ++ tells h o) told in
+    let more : listed_of q.acts ≡ before ++ tells h o = all.2 ∙ ap (λ (l : List Act). l ++ tells h o) listed in
     elim (still (row_of o) (kind_of o) h.place h.s) [
       | inl stop ↦ absurd (never_stop h.w o.opcode o.arg (unpickler h) q (stop_only o.opcode o.arg stop) (ran_by (h.w.fails (unpickler h) o) h.acts (dispatch h.w o.opcode o.arg (unpickler h)) q is))
       | inr same ↦
           let same_state : fresh (after_item h o) ≡ after_item h o = fresh_same (after_item h o) (same.stopped ∙ running) in
           (all.0 ∙ ap (λ (t : State). image h.V t (protocol_after o.opcode o.arg h.proto) q.acts) (sym same_state), all.1, more)
     ]
-leads_on h before o (Stopped v q) is running told agrees good = (good.0 ∙ ap (λ (l : List Act). l ++ tells h o) told, good.1, good.2, good.3, good.4, good.5)
-leads_on h before o (Raised done) is running told agrees good = (good.0, good.1 ∙ ap (λ (l : List Act). l ++ tells h o) told)
+leads_on h before o (Stopped v q) is running listed agrees good = (good.0 ∙ ap (λ (l : List Act). l ++ tells h o) listed, good.1, good.2, good.3, good.4, good.5)
+leads_on h before o (Raised done) is running listed agrees good = (good.0, good.1 ∙ ap (λ (l : List Act). l ++ tells h o) listed)
 
 -- an item on an unpickler that holds what the state holds
-item_on : (h : Here) (before : List Act) (o : Operation) → HasValue o → refusal_of (row_of o) h.s ≡ None → h.s.stopped ≡ false → told_of h.acts ≡ before
+item_on : (h : Here) (before : List Act) (o : Operation) → HasValue o → refusal_of (row_of o) h.s ≡ None → h.s.stopped ≡ false → listed_of h.acts ≡ before
     → ((q : Unpickler) → load_op h.w o (unpickler h) ≡ Ran q → length h.s.heap < length (after_item h o).heap → h.V (length h.s.heap) ≡ top_value q.stack)
     → Standing h.V h.w (before ++ tells h o) (protocol_after o.opcode o.arg h.proto) (after_item h o) (loaded (load_op h.w o (unpickler h)))
-item_on h before o value accepted running told agrees =
-    leads_on h before o (load_op h.w o (unpickler h)) refl running told agrees (op_good h o (h.w.fails (unpickler h) o) value accepted)
+item_on h before o value accepted running listed agrees =
+    leads_on h before o (load_op h.w o (unpickler h)) refl running listed agrees (op_good h o (h.w.fails (unpickler h) o) value accepted)
 
 -- the same of the unpickler that the state tells of
-item_by : (V : ℕ → Value) (w : World) (s f : State) (proto : ℕ) (acts before : List Act) (n : ℕ) (o : Operation) → HasValue o → fresh s ≡ f → Knows w V acts s.heap → refusal_at o s ≡ None → told_of acts ≡ before
+item_by : (V : ℕ → Value) (w : World) (s f : State) (proto : ℕ) (acts before : List Act) (n : ℕ) (o : Operation) → HasValue o → fresh s ≡ f → Knows w V acts s.heap → refusal_at o s ≡ None → listed_of acts ≡ before
     → ((q : Unpickler) → loaded (load_op w o (image V f proto acts)) ≡ Going q → length s.heap < length (next o n s).heap → V (length s.heap) ≡ top_value q.stack)
-    → Standing V w (before ++ acts_told V proto (fresh s) (next o n s) (event_of (row_of o) (before_of (fresh s)) (next o n s))) (protocol_after o.opcode o.arg proto) (next o n s) (loaded (load_op w o (image V f proto acts)))
-item_by V w s f proto acts before n o value is knows accepted told agrees =
+    → Standing V w (before ++ acts_listed V proto (fresh s) (next o n s) (event_of (row_of o) (before_of (fresh s)) (next o n s))) (protocol_after o.opcode o.arg proto) (next o n s) (loaded (load_op w o (image V f proto acts)))
+item_by V w s f proto acts before n o value is knows accepted listed agrees =
     let here : Here = record { V = V; w = w; s = fresh s; proto = proto; acts = acts; place = n; knows = subst (λ (l : List Object). Knows w V acts l) (sym (fresh_heap s)) knows } in
     let size : length (fresh s).heap ≡ length s.heap = ap length (fresh_heap s) in
-    subst (λ (g : State). Standing V w (before ++ acts_told V proto (fresh s) (next o n s) (event_of (row_of o) (before_of (fresh s)) (next o n s))) (protocol_after o.opcode o.arg proto) (next o n s) (loaded (load_op w o (image V g proto acts)))) is
-    (item_on here before o value accepted (fresh_running s) told
+    subst (λ (g : State). Standing V w (before ++ acts_listed V proto (fresh s) (next o n s) (event_of (row_of o) (before_of (fresh s)) (next o n s))) (protocol_after o.opcode o.arg proto) (next o n s) (loaded (load_op w o (image V g proto acts)))) is
+    (item_on here before o value accepted (fresh_running s) listed
     (λ q e more. ap V size ∙ agrees q (ap (λ (g : State). loaded (load_op w o (image V g proto acts))) (sym is) ∙ ap loaded e) (omega (arith, size, more))))
 
 step_by : (V : ℕ → Value) (w : World) (many : Bool) (s : State) (proto : ℕ) (before : List Act) (n : ℕ) (o : Operation) (l : Loaded) → HasValue o → s.many ≡ many → (many ≡ false → s.results ≡ []) → refusal_at o s ≡ None
     → Standing V w before proto s l
     → ((q : Unpickler) → load_item w many (Some o) l ≡ Going q → length s.heap < length (next o n s).heap → V (length s.heap) ≡ top_value q.stack)
-    → Standing V w (before ++ acts_told V proto (fresh s) (next o n s) (event_of (row_of o) (before_of (fresh s)) (next o n s))) (protocol_after o.opcode o.arg proto) (next o n s) (load_item w many (Some o) l)
+    → Standing V w (before ++ acts_listed V proto (fresh s) (next o n s) (event_of (row_of o) (before_of (fresh s)) (next o n s))) (protocol_after o.opcode o.arg proto) (next o n s) (load_item w many (Some o) l)
 step_by V w many s proto before n o (Going u) value mode few accepted st agrees =
-    let Result : Unpickler → Type 0 = λ (x : Unpickler). Standing V w (before ++ acts_told V proto (fresh s) (next o n s) (event_of (row_of o) (before_of (fresh s)) (next o n s))) (protocol_after o.opcode o.arg proto) (next o n s) (loaded (load_op w o x)) in
+    let Result : Unpickler → Type 0 = λ (x : Unpickler). Standing V w (before ++ acts_listed V proto (fresh s) (next o n s) (event_of (row_of o) (before_of (fresh s)) (next o n s))) (protocol_after o.opcode o.arg proto) (next o n s) (loaded (load_op w o x)) in
     subst Result (sym st.0) (item_by V w s (fresh s) proto u.acts before n o value refl st.1 accepted st.2 (λ q e more. agrees q (ap (λ (x : Unpickler). loaded (load_op w o x)) st.0 ∙ e) more))
 step_by V w true s proto before n o (Ended v u) value mode few accepted st agrees =
     let none : proto ≡ 0 = st.3 in
-    let Result : ℕ → Type 0 = λ (p : ℕ). Standing V w (before ++ acts_told V p (fresh s) (next o n s) (event_of (row_of o) (before_of (fresh s)) (next o n s))) (protocol_after o.opcode o.arg p) (next o n s) (loaded (load_op w o (new_unpickler u.acts))) in
+    let Result : ℕ → Type 0 = λ (p : ℕ). Standing V w (before ++ acts_listed V p (fresh s) (next o n s) (event_of (row_of o) (before_of (fresh s)) (next o n s))) (protocol_after o.opcode o.arg p) (next o n s) (loaded (load_op w o (new_unpickler u.acts))) in
     subst Result (sym none) (item_by V w s (begun s) 0 u.acts before n o value (fresh_begun s (st.2 ∙ mode)) st.1 accepted st.0 agrees)
 step_by V w false s proto before n o (Ended v u) value mode few accepted st agrees = let none : length s.results ≡ 0 = ap length (few refl) in absurd (omega (arith, none, st.4))
 step_by V w many s proto before n o (Failed done) value mode few accepted st agrees =
-    let more : List Act = acts_told V proto (fresh s) (next o n s) (event_of (row_of o) (before_of (fresh s)) (next o n s)) in
-    (st.0 ++ more, sym (append_assoc (told_of done) st.0 more) ∙ ap (λ (l : List Act). l ++ more) st.1)
+    let more : List Act = acts_listed V proto (fresh s) (next o n s) (event_of (row_of o) (before_of (fresh s)) (next o n s)) in
+    (st.0 ++ more, sym (append_assoc (listed_of done) st.0 more) ∙ ap (λ (l : List Act). l ++ more) st.1)
 
 -- ---- along a run
 
@@ -123,7 +123,7 @@ Agrees V w many ops = (n : ℕ) (s t : State) (q : Unpickler) → run (start man
 
 pub record Inv (V : ℕ → Value) (w : World) (many : Bool) (ops : List Operation) (n : ℕ) (s : State) : Type 0 where
   pub mode : s.many ≡ many
-  pub stands : Standing V w (told V many ops n) (protocol_at ops n) s (load w many ops n)
+  pub stands : Standing V w (listed V many ops n) (protocol_at ops n) s (load w many ops n)
 
 pub next_load : (w : World) (many : Bool) (ops : List Operation) (n : ℕ) (o : Operation) → slice_get ops n ≡ Some o → load w many ops (suc n) ≡ load_item w many (Some o) (load w many ops n)
 unfolding load
@@ -133,16 +133,16 @@ pub next_protocol : (ops : List Operation) (n : ℕ) (o : Operation) → slice_g
 unfolding protocol_at
 next_protocol ops n o e = ap (λ (x : Option Operation). protocol_next x (protocol_at ops n)) e
 
-pub next_told : (V : ℕ → Value) (many : Bool) (ops : List Operation) (n : ℕ) (o : Operation) (s t : State) → slice_get ops n ≡ Some o → run (start many) ops n ≡ Some s → run (start many) ops (suc n) ≡ Some t
-    → told V many ops (suc n) ≡ told V many ops n ++ acts_told V (protocol_at ops n) (fresh s) t (event_of (row_of o) (before_of (fresh s)) t)
-unfolding told told_at
-next_told V many ops n o s t e f g =
-    ap (λ (x : Option Operation). told V many ops n ++ told_on V (protocol_at ops n) x (run (start many) ops n) (run (start many) ops (suc n))) e
-    ∙ ap (λ (x : Option State). told V many ops n ++ told_on V (protocol_at ops n) (Some o) x (run (start many) ops (suc n))) f
-    ∙ ap (λ (x : Option State). told V many ops n ++ told_on V (protocol_at ops n) (Some o) (Some s) x) g
+pub next_listed : (V : ℕ → Value) (many : Bool) (ops : List Operation) (n : ℕ) (o : Operation) (s t : State) → slice_get ops n ≡ Some o → run (start many) ops n ≡ Some s → run (start many) ops (suc n) ≡ Some t
+    → listed V many ops (suc n) ≡ listed V many ops n ++ acts_listed V (protocol_at ops n) (fresh s) t (event_of (row_of o) (before_of (fresh s)) t)
+unfolding listed listed_at
+next_listed V many ops n o s t e f g =
+    ap (λ (x : Option Operation). listed V many ops n ++ listed_on V (protocol_at ops n) x (run (start many) ops n) (run (start many) ops (suc n))) e
+    ∙ ap (λ (x : Option State). listed V many ops n ++ listed_on V (protocol_at ops n) (Some o) x (run (start many) ops (suc n))) f
+    ∙ ap (λ (x : Option State). listed V many ops n ++ listed_on V (protocol_at ops n) (Some o) (Some s) x) g
 
 start_inv : (V : ℕ → Value) (w : World) (many : Bool) (ops : List Operation) → Inv V w many ops 0 (start many)
-unfolding load told protocol_at
+unfolding load listed protocol_at
 start_inv V w many ops = record { mode = refl; stands = (refl, λ id o e. absurd cc, refl) }
 
 run_zero : (many : Bool) (ops : List Operation) (s : State) → run (start many) ops 0 ≡ Some s → start many ≡ s
@@ -158,17 +158,17 @@ along V w many ops agrees few values (suc n) t e =
     let o : Operation = m.item in
     let before : Inv V w many ops n s = along V w many ops agrees few values n s m.reached in
     let loads = next_load w many ops n o m.there in
-    let stands : Standing V w (told V many ops n ++ acts_told V (protocol_at ops n) (fresh s) (next o n s) (event_of (row_of o) (before_of (fresh s)) (next o n s))) (protocol_after o.opcode o.arg (protocol_at ops n)) (next o n s) (load_item w many (Some o) (load w many ops n)) =
-    step_by V w many s (protocol_at ops n) (told V many ops n) n o (load w many ops n) (values n o m.there) before.mode (λ one. few n s o one m.reached m.there) m.accepted before.stands
+    let stands : Standing V w (listed V many ops n ++ acts_listed V (protocol_at ops n) (fresh s) (next o n s) (event_of (row_of o) (before_of (fresh s)) (next o n s))) (protocol_after o.opcode o.arg (protocol_at ops n)) (next o n s) (load_item w many (Some o) (load w many ops n)) =
+    step_by V w many s (protocol_at ops n) (listed V many ops n) n o (load w many ops n) (values n o m.there) before.mode (λ one. few n s o one m.reached m.there) m.accepted before.stands
     (λ q f more. agrees n s t q m.reached e (loads ∙ f) (subst (λ (x : State). length s.heap < length x.heap) m.leads more)) in
-    let at : Standing V w (told V many ops n ++ acts_told V (protocol_at ops n) (fresh s) t (event_of (row_of o) (before_of (fresh s)) t)) (protocol_after o.opcode o.arg (protocol_at ops n)) t (load_item w many (Some o) (load w many ops n)) =
-    subst (λ (x : State). Standing V w (told V many ops n ++ acts_told V (protocol_at ops n) (fresh s) x (event_of (row_of o) (before_of (fresh s)) x)) (protocol_after o.opcode o.arg (protocol_at ops n)) x (load_item w many (Some o) (load w many ops n))) m.leads stands in
+    let at : Standing V w (listed V many ops n ++ acts_listed V (protocol_at ops n) (fresh s) t (event_of (row_of o) (before_of (fresh s)) t)) (protocol_after o.opcode o.arg (protocol_at ops n)) t (load_item w many (Some o) (load w many ops n)) =
+    subst (λ (x : State). Standing V w (listed V many ops n ++ acts_listed V (protocol_at ops n) (fresh s) x (event_of (row_of o) (before_of (fresh s)) x)) (protocol_after o.opcode o.arg (protocol_at ops n)) x (load_item w many (Some o) (load w many ops n))) m.leads stands in
     record {
       mode = ap (λ (x : State). x.many) (sym m.leads) ∙ keeps_many (row_of o) (kind_of o) n (fresh s) ∙ fresh_many s ∙ before.mode;
       stands =
-          subst (λ (l : List Act). Standing V w l (protocol_at ops (suc n)) t (load w many ops (suc n))) (sym (next_told V many ops n o s t m.there m.reached e))
-          (subst (λ (p : ℕ). Standing V w (told V many ops n ++ acts_told V (protocol_at ops n) (fresh s) t (event_of (row_of o) (before_of (fresh s)) t)) p t (load w many ops (suc n))) (sym (next_protocol ops n o m.there))
-          (subst (λ (l : Loaded). Standing V w (told V many ops n ++ acts_told V (protocol_at ops n) (fresh s) t (event_of (row_of o) (before_of (fresh s)) t)) (protocol_after o.opcode o.arg (protocol_at ops n)) t l) (sym loads) at));
+          subst (λ (l : List Act). Standing V w l (protocol_at ops (suc n)) t (load w many ops (suc n))) (sym (next_listed V many ops n o s t m.there m.reached e))
+          (subst (λ (p : ℕ). Standing V w (listed V many ops n ++ acts_listed V (protocol_at ops n) (fresh s) t (event_of (row_of o) (before_of (fresh s)) t)) p t (load w many ops (suc n))) (sym (next_protocol ops n o m.there))
+          (subst (λ (l : Loaded). Standing V w (listed V many ops n ++ acts_listed V (protocol_at ops n) (fresh s) t (event_of (row_of o) (before_of (fresh s)) t)) (protocol_after o.opcode o.arg (protocol_at ops n)) t l) (sym loads) at));
     }
 
 -- ---- the law

@@ -119,5 +119,5 @@ holds_on how w f bytes all n s (Some q) is none e =
 pub memo_holds : (how : Detail) (w : World) (f : Frames) (bytes : List ℕ) (all : ByItems w (one f) bytes) (n : ℕ) (s : State) → NoneLost (one f) (standing_first how pickles.OneMemo bytes) n
     → state_behind (ignoring pickles.OneMemo) (standing_first how pickles.OneMemo bytes) n ≡ Some s → Holds w all.V s (load_way w (one f) bytes n).now
 unfolding state_behind
-memo_holds how w f bytes all zero s none e = all.told.values zero s e
+memo_holds how w f bytes all zero s none e = all.listed.values zero s e
 memo_holds how w f bytes all (suc n) s none e = holds_on how w f bytes all n s (stands (one f) (standing_first how pickles.OneMemo bytes) n) refl none e

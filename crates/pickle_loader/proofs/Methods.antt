@@ -22,12 +22,12 @@ use Rattle.pickle_machine.specs.Move.{deep, last_of, without, cut, push, put_on,
 use Rattle.pickle_show.specs.Event.{made_event, event_of, before_of}
 use Rattle.pickle_loader.specs.Environment.{PyType, PyTuple, PyList, PyDict, PyFrozenSet, Value, Plain, Own, is_elsewhere, Line, Given, Act, Make, Find, Extension, Call, New, NewEx, Instance, Persist, NextBuffer, Method, Reply, Raises, Answers, Unpickler, World}
 use Rattle.pickle_loader.specs.Unpickler.{Step, Ran, Stopped, Raised, item, append, answered, ask, get, tell, acted, make, got, if_able, can_call, can_call_with, instantiated, is_str, load_proto, load_frame, load_binpersid, load_literal, load_next_buffer, load_tuple, load_tuple_of, load_frozenset, load_list, load_dict, load_inst, load_obj, load_newobj, load_newobj_ex, load_stack_global, load_ext, load_reduce, load_pop, load_pop_mark, load_dup, load_get, load_put, load_memoize, load_mark, load_stop, pop, pop_mark, on_top}
-use Rattle.pickle_loader.specs.Told.{told_of, making, acts_told}
+use Rattle.pickle_loader.specs.Listed.{listed_of, making, acts_listed}
 use Rattle.pickle_loader.specs.Laws.{entries}
-use Rattle.pickle_loader.proofs.Images.{image, told-append, pop_image, on_top_image, mark_image, insert_image, lookup_image, last_image, within_le}
+use Rattle.pickle_loader.proofs.Images.{image, listed-append, pop_image, on_top_image, mark_image, insert_image, lookup_image, last_image, within_le}
 use Rattle.pickle_machine.proofs.Shown.{last_of_more}
 use Rattle.pickle_loader.specs.Values.{Origin, AsLiteral, AsMade, AsAnswer, origin, IsFrom, Knows}
-use Rattle.pickle_loader.proofs.Pushes.{knows_more, Good, pushed_good, asked_good, told_pushed, told_stays, told_one}
+use Rattle.pickle_loader.proofs.Pushes.{knows_more, Good, pushed_good, asked_good, listed_pushed, listed_stays, listed_one}
 
 -- ---- where a step is taken
 
@@ -46,7 +46,7 @@ unpickler h = image h.V h.s h.proto h.acts
 
 -- what the step of a row tells
 abbrev pub fresh_acts : Here → Row → State → List Act
-fresh_acts h r t = acts_told h.V h.proto h.s t (event_of r (before_of h.s) t)
+fresh_acts h r t = acts_listed h.V h.proto h.s t (event_of r (before_of h.s) t)
 
 -- a method is right for a row
 abbrev pub RowGood : Here → Row → Kind → ℕ → Step → Type 0
@@ -61,26 +61,26 @@ passes false r rest e = absurd cc
 pub nothing_new : (xs new : List Act) → new ≡ [] → xs ≡ xs ++ new
 nothing_new xs new e = sym (append-nil xs) ∙ ap (λ (l : List Act). xs ++ l) (sym e)
 
--- acts that are not told
-pub quiet : (acts : List Act) (a : Act) → told_of (a ∷ []) ≡ [] → told_of (acts ++ a ∷ []) ≡ told_of acts
-quiet acts a e = told_one acts a ∙ ap (λ (l : List Act). told_of acts ++ l) e ∙ append-nil (told_of acts)
+-- acts that are not listed
+pub quiet : (acts : List Act) (a : Act) → listed_of (a ∷ []) ≡ [] → listed_of (acts ++ a ∷ []) ≡ listed_of acts
+quiet acts a e = listed_one acts a ∙ ap (λ (l : List Act). listed_of acts ++ l) e ∙ append-nil (listed_of acts)
 
-pub raised_good : (V : ℕ → Value) (w : World) (heap : List Object) (acts : List Act) (t : State) (new : List Act) (proto : ℕ) (done : List Act) → told_of done ≡ told_of acts
+pub raised_good : (V : ℕ → Value) (w : World) (heap : List Object) (acts : List Act) (t : State) (new : List Act) (proto : ℕ) (done : List Act) → listed_of done ≡ listed_of acts
     → Good V w heap acts t new proto (Raised done)
 raised_good V w heap acts t new proto done e = (new, ap (λ (l : List Act). l ++ new) e)
 
 -- the heap stays
-pub stays_good : (h : Here) (t : State) (proto : ℕ) (q : Unpickler) (more : List Act) → t.heap ≡ h.s.heap → q ≡ image h.V t proto q.acts → q.acts ≡ h.acts ++ more → told_of q.acts ≡ told_of h.acts
-    → Good h.V h.w h.s.heap h.acts t (acts_told h.V h.proto h.s t (made_event t.heap (length h.s.heap))) proto (Ran q)
-stays_good h t proto q more e is acts told foretold =
-    (is, subst (λ (l : List Act). Knows h.w h.V l t.heap) (sym acts) (knows_more h.w h.V h.acts more t.heap (subst (λ (l : List Object). Knows h.w h.V h.acts l) (sym e) h.knows)), told ∙ nothing_new _ _ (told_stays h.V h.proto h.s t h.s.heap e))
+pub stays_good : (h : Here) (t : State) (proto : ℕ) (q : Unpickler) (more : List Act) → t.heap ≡ h.s.heap → q ≡ image h.V t proto q.acts → q.acts ≡ h.acts ++ more → listed_of q.acts ≡ listed_of h.acts
+    → Good h.V h.w h.s.heap h.acts t (acts_listed h.V h.proto h.s t (made_event t.heap (length h.s.heap))) proto (Ran q)
+stays_good h t proto q more e is acts listed foretold =
+    (is, subst (λ (l : List Act). Knows h.w h.V l t.heap) (sym acts) (knows_more h.w h.V h.acts more t.heap (subst (λ (l : List Object). Knows h.w h.V h.acts l) (sym e) h.knows)), listed ∙ nothing_new _ _ (listed_stays h.V h.proto h.s t h.s.heap e))
 
 -- the same behind a method that runs unseen
-told_quietly : (h : Here) (r : Reply) (t : State) (proto : ℕ) (u : Unpickler) → t.heap ≡ h.s.heap → u ≡ image h.V t proto u.acts → u.acts ≡ h.acts
-    → Good h.V h.w h.s.heap h.acts t (acts_told h.V h.proto h.s t (made_event t.heap (length h.s.heap))) proto (answered r Method u (λ v q. Ran q))
-told_quietly h Raises t proto u e is same = raised_good h.V h.w h.s.heap h.acts t _ proto (u.acts ++ Method ∷ []) (quiet u.acts Method refl ∙ ap told_of same)
-told_quietly h (Answers x) t proto u e is same =
-    stays_good h t proto (acted Method u) (Method ∷ []) e (ap (λ (q : Unpickler). acted Method q) is) (ap (λ (l : List Act). l ++ Method ∷ []) same) (quiet u.acts Method refl ∙ ap told_of same)
+quiet_good : (h : Here) (r : Reply) (t : State) (proto : ℕ) (u : Unpickler) → t.heap ≡ h.s.heap → u ≡ image h.V t proto u.acts → u.acts ≡ h.acts
+    → Good h.V h.w h.s.heap h.acts t (acts_listed h.V h.proto h.s t (made_event t.heap (length h.s.heap))) proto (answered r Method u (λ v q. Ran q))
+quiet_good h Raises t proto u e is same = raised_good h.V h.w h.s.heap h.acts t _ proto (u.acts ++ Method ∷ []) (quiet u.acts Method refl ∙ ap listed_of same)
+quiet_good h (Answers x) t proto u e is same =
+    stays_good h t proto (acted Method u) (Method ∷ []) e (ap (λ (q : Unpickler). acted Method q) is) (ap (λ (l : List Act). l ++ Method ∷ []) same) (quiet u.acts Method refl ∙ ap listed_of same)
 
 -- ---- methods that push
 
@@ -90,45 +90,45 @@ frame_good h k e = stays_good h h.s h.proto (unpickler h) [] refl refl (sym (app
 pub proto_good : (h : Here) (k : Kind) (n : ℕ) → RowGood h (row.Protocol n) k n (load_proto n (unpickler h))
 proto_good h k n e =
     let fine = passes (nat_le n 5) (refusal.BadProtocol n) None e in
-    subst (λ (b : Bool). Good h.V h.w h.s.heap h.acts h.s (acts_told h.V h.proto h.s h.s (made_event h.s.heap (length h.s.heap))) n (if b then Ran (record (unpickler h) { proto = n }) else Raised h.acts)) (sym fine.0)
+    subst (λ (b : Bool). Good h.V h.w h.s.heap h.acts h.s (acts_listed h.V h.proto h.s h.s (made_event h.s.heap (length h.s.heap))) n (if b then Ran (record (unpickler h) { proto = n }) else Raised h.acts)) (sym fine.0)
     (stays_good h h.s n (record (unpickler h) { proto = n }) [] refl refl (sym (append-nil h.acts)) refl)
 
 pub literal_good : (h : Here) (k : Kind) → origin k [] ≡ AsLiteral → ((vs : List Value) → making h.proto k vs ≡ []) → RowGood h row.Push k h.proto (load_literal k (unpickler h))
 literal_good h k from none e =
-    pushed_good h.V h.w h.s k [] h.proto h.acts h.acts _ (Plain k) (subst (λ (x : Origin). IsFrom h.w h.acts k (Plain k) x) (sym from) refl) h.knows (nothing_new _ _ (told_pushed h.V h.proto h.s (push k [] h.s) h.s.heap _ refl ∙ none []))
+    pushed_good h.V h.w h.s k [] h.proto h.acts h.acts _ (Plain k) (subst (λ (x : Origin). IsFrom h.w h.acts k (Plain k) x) (sym from) refl) h.knows (nothing_new _ _ (listed_pushed h.V h.proto h.s (push k [] h.s) h.s.heap _ refl ∙ none []))
 
 -- a container is made of what was taken
-made_good : (h : Here) (u : State) (k : Kind) (parts : List ℕ) (t : PyType) (items : List Value) (more : List Act) → u.heap ≡ h.s.heap → told_of (h.acts ++ more) ≡ told_of h.acts → origin k (map h.V parts) ≡ AsMade t items → ((vs : List Value) → making h.proto k vs ≡ [])
-    → Good h.V h.w u.heap h.acts (push k parts u) (acts_told h.V h.proto h.s (push k parts u) (made_event (push k parts u).heap (length u.heap))) h.proto (make t items (image h.V u h.proto (h.acts ++ more)))
+made_good : (h : Here) (u : State) (k : Kind) (parts : List ℕ) (t : PyType) (items : List Value) (more : List Act) → u.heap ≡ h.s.heap → listed_of (h.acts ++ more) ≡ listed_of h.acts → origin k (map h.V parts) ≡ AsMade t items → ((vs : List Value) → making h.proto k vs ≡ [])
+    → Good h.V h.w u.heap h.acts (push k parts u) (acts_listed h.V h.proto h.s (push k parts u) (made_event (push k parts u).heap (length u.heap))) h.proto (make t items (image h.V u h.proto (h.acts ++ more)))
 made_good h u k parts t items more e same from none =
     let acts : List Act = h.acts ++ more in
     pushed_good h.V h.w u k parts h.proto h.acts (acts ++ Make t items ∷ []) _ (Own t (length acts))
     (subst (λ (x : Origin). IsFrom h.w (acts ++ Make t items ∷ []) k (Own t (length acts)) x) (sym from) (length acts, refl, last_of_more acts (Make t items)))
     (knows_more h.w h.V acts (Make t items ∷ []) u.heap (knows_more h.w h.V h.acts more u.heap (subst (λ (l : List Object). Knows h.w h.V h.acts l) (sym e) h.knows)))
-    (quiet acts (Make t items) refl ∙ same ∙ nothing_new _ _ (told_pushed h.V h.proto h.s (push k parts u) u.heap _ refl ∙ none _))
+    (quiet acts (Make t items) refl ∙ same ∙ nothing_new _ _ (listed_pushed h.V h.proto h.s (push k parts u) u.heap _ refl ∙ none _))
 
 -- with no act before it
 made_at_once : (h : Here) (u : State) (k : Kind) (parts : List ℕ) (t : PyType) (items : List Value) → u.heap ≡ h.s.heap → origin k (map h.V parts) ≡ AsMade t items → ((vs : List Value) → making h.proto k vs ≡ [])
-    → Good h.V h.w u.heap h.acts (push k parts u) (acts_told h.V h.proto h.s (push k parts u) (made_event (push k parts u).heap (length u.heap))) h.proto (make t items (image h.V u h.proto h.acts))
+    → Good h.V h.w u.heap h.acts (push k parts u) (acts_listed h.V h.proto h.s (push k parts u) (made_event (push k parts u).heap (length u.heap))) h.proto (make t items (image h.V u h.proto h.acts))
 made_at_once h u k parts t items e from none =
-    subst (λ (l : List Act). Good h.V h.w u.heap h.acts (push k parts u) (acts_told h.V h.proto h.s (push k parts u) (made_event (push k parts u).heap (length u.heap))) h.proto (make t items (image h.V u h.proto l))) (append-nil h.acts)
-    (made_good h u k parts t items [] e (ap told_of (append-nil h.acts)) from none)
+    subst (λ (l : List Act). Good h.V h.w u.heap h.acts (push k parts u) (acts_listed h.V h.proto h.s (push k parts u) (made_event (push k parts u).heap (length u.heap))) h.proto (make t items (image h.V u h.proto l))) (append-nil h.acts)
+    (made_good h u k parts t items [] e (ap listed_of (append-nil h.acts)) from none)
 
 pub empty_good : (h : Here) (k : Kind) (t : PyType) (items : List Value) → origin k [] ≡ AsMade t items → ((vs : List Value) → making h.proto k vs ≡ []) → RowGood h row.Push k h.proto (make t items (unpickler h))
 empty_good h k t items from none e = made_at_once h h.s k [] t items refl from none
 
 -- the environment is asked for an object
-told_new : (h : Here) (u : State) (k : Kind) (parts : List ℕ) (a : Act) (acts : List Act) → told_of acts ≡ told_of h.acts → told_of (a ∷ []) ≡ making h.proto k (map h.V parts)
-    → told_of (acts ++ a ∷ []) ≡ told_of h.acts ++ acts_told h.V h.proto h.s (push k parts u) (made_event (push k parts u).heap (length u.heap))
-told_new h u k parts a acts same is =
-    told_one acts a ∙ ap (λ (l : List Act). l ++ told_of (a ∷ [])) same ∙ ap (λ (l : List Act). told_of h.acts ++ l) (is ∙ sym (told_pushed h.V h.proto h.s (push k parts u) u.heap _ refl))
+listed_new : (h : Here) (u : State) (k : Kind) (parts : List ℕ) (a : Act) (acts : List Act) → listed_of acts ≡ listed_of h.acts → listed_of (a ∷ []) ≡ making h.proto k (map h.V parts)
+    → listed_of (acts ++ a ∷ []) ≡ listed_of h.acts ++ acts_listed h.V h.proto h.s (push k parts u) (made_event (push k parts u).heap (length u.heap))
+listed_new h u k parts a acts same is =
+    listed_one acts a ∙ ap (λ (l : List Act). l ++ listed_of (a ∷ [])) same ∙ ap (λ (l : List Act). listed_of h.acts ++ l) (is ∙ sym (listed_pushed h.V h.proto h.s (push k parts u) u.heap _ refl))
 
-pub got_good : (h : Here) (u : State) (k : Kind) (parts : List ℕ) (a : ℕ → Act) → u.heap ≡ h.s.heap → origin k (map h.V parts) ≡ AsAnswer a → told_of (a h.proto ∷ []) ≡ making h.proto k (map h.V parts)
-    → Good h.V h.w u.heap h.acts (push k parts u) (acts_told h.V h.proto h.s (push k parts u) (made_event (push k parts u).heap (length u.heap))) h.proto (get h.w (a h.proto) (image h.V u h.proto h.acts))
+pub got_good : (h : Here) (u : State) (k : Kind) (parts : List ℕ) (a : ℕ → Act) → u.heap ≡ h.s.heap → origin k (map h.V parts) ≡ AsAnswer a → listed_of (a h.proto ∷ []) ≡ making h.proto k (map h.V parts)
+    → Good h.V h.w u.heap h.acts (push k parts u) (acts_listed h.V h.proto h.s (push k parts u) (made_event (push k parts u).heap (length u.heap))) h.proto (get h.w (a h.proto) (image h.V u h.proto h.acts))
 got_good h u k parts a e from is =
-    asked_good h.V h.w (h.w.reply h.acts (a h.proto)) u k parts h.proto h.acts h.acts _ a from (subst (λ (l : List Object). Knows h.w h.V h.acts l) (sym e) h.knows) (told_new h u k parts (a h.proto) h.acts refl is)
+    asked_good h.V h.w (h.w.reply h.acts (a h.proto)) u k parts h.proto h.acts h.acts _ a from (subst (λ (l : List Object). Knows h.w h.V h.acts l) (sym e) h.knows) (listed_new h u k parts (a h.proto) h.acts refl is)
 
--- where it is able to: else it raises, and what runs before is not told
+-- where it is able to: else it raises, and what runs before is not listed
 able_by : (h : Here) (heap : List Object) (t : State) (new : List Act) (u : State) (r : Reply) → Good h.V h.w heap h.acts t new h.proto (answered r Method (image h.V u h.proto h.acts) (λ v q. Raised q.acts))
 able_by h heap t new u Raises = raised_good h.V h.w heap h.acts t new h.proto (h.acts ++ Method ∷ []) (quiet h.acts Method refl)
 able_by h heap t new u (Answers x) = raised_good h.V h.w heap h.acts t new h.proto (h.acts ++ Method ∷ []) (quiet h.acts Method refl)
@@ -138,12 +138,12 @@ able_good : (h : Here) (heap : List Object) (t : State) (new : List Act) (u : St
 able_good h heap t new u true step good = good
 able_good h heap t new u false step good = able_by h heap t new u (h.w.reply h.acts Method)
 
-pub able_got : (h : Here) (u : State) (k : Kind) (parts : List ℕ) (a : ℕ → Act) (b : Bool) → u.heap ≡ h.s.heap → origin k (map h.V parts) ≡ AsAnswer a → told_of (a h.proto ∷ []) ≡ making h.proto k (map h.V parts)
-    → Good h.V h.w u.heap h.acts (push k parts u) (acts_told h.V h.proto h.s (push k parts u) (made_event (push k parts u).heap (length u.heap))) h.proto (if_able h.w b (image h.V u h.proto h.acts) (get h.w (a h.proto) (image h.V u h.proto h.acts)))
+pub able_got : (h : Here) (u : State) (k : Kind) (parts : List ℕ) (a : ℕ → Act) (b : Bool) → u.heap ≡ h.s.heap → origin k (map h.V parts) ≡ AsAnswer a → listed_of (a h.proto ∷ []) ≡ making h.proto k (map h.V parts)
+    → Good h.V h.w u.heap h.acts (push k parts u) (acts_listed h.V h.proto h.s (push k parts u) (made_event (push k parts u).heap (length u.heap))) h.proto (if_able h.w b (image h.V u h.proto h.acts) (get h.w (a h.proto) (image h.V u h.proto h.acts)))
 able_got h u k parts a b e from is =
-    able_good h u.heap (push k parts u) (acts_told h.V h.proto h.s (push k parts u) (made_event (push k parts u).heap (length u.heap))) u b (get h.w (a h.proto) (image h.V u h.proto h.acts)) (got_good h u k parts a e from is)
+    able_good h u.heap (push k parts u) (acts_listed h.V h.proto h.s (push k parts u) (made_event (push k parts u).heap (length u.heap))) u b (get h.w (a h.proto) (image h.V u h.proto h.acts)) (got_good h u k parts a e from is)
 
-pub get_good : (h : Here) (k : Kind) (a : ℕ → Act) → origin k [] ≡ AsAnswer a → told_of (a h.proto ∷ []) ≡ making h.proto k [] → RowGood h row.Push k h.proto (get h.w (a h.proto) (unpickler h))
+pub get_good : (h : Here) (k : Kind) (a : ℕ → Act) → origin k [] ≡ AsAnswer a → listed_of (a h.proto ∷ []) ≡ making h.proto k [] → RowGood h row.Push k h.proto (get h.w (a h.proto) (unpickler h))
 get_good h k a from is e = got_good h h.s k [] a refl from is
 
 pub ext_good : (h : Here) (n : ℤ) → RowGood h (row.Extension n) (kind.Ext n) h.proto (load_ext h.w n (unpickler h))
@@ -183,7 +183,7 @@ pub newobj_ex_good : (h : Here) → RowGood h (row.Take taking.CallWith) kind.Ne
 newobj_ex_good h =
     taken_good h taking.CallWith kind.NewEx (λ vs q. if_able h.w (can_call_with h.w (item 0 vs) (item 1 vs) (item 2 vs)) q (get h.w (NewEx (item 0 vs) (item 1 vs) (item 2 vs)) q)) (λ e. able_got h (without 3 h.s) kind.NewEx (last_of 3 h.s) (λ proto. NewEx (item 0 (map h.V (last_of 3 h.s))) (item 1 (map h.V (last_of 3 h.s))) (item 2 (map h.V (last_of 3 h.s)))) (can_call_with h.w (item 0 (map h.V (last_of 3 h.s))) (item 1 (map h.V (last_of 3 h.s))) (item 2 (map h.V (last_of 3 h.s)))) refl refl refl)
 
-by_strings : (V : ℕ → Value) (w : World) (heap : List Object) (acts : List Act) (t : State) (new : List Act) (proto : ℕ) (b c : Bool) (x : Step) (done : List Act) → told_of done ≡ told_of acts
+by_strings : (V : ℕ → Value) (w : World) (heap : List Object) (acts : List Act) (t : State) (new : List Act) (proto : ℕ) (b c : Bool) (x : Step) (done : List Act) → listed_of done ≡ listed_of acts
     → Good V w heap acts t new proto x → Good V w heap acts t new proto (if b then (if c then x else Raised done) else Raised done)
 by_strings V w heap acts t new proto true true x done e g = g
 by_strings V w heap acts t new proto true false x done e g = raised_good V w heap acts t new proto done e
@@ -233,10 +233,10 @@ dict_good h =
     (λ e. dict_by h (h.w.reply h.acts Method) (length (map h.V h.s.top) % 2 == 0))
 
 -- INST asks twice
-two_told : (h : Here) (a b : Act) (k : Kind) (u : State) (parts : List ℕ) → told_of (a ∷ b ∷ []) ≡ making h.proto k (map h.V parts)
-    → told_of ((h.acts ++ a ∷ []) ++ b ∷ []) ≡ told_of h.acts ++ acts_told h.V h.proto h.s (push k parts u) (made_event (push k parts u).heap (length u.heap))
-two_told h a b k u parts is =
-    ap told_of (append_assoc h.acts (a ∷ []) (b ∷ [])) ∙ told-append h.acts (a ∷ b ∷ []) ∙ ap (λ (l : List Act). told_of h.acts ++ l) (is ∙ sym (told_pushed h.V h.proto h.s (push k parts u) u.heap _ refl))
+two_listed : (h : Here) (a b : Act) (k : Kind) (u : State) (parts : List ℕ) → listed_of (a ∷ b ∷ []) ≡ making h.proto k (map h.V parts)
+    → listed_of ((h.acts ++ a ∷ []) ++ b ∷ []) ≡ listed_of h.acts ++ acts_listed h.V h.proto h.s (push k parts u) (made_event (push k parts u).heap (length u.heap))
+two_listed h a b k u parts is =
+    ap listed_of (append_assoc h.acts (a ∷ []) (b ∷ [])) ∙ listed-append h.acts (a ∷ b ∷ []) ∙ ap (λ (l : List Act). listed_of h.acts ++ l) (is ∙ sym (listed_pushed h.V h.proto h.s (push k parts u) u.heap _ refl))
 
 inst_by : (h : Here) (first second : List ℕ) (r : Reply) → nat_lt 0 (length h.s.marked) ≡ true
     → Good h.V h.w h.s.heap h.acts (push (kind.Inst (record { first = first; second = second })) h.s.top (cut h.s)) (fresh_acts h (row.Cut cutting.Any) (push (kind.Inst (record { first = first; second = second })) h.s.top (cut h.s))) h.proto
@@ -245,8 +245,8 @@ inst_by h first second Raises marked =
     let a : Act = Find h.proto (Line first) (Line second) in
     let b : Act = Instance None (map h.V h.s.top) in (
       b ∷ [],
-      ap (λ (l : List Act). l ++ b ∷ []) (told_one h.acts a) ∙ append_assoc (told_of h.acts) (a ∷ []) (b ∷ [])
-          ∙ ap (λ (l : List Act). told_of h.acts ++ l) (sym (told_pushed h.V h.proto h.s (push (kind.Inst (record { first = first; second = second })) h.s.top (cut h.s)) h.s.heap _ refl)),
+      ap (λ (l : List Act). l ++ b ∷ []) (listed_one h.acts a) ∙ append_assoc (listed_of h.acts) (a ∷ []) (b ∷ [])
+          ∙ ap (λ (l : List Act). listed_of h.acts ++ l) (sym (listed_pushed h.V h.proto h.s (push (kind.Inst (record { first = first; second = second })) h.s.top (cut h.s)) h.s.heap _ refl)),
     )
 inst_by h first second (Answers t) marked =
     let a : Act = Find h.proto (Line first) (Line second) in
@@ -254,7 +254,7 @@ inst_by h first second (Answers t) marked =
     subst (λ (x : Step). Good h.V h.w h.s.heap h.acts (push k h.s.top (cut h.s)) (fresh_acts h (row.Cut cutting.Any) (push k h.s.top (cut h.s))) h.proto x)
     (sym (mark_image h.V h.s h.proto (h.acts ++ a ∷ []) (λ items q. get h.w (Instance None items) q) marked))
     (asked_good h.V h.w (h.w.reply (h.acts ++ a ∷ []) (Instance None (map h.V h.s.top))) (cut h.s) k h.s.top h.proto h.acts (h.acts ++ a ∷ []) _ (λ proto. Instance None (map h.V h.s.top)) refl (knows_more h.w h.V h.acts (a ∷ []) h.s.heap h.knows)
-    (two_told h a (Instance None (map h.V h.s.top)) k (cut h.s) h.s.top refl))
+    (two_listed h a (Instance None (map h.V h.s.top)) k (cut h.s) h.s.top refl))
 
 pub inst_good : (h : Here) (first second : List ℕ) → RowGood h (row.Cut cutting.Any) (kind.Inst (record { first = first; second = second })) h.proto (load_inst h.w first second (unpickler h))
 inst_good h first second e =
@@ -276,11 +276,11 @@ obj_good h =
 -- ---- methods that move values
 
 cut_quietly : (h : Here) → nat_lt 0 (length h.s.marked) ≡ true
-    → Good h.V h.w h.s.heap h.acts (cut h.s) (acts_told h.V h.proto h.s (cut h.s) (made_event h.s.heap (length h.s.heap))) h.proto (load_pop_mark h.w (unpickler h))
+    → Good h.V h.w h.s.heap h.acts (cut h.s) (acts_listed h.V h.proto h.s (cut h.s) (made_event h.s.heap (length h.s.heap))) h.proto (load_pop_mark h.w (unpickler h))
 cut_quietly h marked =
-    subst (λ (x : Step). Good h.V h.w h.s.heap h.acts (cut h.s) (acts_told h.V h.proto h.s (cut h.s) (made_event h.s.heap (length h.s.heap))) h.proto x)
+    subst (λ (x : Step). Good h.V h.w h.s.heap h.acts (cut h.s) (acts_listed h.V h.proto h.s (cut h.s) (made_event h.s.heap (length h.s.heap))) h.proto x)
     (sym (mark_image h.V h.s h.proto h.acts (λ items q. tell h.w Method q) marked))
-    (told_quietly h (h.w.reply h.acts Method) (cut h.s) h.proto (image h.V (cut h.s) h.proto h.acts) refl refl refl)
+    (quiet_good h (h.w.reply h.acts Method) (cut h.s) h.proto (image h.V (cut h.s) h.proto h.acts) refl refl refl)
 
 pub pop_mark_good : (h : Here) (k : Kind) → RowGood h row.PopMark k h.proto (load_pop_mark h.w (unpickler h))
 pop_mark_good h k e = cut_quietly h (passes (nat_lt 0 (length h.s.marked)) refusal.NoMark None e).0
@@ -307,7 +307,7 @@ pub put_good : (h : Here) (k : Kind) (key : ℕ) → RowGood h (row.Put key) k h
 put_good h k key e =
     let u : Unpickler = record (unpickler h) { memo = insert_entry nat_cmp (entries h.V h.s.memo) key (h.V (deep 0 h.s.top)) } in
     top_good h (put key h.s) _ h.proto (λ v. tell h.w Method (record (unpickler h) { memo = insert_entry nat_cmp (entries h.V h.s.memo) key v })) None e
-    (told_quietly h (h.w.reply h.acts Method) (put key h.s) h.proto u refl (ap (λ (m : List (ℕ × Value)). record (unpickler h) { memo = m }) (insert_image h.V h.s.memo key (deep 0 h.s.top))) refl)
+    (quiet_good h (h.w.reply h.acts Method) (put key h.s) h.proto u refl (ap (λ (m : List (ℕ × Value)). record (unpickler h) { memo = m }) (insert_image h.V h.s.memo key (deep 0 h.s.top))) refl)
 
 pub memoize_good : (h : Here) (k : Kind) → RowGood h row.Memoize k h.proto (load_memoize h.w (unpickler h))
 memoize_good h k e =
@@ -333,20 +333,20 @@ stop_good h k e =
     let value : item 0 (map h.V (last_of 1 h.s)) ≡ h.V (deep 0 h.s.top) = last_image h.V h.s (omega (arith, within_le 1 (length h.s.top) fine.0)) in
     subst (λ (x : Step). Good h.V h.w h.s.heap h.acts (next_of row.Stop k h.place h.s) (fresh_acts h row.Stop (next_of row.Stop k h.place h.s)) 0 x)
     (sym (pop_image h.V h.s h.proto h.acts 1 (λ vs q. Stopped (item 0 vs) q) fine.0))
-    (nothing_new _ _ (told_stays h.V h.proto h.s (next_of row.Stop k h.place h.s) h.s.heap refl), h.knows, refl, refl, omega (arith, length-append h.s.results (deep 0 h.s.top ∷ [])), (deep 0 h.s.top, last, value), refl)
+    (nothing_new _ _ (listed_stays h.V h.proto h.s (next_of row.Stop k h.place h.s) h.s.heap refl), h.knows, refl, refl, omega (arith, length-append h.s.results (deep 0 h.s.top ∷ [])), (deep 0 h.s.top, last, value), refl)
 
 -- POP takes a value, or the mark
 popped : Here → Unpickler
 popped h = record (unpickler h) { stack = take (length (map h.V h.s.top) - 1) (map h.V h.s.top) }
 
 PopGood : Here → Bool → Step → Type 0
-PopGood h c x = Good h.V h.w h.s.heap h.acts (cond c (without 1 h.s) (cut h.s)) (acts_told h.V h.proto h.s (cond c (without 1 h.s) (cut h.s)) (made_event (cond c (without 1 h.s) (cut h.s)).heap (length h.s.heap))) h.proto x
+PopGood h c x = Good h.V h.w h.s.heap h.acts (cond c (without 1 h.s) (cut h.s)) (acts_listed h.V h.proto h.s (cond c (without 1 h.s) (cut h.s)) (made_event (cond c (without 1 h.s) (cut h.s)).heap (length h.s.heap))) h.proto x
 
 pop_by : (h : Here) (b : Bool) → (if b then None else unless (nat_lt 0 (length h.s.marked)) refusal.Underflow None) ≡ None → PopGood h b (if b then tell h.w Method (popped h) else load_pop_mark h.w (unpickler h))
 unfolding popped PopGood
 pop_by h true e =
     let stack : take (length (map h.V h.s.top) - 1) (map h.V h.s.top) ≡ map h.V (take (length h.s.top - 1) h.s.top) = ap (λ (m : ℕ). take (m - 1) (map h.V h.s.top)) (length-map h.s.top h.V) ∙ take-map h.V (length h.s.top - 1) h.s.top in
-    told_quietly h (h.w.reply h.acts Method) (without 1 h.s) h.proto (popped h) refl (ap (λ (l : List Value). record (unpickler h) { stack = l }) stack) refl
+    quiet_good h (h.w.reply h.acts Method) (without 1 h.s) h.proto (popped h) refl (ap (λ (l : List Value). record (unpickler h) { stack = l }) stack) refl
 pop_by h false e = cut_quietly h (passes (nat_lt 0 (length h.s.marked)) refusal.Underflow None e).0
 
 pub pop_good : (h : Here) (k : Kind) → RowGood h row.Pop k h.proto (load_pop h.w (unpickler h))

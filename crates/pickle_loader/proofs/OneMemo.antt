@@ -30,15 +30,15 @@ use Rattle.pickle_further.specs.Parts.{ignoring, buffering, holding, are_many, s
 use Rattle.pickle_further.specs.CallsText.{document_calls, loss_line, first_loss, kept_status, tale_calls, kept_calls, IsCallsText}
 use Rattle.pickle_loader.specs.Environment.{Value, Act}
 use Rattle.pickle_loader.specs.Dispatch.{acts_of}
-use Rattle.pickle_loader.specs.Told.{told_of}
+use Rattle.pickle_loader.specs.Listed.{listed_of}
 use Rattle.pickle_loader.specs.Onward.{stands, state_behind, begins_anew, acts_before, unbuffered, NoneLost, IsFound, load_way}
 use Rattle.pickle_loader.specs.CLoad.{as_in_c}
-use Rattle.pickle_loader.specs.Text.{line_gone, lines_if, lost_lines, document_lines, kept_first, kept_last, kept_parts, kept_lines, IsAmong, way_of, are_told, OneWholeText, EachReachHasItsLine}
+use Rattle.pickle_loader.specs.Text.{line_gone, lines_if, lost_lines, document_lines, kept_first, kept_last, kept_parts, kept_lines, IsAmong, way_of, is_in_text, OneWholeText, EachReachHasItsLine}
 use Rattle.pickle_loader.specs.OneMemo.{NothingElseWithOneMemo, NothingElseWithOneMemoInC}
 use Rattle.pickle_loader.proofs.Bytes.{joined}
 use Rattle.pickle_loader.proofs.Losses.{loss_is_found}
 use Rattle.pickle_loader.proofs.Ways.{by_items}
-use Rattle.pickle_loader.proofs.CLoads.{told_in_c}
+use Rattle.pickle_loader.proofs.CLoads.{listed_in_c}
 use Rattle.pickle_loader.proofs.MemoValues.{memo_holds}
 use Rattle.pickle_loader.proofs.Details.{detail_tells_alike}
 use Rattle.pickle_loader.proofs.Holding.{held_none, none_at_all, acts_more, tells_to}
@@ -111,7 +111,7 @@ nothing_else_with_one_memo how w f bytes o e status =
     let none = no_loss how bytes o e status in (
       all.V,
       record {
-        acts = λ n. tells_all all.V how f bytes n (told_of (acts_of (load_way w (way_of pickles.OneMemo f) bytes n).now)) none (all.told.acts n);
+        acts = λ n. tells_all all.V how f bytes n (listed_of (acts_of (load_way w (way_of pickles.OneMemo f) bytes n).now)) none (all.listed.acts n);
         values = λ n s is. memo_holds how.detail w f bytes all n s (nothing_lost how.detail bytes none f n) is;
       },
     )
@@ -119,7 +119,7 @@ nothing_else_with_one_memo how w f bytes o e status =
 pub nothing_else_with_one_memo_in_c : NothingElseWithOneMemoInC
 nothing_else_with_one_memo_in_c how w f bytes o e status =
     let all = nothing_else_with_one_memo how (as_in_c w) f bytes o e status in
-    (all.0, told_in_c w (way_of pickles.OneMemo f) bytes all.0 (acts_before all.0 (ignoring pickles.OneMemo) (Memo how bytes)) (state_behind (ignoring pickles.OneMemo) (Memo how bytes)) all.1)
+    (all.0, listed_in_c w (way_of pickles.OneMemo f) bytes all.0 (acts_before all.0 (ignoring pickles.OneMemo) (Memo how bytes)) (state_behind (ignoring pickles.OneMemo) (Memo how bytes)) all.1)
 
 -- ---- each reach, with one memo
 
@@ -186,28 +186,28 @@ read_so p bytes d reads small anew = record {
 abbrev Reaches : Manner → Pickles → Frames → List ℕ → List (List ℕ) → Type 0
 Reaches how p f bytes lines = (n : ℕ) (q : Standing) → stands (way_of p f) (standing_first how.detail p bytes) n ≡ Some q → HasEvent (way_of p f) q → IsAmong (line_gone how.holes q (going (way_of p f) q)) lines
 
-document_reaches : (how : Manner) (p : Pickles) (f : Frames) (bytes : List ℕ) (d : Contents) → ReadsAs (are_many p) bytes d → length bytes < 2 ^ 64 → begins_anew p ≡ true → are_told p f ≡ true → Reaches how p f bytes (document_lines how p d)
-document_reaches how pickles.First frames.Ignored bytes d reads small anew told =
+document_reaches : (how : Manner) (p : Pickles) (f : Frames) (bytes : List ℕ) (d : Contents) → ReadsAs (are_many p) bytes d → length bytes < 2 ^ 64 → begins_anew p ≡ true → is_in_text p f ≡ true → Reaches how p f bytes (document_lines how p d)
+document_reaches how pickles.First frames.Ignored bytes d reads small anew in_text =
     subst (λ (l : List ℕ). Reaches how pickles.First frames.Ignored l (document_lines how pickles.First d)) reads.whole (λ n q there ev. ignoring_reach how pickles.First d n q (read_so pickles.First bytes d reads small anew) there ev)
-document_reaches how pickles.All frames.Ignored bytes d reads small anew told =
+document_reaches how pickles.All frames.Ignored bytes d reads small anew in_text =
     subst (λ (l : List ℕ). Reaches how pickles.All frames.Ignored l (document_lines how pickles.All d)) reads.whole (λ n q there ev. ignoring_reach how pickles.All d n q (read_so pickles.All bytes d reads small anew) there ev)
-document_reaches how pickles.All frames.Buffered bytes d reads small anew told =
+document_reaches how pickles.All frames.Buffered bytes d reads small anew in_text =
     subst (λ (l : List ℕ). Reaches how pickles.All frames.Buffered l (document_lines how pickles.All d)) reads.whole (λ n q there ev. buffering_reach how d n q (read_so pickles.All bytes d reads small anew) there ev)
-document_reaches how pickles.All frames.Held bytes d reads small anew told = absurd cc
-document_reaches how pickles.First frames.Buffered bytes d reads small anew told =
+document_reaches how pickles.All frames.Held bytes d reads small anew in_text = absurd cc
+document_reaches how pickles.First frames.Buffered bytes d reads small anew in_text =
     subst (λ (l : List ℕ). Reaches how pickles.First frames.Buffered l (document_lines how pickles.First d)) reads.whole (λ n q there ev. first_reach how d n q (read_so pickles.First bytes d reads small anew) there ev)
-document_reaches how pickles.First frames.Held bytes d reads small anew told = absurd cc
-document_reaches how pickles.OneMemo f bytes d reads small anew told = absurd cc
+document_reaches how pickles.First frames.Held bytes d reads small anew in_text = absurd cc
+document_reaches how pickles.OneMemo f bytes d reads small anew in_text = absurd cc
 
-lines_reach : (how : Manner) (p : Pickles) (f : Frames) (bytes : List ℕ) (o : Output) → IsCallsText how p bytes o → length bytes < 2 ^ 64 → are_told p f ≡ true → Reaches how p f bytes (cut_lines o.text)
-lines_reach how pickles.OneMemo f bytes o text small told = λ n q there ev.
+lines_reach : (how : Manner) (p : Pickles) (f : Frames) (bytes : List ℕ) (o : Output) → IsCallsText how p bytes o → length bytes < 2 ^ 64 → is_in_text p f ≡ true → Reaches how p f bytes (cut_lines o.text)
+lines_reach how pickles.OneMemo f bytes o text small in_text = λ n q there ev.
     subst (IsAmong (line_gone how.holes q (going (way_of pickles.OneMemo f) q))) (sym (whole_text_is_its_lines how pickles.OneMemo bytes o text)) (memo_reach how f bytes n q there ev)
-lines_reach how pickles.First f bytes o text small told =
+lines_reach how pickles.First f bytes o text small in_text =
     let x = whole_text_is_its_lines how pickles.First bytes o text in
-    subst (Reaches how pickles.First f bytes) (sym x.2) (document_reaches how pickles.First f bytes x.0 x.1 small refl told)
-lines_reach how pickles.All f bytes o text small told =
+    subst (Reaches how pickles.First f bytes) (sym x.2) (document_reaches how pickles.First f bytes x.0 x.1 small refl in_text)
+lines_reach how pickles.All f bytes o text small in_text =
     let x = whole_text_is_its_lines how pickles.All bytes o text in
-    subst (Reaches how pickles.All f bytes) (sym x.2) (document_reaches how pickles.All f bytes x.0 x.1 small refl told)
+    subst (Reaches how pickles.All f bytes) (sym x.2) (document_reaches how pickles.All f bytes x.0 x.1 small refl in_text)
 
 event_of : (x : Option Event) → x ≢ None → (e : Event) × (x ≡ Some e)
 event_of None h = absurd (h refl)
@@ -217,10 +217,10 @@ no_event : {A : Type 0} (e : Event) (x : Option Event) → x ≡ Some e → x �
 no_event e x is none = let wrong : Some e ≡ None = sym is ∙ none in absurd cc
 
 pub each_reach_has_its_line : EachReachHasItsLine
-each_reach_has_its_line how p f bytes o text small told n q there =
+each_reach_has_its_line how p f bytes o text small in_text n q there =
     let g : Going = going (way_of p f) q in (
       λ V proto some none. let ev = tells_event V proto q g some in no_event ev.0 g.gone.event ev.1 none,
-      λ some. let ev = event_of g.gone.event some in (line_some how.holes q g ev.0 ev.1, lines_reach how p f bytes o text small told n q there ev),
+      λ some. let ev = event_of g.gone.event some in (line_some how.holes q g ev.0 ev.1, lines_reach how p f bytes o text small in_text n q there ev),
     )
 
 -- ---- one text

@@ -36,7 +36,7 @@ use Rattle.pickle_further.specs.Going.{Standing, going, stands_after, is_sought,
 use Rattle.pickle_further.specs.Parts.{stop_words, stop_line, ends_line, ignored_words, buffered_words, held_words, header, ignoring, buffering, holding, are_many, is_open, standing_at, standing_first, loss_at}
 use Rattle.pickle_further.specs.CallsText.{loss_words, loss_line, first_loss}
 use Rattle.pickle_loader.specs.Onward.{stands}
-use Rattle.pickle_loader.specs.Text.{line_gone, line_on, lines_before, all_lines, part_end_lines, told_lines, lines_from, lines_if, behind_lines, lost_lines, parts_lines, document_lines, kept_first, kept_last, kept_parts, kept_lines, IsAmong, are_told}
+use Rattle.pickle_loader.specs.Text.{line_gone, line_on, lines_before, all_lines, part_end_lines, part_lines, lines_from, lines_if, behind_lines, lost_lines, parts_lines, document_lines, kept_first, kept_last, kept_parts, kept_lines, IsAmong, is_in_text}
 use Rattle.pickle_loader.specs.Import.{import_line, IsStart, ImportsIt, OnlyImportsSayImport}
 use Rattle.pickle_loader.proofs.Losses.{shifted}
 use Rattle.pickle_loader.proofs.Reaches.{onward}
@@ -195,7 +195,7 @@ no_last a bytes imports calls e h = elim (among_split (line_asked a) (if_any (be
 
 -- ---- the lines of a reading
 
-in_reading : (a : Asked) (w : Way) (from : Standing) (k : ℕ) (p : Standing) (m : ℕ) → (w.pickles ≡ a.pickles) × (are_told w.pickles w.frames ≡ true) → IsStart a.how a.pickles a.bytes from → stands w from k ≡ Some p → IsAmong (line_asked a) (lines_before a.how.holes w p m) → Answer a
+in_reading : (a : Asked) (w : Way) (from : Standing) (k : ℕ) (p : Standing) (m : ℕ) → (w.pickles ≡ a.pickles) × (is_in_text w.pickles w.frames ≡ true) → IsStart a.how a.pickles a.bytes from → stands w from k ≡ Some p → IsAmong (line_asked a) (lines_before a.how.holes w p m) → Answer a
 unfolding lines_before
 in_reading a w from k p zero mode begins there h = among_none (line_asked a) h
 in_reading a w from k p (suc m) mode begins there h = elim (among_split (line_asked a) (lines_before a.how.holes w p m) (line_on a.how.holes w (stands w p m)) h) [
@@ -213,7 +213,7 @@ in_reading a w from k p (suc m) mode begins there h = elim (among_split (line_as
           place = k + m;
           standing = q;
           pickles = mode.0;
-          told = mode.1;
+          in_text = mode.1;
           begins = begins;
           stands = onward w from p k m there ∙ is;
           line_is = same;
@@ -238,8 +238,8 @@ search_stands x (suc n) w p q e = go (is_sought x (going w p).gone) (is_some (go
         let s = more f in
         record { place = suc s.place; there = shifted w p (stands_after p (going w p)) s.place (ap (λ (b : Bool). if b then None else Some (stands_after p (going w p))) is) ∙ s.there }
 
-in_told : (a : Asked) (w : Way) (from : Standing) (k : ℕ) (p : Standing) → (w.pickles ≡ a.pickles) × (are_told w.pickles w.frames ≡ true) → IsStart a.how a.pickles a.bytes from → stands w from k ≡ Some p → IsAmong (line_asked a) (told_lines a.how.holes w (Some p)) → Answer a
-in_told a w from k p mode begins there h =
+in_part_lines : (a : Asked) (w : Way) (from : Standing) (k : ℕ) (p : Standing) → (w.pickles ≡ a.pickles) × (is_in_text w.pickles w.frames ≡ true) → IsStart a.how a.pickles a.bytes from → stands w from k ≡ Some p → IsAmong (line_asked a) (part_lines a.how.holes w (Some p)) → Answer a
+in_part_lines a w from k p mode begins there h =
     let t : Tale = tale_of a.how.holes w p in
     elim (among_cons (line_asked a) (header w.frames) (all_lines a.how.holes w p ++ part_end_lines a.how.holes t) h) [
       | inl same ↦ no_import a 97 (header w.frames) (omega arith) (header_begins w.frames) same
@@ -255,16 +255,16 @@ in_told a w from k p mode begins there h =
       ]
     ]
 
-in_part : (a : Asked) (w : Way) (from : Standing) (k : ℕ) (p : Standing) → (w.pickles ≡ a.pickles) × (are_told w.pickles w.frames ≡ true) → IsStart a.how a.pickles a.bytes from → stands w from k ≡ Some p → IsAmong (line_asked a) (lines_from a.how.holes w p) → Answer a
+in_part : (a : Asked) (w : Way) (from : Standing) (k : ℕ) (p : Standing) → (w.pickles ≡ a.pickles) × (is_in_text w.pickles w.frames ≡ true) → IsStart a.how a.pickles a.bytes from → stands w from k ≡ Some p → IsAmong (line_asked a) (lines_from a.how.holes w p) → Answer a
 in_part a w from k p mode begins there h = go (search_from sought.Event w p) refl h
   where
-    go : (x : Option Standing) → search_from sought.Event w p ≡ x → IsAmong (line_asked a) (told_lines a.how.holes w x) → Answer a
+    go : (x : Option Standing) → search_from sought.Event w p ≡ x → IsAmong (line_asked a) (part_lines a.how.holes w x) → Answer a
     go None is h = among_none (line_asked a) h
     go (Some q) is h =
         let s = search_stands sought.Event (suc (length p.rest)) w p q is in
-        in_told a w from (k + s.place) q mode begins (onward w from p k s.place there ∙ s.there) h
+        in_part_lines a w from (k + s.place) q mode begins (onward w from p k s.place there ∙ s.there) h
 
-in_lost : (a : Asked) (w : Way) → (w.pickles ≡ a.pickles) × (are_told w.pickles w.frames ≡ true) → IsAmong (line_asked a) (lost_lines a.how w a.bytes) → Answer a
+in_lost : (a : Asked) (w : Way) → (w.pickles ≡ a.pickles) × (is_in_text w.pickles w.frames ≡ true) → IsAmong (line_asked a) (lost_lines a.how w a.bytes) → Answer a
 in_lost a w mode h = go (loss_at a.how.detail w a.bytes) refl h
   where
     first : Standing
@@ -278,15 +278,15 @@ in_lost a w mode h = go (loss_at a.how.detail w a.bytes) refl h
 
 -- ---- of a document
 
-told_ignored : (p : Pickles) → are_told p frames.Ignored ≡ true
-told_ignored pickles.All = refl
-told_ignored pickles.First = refl
-told_ignored pickles.OneMemo = refl
+ignored_in_text : (p : Pickles) → is_in_text p frames.Ignored ≡ true
+ignored_in_text pickles.All = refl
+ignored_in_text pickles.First = refl
+ignored_in_text pickles.OneMemo = refl
 
-told_buffered : (p : Pickles) → are_told p frames.Buffered ≡ true
-told_buffered pickles.All = refl
-told_buffered pickles.First = refl
-told_buffered pickles.OneMemo = refl
+buffered_in_text : (p : Pickles) → is_in_text p frames.Buffered ≡ true
+buffered_in_text pickles.All = refl
+buffered_in_text pickles.First = refl
+buffered_in_text pickles.OneMemo = refl
 
 stands_here : (w : Way) (q : Standing) → stands w q 0 ≡ Some q
 unfolding stands
@@ -304,7 +304,7 @@ item_imports a d k r reads (Some o) (Some s) (Some t) from to e f =
       place = 0;
       standing = q;
       pickles = refl;
-      told = told_ignored a.pickles;
+      in_text = ignored_in_text a.pickles;
       begins = inr (d, k, s, reads, from, refl);
       stands = stands_here (ignoring a.pickles) q;
       line_is = same;
@@ -329,7 +329,7 @@ in_behind : (a : Asked) (d : Contents) (k : ℕ) (x : Option State) → ReadsAs 
 in_behind a d k None reads is h = among_none (line_asked a) h
 in_behind a d k (Some s) reads is h =
     let q : Standing = standing_at a.how.detail d k s in
-    in_part a (ignoring a.pickles) q 0 q (refl, told_ignored a.pickles) (inr (d, k, s, reads, is, refl)) (stands_here (ignoring a.pickles) q) h
+    in_part a (ignoring a.pickles) q 0 q (refl, ignored_in_text a.pickles) (inr (d, k, s, reads, is, refl)) (stands_here (ignoring a.pickles) q) h
 
 in_parts : (a : Asked) (d : Contents) (b : Bool) → ReadsAs (are_many a.pickles) a.bytes d
     → IsAmong (line_asked a) (if b then behind_lines a.how a.pickles d (calls_end d).place (run (start d.many) (ops_of d) (calls_end d).place) ++ lost_lines a.how (buffering a.pickles) (document_bytes d) else []) → Answer a
@@ -339,7 +339,7 @@ in_parts a d true reads h =
     let lost : List (List ℕ) = lost_lines a.how (buffering a.pickles) (document_bytes d) in
     elim (among_split (line_asked a) first lost h) [
       | inl behind ↦ in_behind a d (calls_end d).place (run (start d.many) (ops_of d) (calls_end d).place) reads refl behind
-      | inr more ↦ in_lost a (buffering a.pickles) (refl, told_buffered a.pickles) (subst (λ (l : List ℕ). IsAmong (line_asked a) (lost_lines a.how (buffering a.pickles) l)) reads.whole more)
+      | inr more ↦ in_lost a (buffering a.pickles) (refl, buffered_in_text a.pickles) (subst (λ (l : List ℕ). IsAmong (line_asked a) (lost_lines a.how (buffering a.pickles) l)) reads.whole more)
     ]
 
 in_document : (a : Asked) (d : Contents) → IsReadSo a.pickles d → ReadsAs (are_many a.pickles) a.bytes d → IsAmong (line_asked a) (document_lines a.how a.pickles d) → Answer a

@@ -1,4 +1,4 @@
--- Along the items that loaders take, what is told of the unpickler is a beginning of what their lines tell.
+-- Along the items that loaders take, what is listed of the unpickler is a beginning of what their lines list.
 use Rattle.std.proofs.Common.{◌≡◌, ◌⊎◌, ℕ, ◌-◌, ◌<◌, Bool, true, false, List, [], ◌∷◌, ◌++◌, length, drop, Option, Some, None, Ok, Err, refl, sym, ap, subst, ◌∙◌, inl, inr, arith}
 use Rattle.std.specs.Prelude.{◌&&◌, ◌==◌, slice_get, if◌then◌else◌, Result, ⊤}
 use Rattle.std.proofs.lemmas.List.{append-nil}
@@ -28,7 +28,7 @@ use Rattle.pickle_further.specs.Parts.{are_many}
 use Rattle.pickle_loader.specs.Environment.{Value, Act, Unpickler, World}
 use Rattle.pickle_loader.specs.Unpickler.{Step, Ran, Stopped, Raised, item}
 use Rattle.pickle_loader.specs.Dispatch.{dispatch, Loaded, Going, Ended, Failed, loaded, acts_of, new_unpickler}
-use Rattle.pickle_loader.specs.Told.{told_of, acts_told, protocol_after}
+use Rattle.pickle_loader.specs.Listed.{listed_of, acts_listed, protocol_after}
 use Rattle.pickle_loader.specs.Values.{Knows}
 use Rattle.pickle_loader.specs.Laws.{IsSame, IsResult, Holds}
 use Rattle.pickle_loader.specs.Whole.{IsWhole}
@@ -45,9 +45,9 @@ use Rattle.pickle_loader.proofs.Leads.{event_fresh, moved_on_fresh, only_stop, s
 -- ---- how far both are
 
 abbrev pub OnWay : World → (ℕ → Value) → Pickles → List Act → ℕ → State → Loaded → Type 0
-OnWay w V p acts proto s (Going u) = IsSame w V (fresh s) u × (u.proto ≡ proto) × (told_of u.acts ≡ acts)
-OnWay w V p acts proto s (Ended v u) = IsSame w V (fresh s) (again p u) × ((again p u).proto ≡ proto) × (told_of (again p u).acts ≡ acts) × (reads_on p (Ended v u) ≡ true)
-OnWay w V p acts proto s (Failed done) = (rest : List Act) × (told_of done ++ rest ≡ acts)
+OnWay w V p acts proto s (Going u) = IsSame w V (fresh s) u × (u.proto ≡ proto) × (listed_of u.acts ≡ acts)
+OnWay w V p acts proto s (Ended v u) = IsSame w V (fresh s) (again p u) × ((again p u).proto ≡ proto) × (listed_of (again p u).acts ≡ acts) × (reads_on p (Ended v u) ≡ true)
+OnWay w V p acts proto s (Failed done) = (rest : List Act) × (listed_of done ++ rest ≡ acts)
 
 -- where more is read
 pub record Ready (p : Pickles) (q : Standing) (x : Onward) : Type 0 where
@@ -57,9 +57,9 @@ pub record Ready (p : Pickles) (q : Standing) (x : Onward) : Type 0 where
   pub many : q.state.many ≡ are_many p
   pub few : are_many p ≡ false → q.state.results ≡ []
 
--- a beginning of the acts was told
+-- a beginning of the acts is listed
 abbrev pub Begins : List Act → Loaded → Type 0
-Begins acts l = (rest : List Act) × (told_of (acts_of l) ++ rest ≡ acts)
+Begins acts l = (rest : List Act) × (listed_of (acts_of l) ++ rest ≡ acts)
 
 abbrev pub Along : World → (ℕ → Value) → Pickles → List Act → ℕ → Option Standing → Onward → Type 0
 Along w V p acts proto None x = Begins acts x.now × ((reads_on p x.now ≡ false) ⊎ (x.rest ≡ []))
@@ -76,7 +76,7 @@ pub record Turn (p : Pickles) : Type 0 where
   pub r : Unpickler
   pub same : IsSame w V (fresh q.state) r
   pub at : r.proto ≡ proto
-  pub told : told_of r.acts ≡ acts
+  pub done : listed_of r.acts ≡ acts
   pub whole : IsWhole q.state
   pub many : q.state.many ≡ are_many p
   pub few : are_many p ≡ false → q.state.results ≡ []
@@ -121,15 +121,15 @@ abbrev After : (p : Pickles) → Turn p → Taken → Step → Gone → Type 0
 After p t item step g =
     Along t.w t.V p (t.acts ++ acts_gone t.V t.proto t.q g) (protocol_after item.op.opcode item.op.arg t.proto) (stands_behind t.q g) (after p t item step) × HoldsBehind t.w t.V g (loaded step)
 
--- what is told is what the line tells
+-- what is listed is what the line has
 acts_same : (p : Pickles) (t : Turn p) (item : Taken) (a : State) → IsItem item.op item.row → moved_so (move_of p t item) (used_op (move_of p t item) item.op) t.q.at.place (fresh t.q.state) ≡ Ok a
-    → told_of t.r.acts ++ acts_told t.V t.r.proto (fresh t.q.state) a (event_by (move_of p t item) (fresh t.q.state) a (move_of p t item).fill)
-    ≡ t.acts ++ acts_told t.V t.proto (fresh t.q.state) (state_after p item.op.opcode a) (event_by (move_of p t item) t.q.state a (move_of p t item).fill)
+    → listed_of t.r.acts ++ acts_listed t.V t.r.proto (fresh t.q.state) a (event_by (move_of p t item) (fresh t.q.state) a (move_of p t item).fill)
+    ≡ t.acts ++ acts_listed t.V t.proto (fresh t.q.state) (state_after p item.op.opcode a) (event_by (move_of p t item) t.q.state a (move_of p t item).fill)
 acts_same p t item a is moved =
     let m : LoaderMove = move_of p t item in
-    ap (λ (l : List Act). l ++ acts_told t.V t.r.proto (fresh t.q.state) a (event_by m (fresh t.q.state) a m.fill)) t.told
-    ∙ ap (λ (n : ℕ). t.acts ++ acts_told t.V n (fresh t.q.state) a (event_by m (fresh t.q.state) a m.fill)) t.at
-    ∙ ap (λ (e : Option Event). t.acts ++ acts_told t.V t.proto (fresh t.q.state) a e) (sym (event_fresh m (used_op m item.op) t.q.at.place t.q.state a moved))
+    ap (λ (l : List Act). l ++ acts_listed t.V t.r.proto (fresh t.q.state) a (event_by m (fresh t.q.state) a m.fill)) t.done
+    ∙ ap (λ (n : ℕ). t.acts ++ acts_listed t.V n (fresh t.q.state) a (event_by m (fresh t.q.state) a m.fill)) t.at
+    ∙ ap (λ (e : Option Event). t.acts ++ acts_listed t.V t.proto (fresh t.q.state) a e) (sym (event_fresh m (used_op m item.op) t.q.at.place t.q.state a moved))
     ∙ ap (λ (l : List Act). t.acts ++ l) (sym (acts_after t.V t.proto t.q.at.place p item.op item.row t.q.state (fresh t.q.state) a is))
 
 -- it raised
@@ -240,8 +240,8 @@ stop_protocol op.Stop arg n e = refl
 stop_protocol _ arg n e = absurd cc
 
 record Stop (p : Pickles) (t : Turn p) (item : Taken) (a : State) (v : Value) (u : Unpickler) (acts : List Act) : Type 0 where
-  told : acts ≡ t.acts ++ acts_gone t.V t.proto t.q (gone_with p t item a None)
-  done : told_of u.acts ≡ acts
+  adds : acts ≡ t.acts ++ acts_gone t.V t.proto t.q (gone_with p t item a None)
+  done : listed_of u.acts ≡ acts
   stop : is_stop item.op.opcode ≡ true
   whole : IsWhole a
   many : a.many ≡ are_many p
@@ -261,7 +261,7 @@ stop_knows p t item a v u acts x = subst (λ (h : List Object). Knows t.w t.V u.
 
 stop_over : (p : Pickles) (t : Turn p) (item : Taken) (a : State) (v : Value) (u : Unpickler) (acts : List Act) → Stop p t item a v u acts → (reads_on p (Ended v u) ≡ false) ⊎ (drop item.size t.q.rest ≡ [])
     → After p t item (Stopped v u) (gone_with p t item a (Some closing.Stopped))
-stop_over p t item a v u acts x over = ((([], append-nil (told_of u.acts) ∙ x.done ∙ x.told), over), record { holds = stop_knows p t item a v u acts x; ends = tt })
+stop_over p t item a v u acts x over = ((([], append-nil (listed_of u.acts) ∙ x.done ∙ x.adds), over), record { holds = stop_knows p t item a v u acts x; ends = tt })
 
 -- a loop of loads, and one unpickler that loads again
 next_all : (t : Turn pickles.All) (item : Taken) (a : State) (v : Value) (u : Unpickler) (acts : List Act) → Stop pickles.All t item a v u acts → After pickles.All t item (Stopped v u) (gone_with pickles.All t item a None)
@@ -271,7 +271,7 @@ next_all t item a v u acts x =
         (
           subst (λ (f : State). IsSame t.w t.V f (new_unpickler u.acts)) (sym begins) (record { stack = refl; metastack = refl; memo = refl; buffers = refl; objects = x.same.objects }),
           stop_protocol item.op.opcode item.op.arg t.proto (stop_is item.op.opcode x.stop),
-          x.done ∙ x.told,
+          x.done ∙ x.adds,
           refl,
         ),
         λ reads. record { rest = refl; left = refl; whole = x.whole; many = x.many; few = λ one. absurd cc },
@@ -289,7 +289,7 @@ next_memo t item a v u acts x =
         (
           subst (λ (f : State). IsSame t.w t.V (fresh f) (again pickles.OneMemo u)) (sym is) (record { stack = refl; metastack = refl; memo = x.same.memo; buffers = x.same.buffers; objects = x.same.objects }),
           stop_protocol item.op.opcode item.op.arg t.proto (stop_is item.op.opcode x.stop),
-          x.done ∙ x.told,
+          x.done ∙ x.adds,
           refl,
         ),
         λ reads. record {
@@ -321,7 +321,7 @@ stopped_turn p t item a v u acts is moved e whole follows =
     let many : a.many ≡ are_many p = led.many ∙ fresh_many t.q.state ∙ t.many in
     let b : Bool = stops p (length (drop item.size t.q.rest)) in
     subst (λ (c : Option Closing). After p t item (Stopped v u) (gone_with p t item a c)) (sym (stop_closing p item.op.opcode (length (drop item.size t.q.rest)) b stop refl))
-    (stop_turn p t item a v u acts b refl (record { told = e; done = follows.1; stop = stop; whole = whole; many = many; ends = follows.3; same = follows.0 }))
+    (stop_turn p t item a v u acts b refl (record { adds = e; done = follows.1; stop = stop; whole = whole; many = many; ends = follows.3; same = follows.0 }))
 
 -- ---- a turn
 
@@ -352,8 +352,8 @@ last_turn : (p : Pickles) (t : Turn p) (item : Taken) (a : State) (step : Step) 
 last_turn p t item a step acts None loads is moved e whole maps moves = going_turn p t item a step acts loads is moved e whole (moves maps)
 last_turn p t item a step acts (Some r) loads is moved e whole maps moves = raises_turn p t item a step acts (closing.Refused t.q.at.place r) e moves
 
-refused_turn : (p : Pickles) (t : Turn p) (item : Taken) (step : Step) (c : Closing) → RaisesAt (told_of t.r.acts) step → After p t item step (over t.q.state c)
-refused_turn p t item (Raised done) c e = ((([], ap (λ (l : List Act). l ++ []) (e ∙ t.told)), inl refl), record { holds = tt; ends = failed_ends (Some c) done })
+refused_turn : (p : Pickles) (t : Turn p) (item : Taken) (step : Step) (c : Closing) → RaisesAt (listed_of t.r.acts) step → After p t item step (over t.q.state c)
+refused_turn p t item (Raised done) c e = ((([], ap (λ (l : List Act). l ++ []) (e ∙ t.done)), inl refl), record { holds = tt; ends = failed_ends (Some c) done })
 refused_turn p t item (Ran u) c e = absurd e
 refused_turn p t item (Stopped v u) c e = absurd e
 
@@ -396,4 +396,4 @@ read_turn way t x (Ok item) items right =
     (subst (λ (y : Result State Refusal). Comes t.w t.V (fresh t.q.state) t.r m (protocol_after item.op.opcode item.op.arg t.r.proto) (load_taken t.w item t.r) y) same
     (an_item_beyond t.w t.V (fresh t.q.state) t.r t.q.at.place item (whole_fresh t.q.state t.whole) (fresh_running t.q.state) t.same is))
     (λ a e. right_maps way t item x z a e right)
-read_turn way t x (Err f) items right = ((([], ap (λ (l : List Act). l ++ []) t.told), inl refl), record { holds = tt; ends = tt })
+read_turn way t x (Err f) items right = ((([], ap (λ (l : List Act). l ++ []) t.done), inl refl), record { holds = tt; ends = tt })

@@ -15,7 +15,7 @@ use Rattle.pickle_ops.specs.Row.{row_of_opcode, kind_of_opcode}
 use Rattle.pickle_loader.specs.Environment.{PyTuple, PyList, PyDict, PySet, PyByteArray, Plain, Find, Line, Persist}
 use Rattle.pickle_loader.specs.Unpickler.{Raised, load_literal, load_get, load_put}
 use Rattle.pickle_loader.specs.Dispatch.{with_int, literal_of, dispatch}
-use Rattle.pickle_loader.specs.Told.{protocol_after}
+use Rattle.pickle_loader.specs.Listed.{protocol_after}
 use Rattle.pickle_loader.proofs.Methods.{Here, unpickler, RowGood, frame_good, proto_good, literal_good, empty_good, get_good, ext_good, buffer_good, tuple_of_good, binpersid_good, reduce_good, newobj_good, newobj_ex_good, stack_global_good, tuple_good, list_good, frozenset_good, dict_good, inst_good, obj_good, pop_mark_good, mark_good, dup_good, put_good, memoize_good, memo_get_good, stop_good, pop_good}
 use Rattle.pickle_loader.proofs.Keys.{plain_int, quoted_text}
 use Rattle.pickle_loader.proofs.Fills.{append_good, setitem_good, appends_good, additems_good, setitems_good, build_good}

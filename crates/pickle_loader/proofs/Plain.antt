@@ -33,34 +33,34 @@ use Rattle.pickle_lenient.specs.Stream.{ends_in}
 use Rattle.pickle_loader.specs.Environment.{Method, Reply, Raises, Answers, Value, Plain, Unpickler, World}
 use Rattle.pickle_loader.specs.Unpickler.{Step, Ran, Stopped, Raised, load_literal, load_get, load_put, got, answered, append, item}
 use Rattle.pickle_loader.specs.Dispatch.{is_nul, int_key, with_int, dispatch}
-use Rattle.pickle_loader.specs.Told.{told_of}
+use Rattle.pickle_loader.specs.Listed.{listed_of}
 use Rattle.pickle_loader.specs.Onward.{load_keyed}
 use Rattle.pickle_loader.specs.Reader.{Reader, Piece, read, read_arg, and_then, joined, Fetch, behind, fetched, with_arg, with_code, with_key, fetch, opened, all_left}
 use Rattle.pickle_loader.proofs.CutLines.{IsCut, cut_reads}
 use Rattle.pickle_loader.proofs.Fetching.{Side, InFile, at_side, piece, reads, reads_line, reads_arg}
-use Rattle.pickle_loader.proofs.Pushes.{told_one}
+use Rattle.pickle_loader.proofs.Pushes.{listed_one}
 
--- ---- what is told of it
+-- ---- how it is covered
 
 -- the operation is taken as it is; or of GET and PUT as a FRAME with the row of the key
 pub data IsOf (o op : Operation) (r : Row) : Type 0 where
   Itself : op ≡ o → r ≡ row_of o → IsOf o op r
   Keyed : op ≡ frame_op 0 → is_stop o.opcode ≡ false → is_frame o.opcode ≡ false → ((w : World) (u : Unpickler) → load_keyed w r u ≡ dispatch w o.opcode o.arg u) → IsOf o op r
 
--- a step that tells nothing
+-- a step of which nothing is listed
 abbrev pub IsQuiet : Unpickler → Step → Type 0
-IsQuiet u (Ran q) = told_of q.acts ≡ told_of u.acts
+IsQuiet u (Ran q) = listed_of q.acts ≡ listed_of u.acts
 IsQuiet u (Stopped v q) = ⊥
-IsQuiet u (Raised done) = told_of done ≡ told_of u.acts
+IsQuiet u (Raised done) = listed_of done ≡ listed_of u.acts
 
 abbrev pub IsSilent : Operation → Type 0
 IsSilent o = (w : World) (u : Unpickler) → IsQuiet u (dispatch w o.opcode o.arg u)
 
--- of the first opcode of bytes, and those behind it
-pub data IsTold (bytes : List ℕ) (o : Operation) (more : List ℕ) : Type 0 where
-  Takes : (l : Lenient) → lenient bytes ≡ Ok l → IsOf o l.op l.row → l.size ≤ length bytes → drop l.size bytes ≡ more → IsTold bytes o more
-  Ends : ends_in (front_of bytes) ≡ false → more ≡ [] → is_stop o.opcode ≡ false → IsSilent o → IsTold bytes o more
-  Fails : ((w : World) (u : Unpickler) → dispatch w o.opcode o.arg u ≡ Raised u.acts) → IsTold bytes o more
+-- loaders take the first opcode of bytes, and these are behind it; or they end there, where it does nothing that is listed; or it raises
+pub data IsCovered (bytes : List ℕ) (o : Operation) (more : List ℕ) : Type 0 where
+  Takes : (l : Lenient) → lenient bytes ≡ Ok l → IsOf o l.op l.row → l.size ≤ length bytes → drop l.size bytes ≡ more → IsCovered bytes o more
+  Ends : ends_in (front_of bytes) ≡ false → more ≡ [] → is_stop o.opcode ≡ false → IsSilent o → IsCovered bytes o more
+  Fails : ((w : World) (u : Unpickler) → dispatch w o.opcode o.arg u ≡ Raised u.acts) → IsCovered bytes o more
 
 -- ---- an opcode that was read
 
@@ -144,8 +144,8 @@ at_front bytes f x e g = ap (λ (y : Front). lenient_at bytes y (front_fault y))
 behind_size : (c : Opcode) (rest : List ℕ) (n m : ℕ) → m ≡ n + 1 → drop m (code_of c ∷ rest) ≡ drop n rest
 behind_size c rest n m e = let one : m ≡ suc n = omega (arith, e) in ap (λ (k : ℕ). drop k (code_of c ∷ rest)) one
 
-good_told : (c : Opcode) (rest : List ℕ) (n : ℕ) → arg_size (form_of c) rest ≡ Some n → value_fault (form_of c) (take n rest) ≡ None → IsTold (code_of c ∷ rest) (record { opcode = c; arg = take n rest }) (drop n rest)
-good_told c rest n size value =
+good_covered : (c : Opcode) (rest : List ℕ) (n : ℕ) → arg_size (form_of c) rest ≡ Some n → value_fault (form_of c) (take n rest) ≡ None → IsCovered (code_of c ∷ rest) (record { opcode = c; arg = take n rest }) (drop n rest)
+good_covered c rest n size value =
     let o : Operation = record { opcode = c; arg = take n rest } in
     let found = (measures (form_of c)).found rest n size in
     let long : length (take n rest) ≡ n = length-take-le n rest found.0 in
@@ -158,11 +158,11 @@ refused true f g e = absurd cc
 refused false f g e = refl
 
 -- a key that is spelled otherwise: one that is read, or none
-keyed_told : (c : Opcode) (rest : List ℕ) (n : ℕ) (r : ℕ → Row) (key : ℕ) → arg_size (form_of c) rest ≡ Some n → form_of c ≡ form.Decimal → value_fault (form_of c) (take n rest) ≡ Some fault.BadArgument
+keyed_covered : (c : Opcode) (rest : List ℕ) (n : ℕ) (r : ℕ → Row) (key : ℕ) → arg_size (form_of c) rest ≡ Some n → form_of c ≡ form.Decimal → value_fault (form_of c) (take n rest) ≡ Some fault.BadArgument
     → ((size : ℕ) → odd_so (keyed_by (code_of c) size (Some key)) ≡ Ok (record { op = frame_op 0; row = r key; size = size }))
     → is_stop c ≡ false → is_frame c ≡ false → ((w : World) (u : Unpickler) → load_keyed w (r key) u ≡ dispatch w c (take n rest) u) → int_key (text_of (take n rest)) ≡ Some key
-    → IsTold (code_of c ∷ rest) (record { opcode = c; arg = take n rest }) (drop n rest)
-keyed_told c rest n r key size decimal bad reads_so stops frames loads is =
+    → IsCovered (code_of c ∷ rest) (record { opcode = c; arg = take n rest }) (drop n rest)
+keyed_covered c rest n r key size decimal bad reads_so stops frames loads is =
     let found = (measures (form_of c)).found rest n size in
     let long : length (take n rest) ≡ n = length-take-le n rest found.0 in
     let line : IsLine (take n rest) = subst (λ (f : Form). IsArg f (take n rest)) decimal found.1 in
@@ -178,15 +178,15 @@ keyed_told c rest n r key size decimal bad reads_so stops frames loads is =
     ∙ reads_so m)
     (Keyed refl stops frames loads) (omega (arith, long, found.0, line_length (take n rest) line)) (behind_size c rest n m (omega (arith, long, line_length (take n rest) line)))
 
-get_told : (rest : List ℕ) (n : ℕ) (x : Option ℕ) → arg_size form.Decimal rest ≡ Some n → value_fault form.Decimal (take n rest) ≡ Some fault.BadArgument → int_key (text_of (take n rest)) ≡ x
-    → IsTold (code_of op.Get ∷ rest) (record { opcode = op.Get; arg = take n rest }) (drop n rest)
-get_told rest n None size bad is = Fails (λ w u. ap (λ (y : Option ℕ). with_int y u (λ key. load_get key u)) is)
-get_told rest n (Some key) size bad is = keyed_told op.Get rest n (λ (k : ℕ). row.Get k) key size refl bad (λ m. refl) refl refl (λ w u. sym (ap (λ (y : Option ℕ). with_int y u (λ k. load_get k u)) is)) is
+get_covered : (rest : List ℕ) (n : ℕ) (x : Option ℕ) → arg_size form.Decimal rest ≡ Some n → value_fault form.Decimal (take n rest) ≡ Some fault.BadArgument → int_key (text_of (take n rest)) ≡ x
+    → IsCovered (code_of op.Get ∷ rest) (record { opcode = op.Get; arg = take n rest }) (drop n rest)
+get_covered rest n None size bad is = Fails (λ w u. ap (λ (y : Option ℕ). with_int y u (λ key. load_get key u)) is)
+get_covered rest n (Some key) size bad is = keyed_covered op.Get rest n (λ (k : ℕ). row.Get k) key size refl bad (λ m. refl) refl refl (λ w u. sym (ap (λ (y : Option ℕ). with_int y u (λ k. load_get k u)) is)) is
 
-put_told : (rest : List ℕ) (n : ℕ) (x : Option ℕ) → arg_size form.Decimal rest ≡ Some n → value_fault form.Decimal (take n rest) ≡ Some fault.BadArgument → int_key (text_of (take n rest)) ≡ x
-    → IsTold (code_of op.Put ∷ rest) (record { opcode = op.Put; arg = take n rest }) (drop n rest)
-put_told rest n None size bad is = Fails (λ w u. ap (λ (y : Option ℕ). with_int y u (λ key. load_put w key u)) is)
-put_told rest n (Some key) size bad is = keyed_told op.Put rest n (λ (k : ℕ). row.Put k) key size refl bad (λ m. refl) refl refl (λ w u. sym (ap (λ (y : Option ℕ). with_int y u (λ k. load_put w k u)) is)) is
+put_covered : (rest : List ℕ) (n : ℕ) (x : Option ℕ) → arg_size form.Decimal rest ≡ Some n → value_fault form.Decimal (take n rest) ≡ Some fault.BadArgument → int_key (text_of (take n rest)) ≡ x
+    → IsCovered (code_of op.Put ∷ rest) (record { opcode = op.Put; arg = take n rest }) (drop n rest)
+put_covered rest n None size bad is = Fails (λ w u. ap (λ (y : Option ℕ). with_int y u (λ key. load_put w key u)) is)
+put_covered rest n (Some key) size bad is = keyed_covered op.Put rest n (λ (k : ℕ). row.Put k) key size refl bad (λ m. refl) refl refl (λ w u. sym (ap (λ (y : Option ℕ). with_int y u (λ k. load_put w k u)) is)) is
 
 bad_decimal : (arg : List ℕ) (g : FrontFault) → value_fault form.Decimal arg ≡ Some g → value_fault form.Decimal arg ≡ Some fault.BadArgument
 bad_decimal arg g e = ap (λ (b : Bool). if b then None else Some fault.BadArgument) (refused (is_decimal (text_of arg)) fault.BadArgument g e)
@@ -214,22 +214,22 @@ whole_read s _ arg rest (Some g) e is = absurd cc
 no_piece : (p : Piece) (x : Option Piece) → x ≡ None → x ≡ Some p → ⊥
 no_piece p x e f = let two : None ≡ Some p = sym e ∙ f in absurd cc
 
-whole_told : (s : Side) (c : Opcode) (rest : List ℕ) (n : ℕ) (x : Option FrontFault) (p : Piece) → arg_size (form_of c) rest ≡ Some n → value_fault (form_of c) (take n rest) ≡ x → read_arg (form_of c) (at_side s rest) ≡ Some p
-    → IsTold (code_of c ∷ rest) (record { opcode = c; arg = take n rest }) (drop n rest)
-whole_told s c rest n None p size e is = good_told c rest n size e
-whole_told s op.Get rest n (Some g) p size e is = get_told rest n (int_key (text_of (take n rest))) size (bad_decimal (take n rest) g e) refl
-whole_told s op.Put rest n (Some g) p size e is = put_told rest n (int_key (text_of (take n rest))) size (bad_decimal (take n rest) g e) refl
-whole_told s op.String rest n (Some g) p size e is =
+whole_covered : (s : Side) (c : Opcode) (rest : List ℕ) (n : ℕ) (x : Option FrontFault) (p : Piece) → arg_size (form_of c) rest ≡ Some n → value_fault (form_of c) (take n rest) ≡ x → read_arg (form_of c) (at_side s rest) ≡ Some p
+    → IsCovered (code_of c ∷ rest) (record { opcode = c; arg = take n rest }) (drop n rest)
+whole_covered s c rest n None p size e is = good_covered c rest n size e
+whole_covered s op.Get rest n (Some g) p size e is = get_covered rest n (int_key (text_of (take n rest))) size (bad_decimal (take n rest) g e) refl
+whole_covered s op.Put rest n (Some g) p size e is = put_covered rest n (int_key (text_of (take n rest))) size (bad_decimal (take n rest) g e) refl
+whole_covered s op.String rest n (Some g) p size e is =
     Fails (λ w u. ap (λ (b : Bool). if b then load_literal (kind.LegacyLine (text_of (take n rest))) u else Raised u.acts) (refused (is_quoted (text_of (take n rest))) fault.BadArgument g e))
-whole_told s op.BinString rest n (Some g) p size e is =
+whole_covered s op.BinString rest n (Some g) p size e is =
     absurd (no_piece p (read_arg form.Bs4 (at_side s rest)) (ap (λ (l : List ℕ). read_arg form.Bs4 (at_side s l)) (sym (take-append-drop n rest)) ∙ signed_fails s (take n rest) (drop n rest) g ((measures form.Bs4).found rest n size).1 e) is)
-whole_told s op.Long4 rest n (Some g) p size e is =
+whole_covered s op.Long4 rest n (Some g) p size e is =
     absurd (no_piece p (read_arg form.Bs4 (at_side s rest)) (ap (λ (l : List ℕ). read_arg form.Bs4 (at_side s l)) (sym (take-append-drop n rest)) ∙ signed_fails s (take n rest) (drop n rest) g ((measures form.Bs4).found rest n size).1 e) is)
-whole_told s _ rest n (Some g) p size e is = absurd cc
+whole_covered s _ rest n (Some g) p size e is = absurd cc
 
 -- a whole opcode and what is behind it
 pub record AtWhole (s : Side) (c : Opcode) (rest : List ℕ) (n : ℕ) (o : Operation) (after : Reader) : Type 0 where
-  pub told : IsTold (code_of c ∷ rest) o (drop n rest)
+  pub covered : IsCovered (code_of c ∷ rest) o (drop n rest)
   pub moved : behind o.opcode o.arg (at_side s (drop n rest)) ≡ Some after
 
 at_piece : (s : Side) (c : Opcode) (rest : List ℕ) (n : ℕ) (o : Operation) (after : Reader) → arg_size (form_of c) rest ≡ Some n → with_arg c (read_arg (form_of c) (at_side s rest)) ≡ Fetch o after
@@ -237,9 +237,9 @@ at_piece : (s : Side) (c : Opcode) (rest : List ℕ) (n : ℕ) (o : Operation) (
 at_piece s c rest n o after size e is =
     let there = is_there c (read_arg (form_of c) (at_side s rest)) (piece s (take n rest) (drop n rest)) o after e is in
     record {
-      told =
-          subst (λ (x : Operation). IsTold (code_of c ∷ rest) x (drop n rest)) there.same
-          (whole_told s c rest n (value_fault (form_of c) (take n rest)) (piece s (take n rest) (drop n rest)) size refl is);
+      covered =
+          subst (λ (x : Operation). IsCovered (code_of c ∷ rest) x (drop n rest)) there.same
+          (whole_covered s c rest n (value_fault (form_of c) (take n rest)) (piece s (take n rest) (drop n rest)) size refl is);
       moved = subst (λ (x : Operation). behind x.opcode x.arg (at_side s (drop n rest)) ≡ Some after) there.same there.moved;
     }
 
@@ -256,7 +256,7 @@ at_whole s c rest n o after size e =
 
 -- ---- a line that the end of the file cuts
 
-string_quiet : (b : Bool) (u q : Unpickler) → told_of q.acts ≡ told_of u.acts → IsQuiet u (if b then Ran q else Raised u.acts)
+string_quiet : (b : Bool) (u q : Unpickler) → listed_of q.acts ≡ listed_of u.acts → IsQuiet u (if b then Ran q else Raised u.acts)
 string_quiet true u q e = e
 string_quiet false u q e = refl
 
@@ -268,9 +268,9 @@ get_quiet : (u : Unpickler) (x : Option ℕ) → IsQuiet u (with_int x u (λ key
 get_quiet u None = refl
 get_quiet u (Some key) = got_quiet u (lookup (is_at (nat_cmp key)) u.memo)
 
-method_quiet : (u q : Unpickler) (r : Reply) → told_of q.acts ≡ told_of u.acts → IsQuiet u (answered r Method q (λ v p. Ran p))
-method_quiet u q Raises e = told_one q.acts Method ∙ append-nil (told_of q.acts) ∙ e
-method_quiet u q (Answers t) e = told_one q.acts Method ∙ append-nil (told_of q.acts) ∙ e
+method_quiet : (u q : Unpickler) (r : Reply) → listed_of q.acts ≡ listed_of u.acts → IsQuiet u (answered r Method q (λ v p. Ran p))
+method_quiet u q Raises e = listed_one q.acts Method ∙ append-nil (listed_of q.acts) ∙ e
+method_quiet u q (Answers t) e = listed_one q.acts Method ∙ append-nil (listed_of q.acts) ∙ e
 
 test_quiet : (u : Unpickler) (b : Bool) (x : Step) → IsQuiet u x → IsQuiet u (if b then x else Raised u.acts)
 test_quiet u true x q = q
@@ -286,7 +286,7 @@ put_quiet w u (Some key) =
 cut_taken : (c : Opcode) (rest : List ℕ) (p : Piece) → arg_size (form_of c) rest ≡ None → IsCut (form_of c) rest p → value_fault (form_of c) p.bytes ≡ None
     → ((bytes : List ℕ) → faulty (code_of c ∷ bytes) fault.Truncated ≡ cut_line (code_of c ∷ bytes))
     → ((x : IsCut (form_of c) rest p) → (more : List ℕ) × (mended (code_of c ∷ rest) ≡ code_of c ∷ (p.bytes ++ more)) × IsArg (form_of c) p.bytes)
-    → IsTold (code_of c ∷ rest) (record { opcode = c; arg = p.bytes }) []
+    → IsCovered (code_of c ∷ rest) (record { opcode = c; arg = p.bytes }) []
 cut_taken c rest p none cut value tells ends =
     let x = ends cut in
     let o : Operation = record { opcode = c; arg = p.bytes } in
@@ -305,18 +305,18 @@ cut_taken c rest p none cut value tells ends =
 pub cut_ends : (c : Opcode) (rest : List ℕ) → arg_size (form_of c) rest ≡ None → ends_in (front_of (code_of c ∷ rest)) ≡ false
 cut_ends c rest none = ap ends_in (ap (front_at (code_of c) rest) (opcode_of-code c) ∙ ap (front_behind c rest) none)
 
-cut_told : (c : Opcode) (rest : List ℕ) (p : Piece) → arg_size (form_of c) rest ≡ None → IsCut (form_of c) rest p → IsTold (code_of c ∷ rest) (record { opcode = c; arg = p.bytes }) []
-cut_told op.PersId rest p none cut = cut_taken op.PersId rest p none cut refl (λ bytes. refl) (λ x. (x.more, ap (λ (l : List ℕ). 80 ∷ l) x.mended, x.arg))
-cut_told op.Global rest p none cut = cut_taken op.Global rest p none cut refl (λ bytes. refl) (λ x. (x.more, ap (λ (l : List ℕ). 99 ∷ l) x.mended, x.arg))
-cut_told op.Inst rest p none cut = cut_taken op.Inst rest p none cut refl (λ bytes. refl) (λ x. (x.more, ap (λ (l : List ℕ). 105 ∷ l) x.mended, x.arg))
-cut_told op.Int rest p none cut = Ends (cut_ends op.Int rest none) refl refl (λ w u. refl)
-cut_told op.Long rest p none cut = Ends (cut_ends op.Long rest none) refl refl (λ w u. refl)
-cut_told op.Float rest p none cut = Ends (cut_ends op.Float rest none) refl refl (λ w u. refl)
-cut_told op.Unicode rest p none cut = Ends (cut_ends op.Unicode rest none) refl refl (λ w u. refl)
-cut_told op.String rest p none cut = Ends (cut_ends op.String rest none) refl refl (λ w u. string_quiet (is_quoted (text_of p.bytes)) u (append (Plain (kind.LegacyLine (text_of p.bytes))) u) refl)
-cut_told op.Get rest p none cut = Ends (cut_ends op.Get rest none) refl refl (λ w u. get_quiet u (int_key (text_of p.bytes)))
-cut_told op.Put rest p none cut = Ends (cut_ends op.Put rest none) refl refl (λ w u. put_quiet w u (int_key (text_of p.bytes)))
-cut_told _ rest p none cut = absurd cut
+cut_covered : (c : Opcode) (rest : List ℕ) (p : Piece) → arg_size (form_of c) rest ≡ None → IsCut (form_of c) rest p → IsCovered (code_of c ∷ rest) (record { opcode = c; arg = p.bytes }) []
+cut_covered op.PersId rest p none cut = cut_taken op.PersId rest p none cut refl (λ bytes. refl) (λ x. (x.more, ap (λ (l : List ℕ). 80 ∷ l) x.mended, x.arg))
+cut_covered op.Global rest p none cut = cut_taken op.Global rest p none cut refl (λ bytes. refl) (λ x. (x.more, ap (λ (l : List ℕ). 99 ∷ l) x.mended, x.arg))
+cut_covered op.Inst rest p none cut = cut_taken op.Inst rest p none cut refl (λ bytes. refl) (λ x. (x.more, ap (λ (l : List ℕ). 105 ∷ l) x.mended, x.arg))
+cut_covered op.Int rest p none cut = Ends (cut_ends op.Int rest none) refl refl (λ w u. refl)
+cut_covered op.Long rest p none cut = Ends (cut_ends op.Long rest none) refl refl (λ w u. refl)
+cut_covered op.Float rest p none cut = Ends (cut_ends op.Float rest none) refl refl (λ w u. refl)
+cut_covered op.Unicode rest p none cut = Ends (cut_ends op.Unicode rest none) refl refl (λ w u. refl)
+cut_covered op.String rest p none cut = Ends (cut_ends op.String rest none) refl refl (λ w u. string_quiet (is_quoted (text_of p.bytes)) u (append (Plain (kind.LegacyLine (text_of p.bytes))) u) refl)
+cut_covered op.Get rest p none cut = Ends (cut_ends op.Get rest none) refl refl (λ w u. get_quiet u (int_key (text_of p.bytes)))
+cut_covered op.Put rest p none cut = Ends (cut_ends op.Put rest none) refl refl (λ w u. put_quiet w u (int_key (text_of p.bytes)))
+cut_covered _ rest p none cut = absurd cut
 
 -- ---- all of it
 
@@ -334,20 +334,20 @@ file_behind _ arg rest after e = ap all_left (sym (same_reader (opened rest) aft
 -- the first opcode of a file, and what is behind it
 pub record IsPlainly (bytes : List ℕ) (o : Operation) (after : Reader) : Type 0 where
   pub rest : List ℕ
-  pub told : IsTold bytes o rest
+  pub covered : IsCovered bytes o rest
   pub moved : behind o.opcode o.arg (opened rest) ≡ Some after
 
 at_file : (c : Opcode) (rest : List ℕ) (o : Operation) (after : Reader) (x : Option ℕ) → arg_size (form_of c) rest ≡ x → with_arg c (read_arg (form_of c) (opened rest)) ≡ Fetch o after → IsPlainly (code_of c ∷ rest) o after
 at_file c rest o after (Some n) size e =
     let w = at_whole InFile c rest n o after size e in
-    record { rest = drop n rest; told = w.told; moved = w.moved }
+    record { rest = drop n rest; covered = w.covered; moved = w.moved }
 at_file c rest o after None none e =
     let it = is_read c (read_arg (form_of c) (opened rest)) o after e in
     let cut = cut_reads (form_of c) rest it.piece none it.is in
     let moved : behind c it.piece.bytes (opened []) ≡ Some after = ap (behind c it.piece.bytes) (sym cut.0) ∙ it.moved in
     record {
       rest = [];
-      told = subst (λ (x : Operation). IsTold (code_of c ∷ rest) x []) it.same (cut_told c rest it.piece none cut.1);
+      covered = subst (λ (x : Operation). IsCovered (code_of c ∷ rest) x []) it.same (cut_covered c rest it.piece none cut.1);
       moved = subst (λ (x : Operation). behind x.opcode x.arg (opened []) ≡ Some after) it.same moved;
     }
 

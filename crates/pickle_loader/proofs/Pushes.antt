@@ -20,10 +20,10 @@ use Rattle.pickle_show.specs.Event.{made_event, made_as, is_shown, is_view}
 use Rattle.pickle_show.proofs.Steps.{some_same, none_made}
 use Rattle.pickle_loader.specs.Environment.{PyType, PyTuple, PyList, PyDict, PySet, PyFrozenSet, PyByteArray, PyMemoryView, Value, Plain, Own, Foreign, Act, Make, Reply, Raises, Answers, World}
 use Rattle.pickle_loader.specs.Unpickler.{Step, Ran, Stopped, Raised, item, append, answered, has_memory}
-use Rattle.pickle_loader.specs.Told.{told_of, making, acts_told}
+use Rattle.pickle_loader.specs.Listed.{listed_of, making, acts_listed}
 use Rattle.pickle_loader.specs.Values.{Origin, AsLiteral, AsMade, AsAnswer, AsView, origin, IsViewOf, IsFrom, Knows}
 use Rattle.pickle_loader.specs.Laws.{IsResult}
-use Rattle.pickle_loader.proofs.Images.{image, told-append}
+use Rattle.pickle_loader.proofs.Images.{image, listed-append}
 
 -- ---- which values stand for objects
 
@@ -97,13 +97,13 @@ knows_more w V acts more heap knows id o e = from_more w acts more o.kind (V id)
 abbrev pub top_value : List Value → Value
 top_value vs = item (length vs - 1) vs
 
--- where it goes on, and the map has the value on top for an object that was made, it holds what the state holds, and told what the event
--- tells; where it raised, a beginning of that
+-- where it goes on, and the map has the value on top for an object that was made, it holds what the state holds, and did what the event
+-- lists; where it raised, a beginning of that
 abbrev pub Good : (ℕ → Value) → World → List Object → List Act → State → List Act → ℕ → Step → Type 0
 Good V w heap acts t new proto (Ran q) =
-    (length heap < length t.heap → V (length heap) ≡ top_value q.stack) → (q ≡ image V t proto q.acts) × Knows w V q.acts t.heap × (told_of q.acts ≡ told_of acts ++ new)
-Good V w heap acts t new proto (Stopped v q) = (told_of q.acts ≡ told_of acts ++ new) × Knows w V q.acts t.heap × (t.stopped ≡ t.many) × (proto ≡ 0) × (0 < length t.results) × IsResult V t v × (q ≡ image V t q.proto q.acts)
-Good V w heap acts t new proto (Raised done) = (rest : List Act) × (told_of done ++ rest ≡ told_of acts ++ new)
+    (length heap < length t.heap → V (length heap) ≡ top_value q.stack) → (q ≡ image V t proto q.acts) × Knows w V q.acts t.heap × (listed_of q.acts ≡ listed_of acts ++ new)
+Good V w heap acts t new proto (Stopped v q) = (listed_of q.acts ≡ listed_of acts ++ new) × Knows w V q.acts t.heap × (t.stopped ≡ t.many) × (proto ≡ 0) × (0 < length t.results) × IsResult V t v × (q ≡ image V t q.proto q.acts)
+Good V w heap acts t new proto (Raised done) = (rest : List Act) × (listed_of done ++ rest ≡ listed_of acts ++ new)
 
 -- ---- an object is made
 
@@ -127,55 +127,55 @@ neither : (a b : Bool) → (a || b) ≡ false → a ≡ false
 neither true b e = absurd cc
 neither false b e = refl
 
--- what is not opaque is made by no act that is told
-nothing_told : (proto : ℕ) (k : Kind) (vs : List Value) → is_opaque k ≡ false → making proto k vs ≡ []
-nothing_told proto (kind.Global names) vs e = absurd cc
-nothing_told proto kind.StackGlobal vs e = absurd cc
-nothing_told proto (kind.Ext n) vs e = absurd cc
-nothing_told proto (kind.Inst names) vs e = absurd cc
-nothing_told proto kind.Call vs e = absurd cc
-nothing_told proto kind.New vs e = absurd cc
-nothing_told proto kind.NewEx vs e = absurd cc
-nothing_told proto kind.Obj vs e = absurd cc
-nothing_told proto (kind.PersistentLine line) vs e = absurd cc
-nothing_told proto kind.Persistent vs e = absurd cc
-nothing_told proto (kind.Buffer n) vs e = absurd cc
-nothing_told proto _ vs e = refl
+-- what is not opaque is made by no act that is listed
+nothing_listed : (proto : ℕ) (k : Kind) (vs : List Value) → is_opaque k ≡ false → making proto k vs ≡ []
+nothing_listed proto (kind.Global names) vs e = absurd cc
+nothing_listed proto kind.StackGlobal vs e = absurd cc
+nothing_listed proto (kind.Ext n) vs e = absurd cc
+nothing_listed proto (kind.Inst names) vs e = absurd cc
+nothing_listed proto kind.Call vs e = absurd cc
+nothing_listed proto kind.New vs e = absurd cc
+nothing_listed proto kind.NewEx vs e = absurd cc
+nothing_listed proto kind.Obj vs e = absurd cc
+nothing_listed proto (kind.PersistentLine line) vs e = absurd cc
+nothing_listed proto kind.Persistent vs e = absurd cc
+nothing_listed proto (kind.Buffer n) vs e = absurd cc
+nothing_listed proto _ vs e = refl
 
 -- the event of an object that was made tells how it is made
-pub told_pushed : (V : ℕ → Value) (proto : ℕ) (s t : State) (heap : List Object) (x : Object) → t.heap ≡ heap ++ x ∷ []
-    → acts_told V proto s t (made_event t.heap (length heap)) ≡ making proto x.kind (map V x.parts)
-told_pushed V proto s t heap x e =
+pub listed_pushed : (V : ℕ → Value) (proto : ℕ) (s t : State) (heap : List Object) (x : Object) → t.heap ≡ heap ++ x ∷ []
+    → acts_listed V proto s t (made_event t.heap (length heap)) ≡ making proto x.kind (map V x.parts)
+listed_pushed V proto s t heap x e =
     let here : slice_get t.heap (length heap) ≡ Some x = ap (λ (l : List Object). slice_get l (length heap)) e ∙ last_of_more heap x in
-    ap (λ (y : Option Object). acts_told V proto s t (made_as t.heap (length heap) y)) here ∙ go here (is_shown t.heap x) refl
+    ap (λ (y : Option Object). acts_listed V proto s t (made_as t.heap (length heap) y)) here ∙ go here (is_shown t.heap x) refl
   where
-    go : slice_get t.heap (length heap) ≡ Some x → (b : Bool) → is_shown t.heap x ≡ b → acts_told V proto s t (if b then Some (event.Made (length heap)) else None) ≡ making proto x.kind (map V x.parts)
+    go : slice_get t.heap (length heap) ≡ Some x → (b : Bool) → is_shown t.heap x ≡ b → acts_listed V proto s t (if b then Some (event.Made (length heap)) else None) ≡ making proto x.kind (map V x.parts)
     go here true f = ap (λ (y : Option Object). option_map_or (λ (o : Object). making proto o.kind (map V o.parts)) y []) here
-    go here false f = sym (nothing_told proto x.kind (map V x.parts) (neither (is_opaque x.kind) (is_view t.heap x) f))
+    go here false f = sym (nothing_listed proto x.kind (map V x.parts) (neither (is_opaque x.kind) (is_view t.heap x) f))
 
 -- where none was made there is none
-pub told_stays : (V : ℕ → Value) (proto : ℕ) (s t : State) (heap : List Object) → t.heap ≡ heap → acts_told V proto s t (made_event t.heap (length heap)) ≡ []
-told_stays V proto s t heap e = ap (acts_told V proto s t) (ap (λ (l : List Object). made_event l (length heap)) e ∙ none_made heap)
+pub listed_stays : (V : ℕ → Value) (proto : ℕ) (s t : State) (heap : List Object) → t.heap ≡ heap → acts_listed V proto s t (made_event t.heap (length heap)) ≡ []
+listed_stays V proto s t heap e = ap (acts_listed V proto s t) (ap (λ (l : List Object). made_event l (length heap)) e ∙ none_made heap)
 
 pub pushed_good : (V : ℕ → Value) (w : World) (u : State) (k : Kind) (parts : List ℕ) (proto : ℕ) (acts acts2 new : List Act) (v : Value)
-    → IsFrom w acts2 k v (origin k (map V parts)) → Knows w V acts2 u.heap → told_of acts2 ≡ told_of acts ++ new
+    → IsFrom w acts2 k v (origin k (map V parts)) → Knows w V acts2 u.heap → listed_of acts2 ≡ listed_of acts ++ new
     → Good V w u.heap acts (push k parts u) new proto (Ran (append v (image V u proto acts2)))
-pushed_good V w u k parts proto acts acts2 new v from knows told foretold =
+pushed_good V w u k parts proto acts acts2 new v from knows listed foretold =
     let x : Object = record { kind = k; parts = parts; changes = [] } in
     let is : V (length u.heap) ≡ v = foretold (omega (arith, length-append u.heap (x ∷ []))) ∙ top_appended (map V u.top) v in
     let stack : map V u.top ++ v ∷ [] ≡ map V (u.top ++ length u.heap ∷ []) = ap (λ (y : Value). map V u.top ++ y ∷ []) (sym is) ∙ sym (map-append V u.top (length u.heap ∷ [])) in
-    (ap (λ (l : List Value). record (image V u proto acts2) { stack = l }) stack, knows_pushed w V acts2 u.heap x knows (subst (λ (y : Value). IsFrom w acts2 k y (origin k (map V parts))) (sym is) from), told)
+    (ap (λ (l : List Value). record (image V u proto acts2) { stack = l }) stack, knows_pushed w V acts2 u.heap x knows (subst (λ (y : Value). IsFrom w acts2 k y (origin k (map V parts))) (sym is) from), listed)
 
 -- the value is the answer to the act
 pub asked_good : (V : ℕ → Value) (w : World) (r : Reply) (u : State) (k : Kind) (parts : List ℕ) (proto : ℕ) (acts acts2 new : List Act) (a : ℕ → Act)
-    → origin k (map V parts) ≡ AsAnswer a → Knows w V acts2 u.heap → told_of (acts2 ++ a proto ∷ []) ≡ told_of acts ++ new
+    → origin k (map V parts) ≡ AsAnswer a → Knows w V acts2 u.heap → listed_of (acts2 ++ a proto ∷ []) ≡ listed_of acts ++ new
     → Good V w u.heap acts (push k parts u) new proto (answered r (a proto) (image V u proto acts2) (λ v q. Ran (append v q)))
-asked_good V w Raises u k parts proto acts acts2 new a from knows told = ([], append-nil (told_of (acts2 ++ a proto ∷ [])) ∙ told)
-asked_good V w (Answers t) u k parts proto acts acts2 new a from knows told =
+asked_good V w Raises u k parts proto acts acts2 new a from knows listed = ([], append-nil (listed_of (acts2 ++ a proto ∷ [])) ∙ listed)
+asked_good V w (Answers t) u k parts proto acts acts2 new a from knows listed =
     pushed_good V w u k parts proto acts (acts2 ++ a proto ∷ []) new (Foreign t (length acts2))
     (subst (λ (x : Origin). IsFrom w (acts2 ++ a proto ∷ []) k (Foreign t (length acts2)) x) (sym from) (t, length acts2, proto, refl, last_of_more acts2 (a proto)))
-    (knows_more w V acts2 (a proto ∷ []) u.heap knows) told
+    (knows_more w V acts2 (a proto ∷ []) u.heap knows) listed
 
 -- the same where new acts are those of the object
-pub told_one : (acts : List Act) (a : Act) → told_of (acts ++ a ∷ []) ≡ told_of acts ++ told_of (a ∷ [])
-told_one acts a = told-append acts (a ∷ [])
+pub listed_one : (acts : List Act) (a : Act) → listed_of (acts ++ a ∷ []) ≡ listed_of acts ++ listed_of (a ∷ [])
+listed_one acts a = listed-append acts (a ∷ [])

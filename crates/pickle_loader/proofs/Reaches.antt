@@ -24,9 +24,9 @@ use Rattle.pickle_further.specs.Going.{Standing, Going, used_op, moved_so, gone_
 use Rattle.pickle_further.specs.Parts.{header, ignoring, standing_first, loss_at}
 use Rattle.pickle_loader.specs.Environment.{Value, Plain}
 use Rattle.pickle_ops.specs.declared.kind.Kind.TheVariants as kind
-use Rattle.pickle_loader.specs.Told.{acts_told}
+use Rattle.pickle_loader.specs.Listed.{acts_listed}
 use Rattle.pickle_loader.specs.Onward.{stands_behind, stands_on, stands, acts_gone, unbuffered, NoneLost, IsFound}
-use Rattle.pickle_loader.specs.Text.{line_gone, line_on, lines_before, all_lines, part_end_lines, told_lines, lines_from, IsAmong}
+use Rattle.pickle_loader.specs.Text.{line_gone, line_on, lines_before, all_lines, part_end_lines, part_lines, lines_from, IsAmong}
 use Rattle.pickle_loader.proofs.Lines.{long}
 use Rattle.pickle_loader.proofs.Losses.{shifted, over, first_is, loss_is_found}
 use Rattle.pickle_loader.proofs.Ways.{behind_is, shrinks}
@@ -50,7 +50,7 @@ pub tells_event : (V : ℕ → Value) (proto : ℕ) (q : Standing) (g : Going) �
 tells_event V proto q g h = go g.gone.event refl
   where
     go : (x : Option Event) → g.gone.event ≡ x → (e : Event) × (g.gone.event ≡ Some e)
-    go None e = absurd (h (ap (λ (y : Option Event). acts_told V proto (fresh q.state) g.state y) e))
+    go None e = absurd (h (ap (λ (y : Option Event). acts_listed V proto (fresh q.state) g.state y) e))
     go (Some e) is = (e, is)
 
 pub line_some : (holes : List Hole) (q : Standing) (g : Going) (e : Event) → g.gone.event ≡ Some e → line_gone holes q g ≢ []
@@ -160,7 +160,7 @@ among_from holes w p k q there ev =
     let sum : f.place + j ≡ k = omega (arith, f.within) in
     let behind : stands w f.at j ≡ Some q = sym (onward w p f.at f.place j f.there) ∙ ap (stands w p) sum ∙ there in
     let all = among_before holes w f.at j (suc (length f.at.rest)) q (omega (arith, few w f.at j q behind)) behind (line_some holes q (going w q) ev.0 ev.1) in
-    subst (λ (x : Option Standing). IsAmong line (told_lines holes w x)) (sym f.is)
+    subst (λ (x : Option Standing). IsAmong line (part_lines holes w x)) (sym f.is)
     (among_right line (header w.frames ∷ []) (all_lines holes w f.at ++ part_end_lines holes (tale_of holes w f.at)) (among_left line (all_lines holes w f.at) (part_end_lines holes (tale_of holes w f.at)) all))
 
 -- ---- a reading with a buffer

@@ -45,10 +45,10 @@ use Rattle.pickle_further.specs.declared.way.Way.{Way}
 use Rattle.pickle_further.specs.Going.{Standing, Going as Gone, naming_row, used_op, then_as, moved_so, event_by, state_after, gone_to, gone_as, gone_by, going, stands_after}
 use Rattle.pickle_further.specs.Parts.{ignoring, are_many, standing_at, standing_first}
 use Rattle.pickle_loader.specs.Environment.{Value, Act}
-use Rattle.pickle_loader.specs.Told.{acts_told, told, protocol_after, protocol_at}
+use Rattle.pickle_loader.specs.Listed.{acts_listed, listed, protocol_after, protocol_at}
 use Rattle.pickle_loader.specs.Onward.{stands_on, stands, protocol_read, protocol_on, protocol, acts_gone, acts_on, acts_before, begins_anew, LinesAreRead}
 use Rattle.pickle_loader.proofs.Still.{move_to}
-use Rattle.pickle_loader.proofs.Listing.{next_told, next_protocol}
+use Rattle.pickle_loader.proofs.Listing.{next_listed, next_protocol}
 use Rattle.pickle_loader.proofs.Leads.{event_fresh, moved_on_fresh}
 use Rattle.pickle_loader.proofs.Bytes.{drop_next}
 use Rattle.pickle_loader.proofs.Ways.{behind_is}
@@ -169,7 +169,7 @@ going_item p q o t none reads one moves =
 -- where both stand
 pub record Beside (how : Detail) (V : ℕ → Value) (p : Pickles) (d : Contents) (k : ℕ) (s : State) (q : Standing) : Type 0 where
   pub stands_there : q ≡ standing_at how d k s
-  pub acts : acts_before V (ignoring p) (standing_first how p (document_bytes d)) k ≡ told V d.many (ops_of d) k
+  pub acts : acts_before V (ignoring p) (standing_first how p (document_bytes d)) k ≡ listed V d.many (ops_of d) k
   pub proto : protocol (ignoring p) (standing_first how p (document_bytes d)) k ≡ protocol_at (ops_of d) k
 
 stands_zero : (how : Detail) (p : Pickles) (bytes : List ℕ) (q : Standing) → stands (ignoring p) (standing_first how p bytes) 0 ≡ Some q → standing_first how p bytes ≡ q
@@ -192,7 +192,7 @@ first_stands how p d mode =
     ∙ ap (λ (n : ℕ). record { state = start d.many; rest = drop n (document_bytes d); at = record { offset = n; place = 0; left = 0 }; naming = naming_at how d 0 }) none
 
 beside_first : (how : Detail) (V : ℕ → Value) (p : Pickles) (d : Contents) (s : State) (q : Standing) → d.many ≡ are_many p → start d.many ≡ s → standing_first how p (document_bytes d) ≡ q → Beside how V p d 0 s q
-unfolding acts_before protocol told protocol_at
+unfolding acts_before protocol listed protocol_at
 beside_first how V p d s q mode e f = record { stands_there = sym f ∙ first_stands how p d mode ∙ ap (standing_at how d 0) e; acts = refl; proto = refl }
 
 -- where it stood before
@@ -261,23 +261,23 @@ next_stands how p d k s t o anew there to =
     ∙ ap (λ (n : ℕ). record { state = t; rest = drop (offset_of d (suc k)) (document_bytes d); at = record { offset = offset_of d (suc k); place = n; left = 0 }; naming = naming_on (Some o) (Some t) (naming_at how d k) }) place
     ∙ ap (λ (m : Naming). record { state = t; rest = drop (offset_of d (suc k)) (document_bytes d); at = record { offset = offset_of d (suc k); place = suc k; left = 0 }; naming = m }) names
 
--- what is told of an item
+-- what is listed of an item
 item_acts : (V : ℕ → Value) (p : Pickles) (proto : ℕ) (q : Standing) (o : Operation) (t : State) → begins_anew p ≡ true → move_as (asks_less (row_of o) (fresh q.state)) o q.at.place q.state ≡ Ok t
-    → acts_gone V proto q (gone_to (ignoring p) q (item_taken o) (one_move (asks_less (row_of o) (fresh q.state))) (Ok t)) ≡ acts_told V proto (fresh q.state) t (event_of (row_of o) (before_of (fresh q.state)) t)
+    → acts_gone V proto q (gone_to (ignoring p) q (item_taken o) (one_move (asks_less (row_of o) (fresh q.state))) (Ok t)) ≡ acts_listed V proto (fresh q.state) t (event_of (row_of o) (before_of (fresh q.state)) t)
 item_acts V p proto q o t anew moves =
     let m : LoaderMove = one_move (asks_less (row_of o) (fresh q.state)) in
     let moved : moved_so m o q.at.place q.state ≡ Ok t = ap (λ (x : Result State Refusal). then_as m o q.at.place x) moves in
-    ap (λ (x : State). acts_told V proto (fresh q.state) x (event_by m q.state t None)) (anew_state p o.opcode t anew)
-    ∙ ap (λ (e : Option Event). acts_told V proto (fresh q.state) t e) (event_fresh m o q.at.place q.state t (sym (moved_on_fresh m o q.at.place q.state) ∙ moved))
-    ∙ ap (λ (e : Option Event). acts_told V proto (fresh q.state) t e) (event_less (row_of o) (fresh q.state) (before_of (fresh q.state)) t)
+    ap (λ (x : State). acts_listed V proto (fresh q.state) x (event_by m q.state t None)) (anew_state p o.opcode t anew)
+    ∙ ap (λ (e : Option Event). acts_listed V proto (fresh q.state) t e) (event_fresh m o q.at.place q.state t (sym (moved_on_fresh m o q.at.place q.state) ∙ moved))
+    ∙ ap (λ (e : Option Event). acts_listed V proto (fresh q.state) t e) (event_less (row_of o) (fresh q.state) (before_of (fresh q.state)) t)
 
 pub accepted_move : (o : Operation) (k : ℕ) (s t : State) → refusal_at o s ≡ None → next o k s ≡ t → move o k s ≡ Ok t
 accepted_move o k s t none leads = ap (λ (x : Option Refusal). outcome x (next o k s)) none ∙ ap Ok leads
 
--- what is told up to behind an item
+-- what is listed up to behind an item
 pub acts_next : (how : Detail) (V : ℕ → Value) (p : Pickles) (d : Contents) (k : ℕ) (s t : State) (o : Operation) (q : Standing) → IsFormed d → length (document_bytes d) < 2 ^ 64 → begins_anew p ≡ true → item_at d k ≡ Some o
     → run (start d.many) (ops_of d) k ≡ Some s → run (start d.many) (ops_of d) (suc k) ≡ Some t → move o k s ≡ Ok t → stands (ignoring p) (standing_first how p (document_bytes d)) k ≡ Some q → Beside how V p d k s q
-    → acts_before V (ignoring p) (standing_first how p (document_bytes d)) (suc k) ≡ told V d.many (ops_of d) (suc k)
+    → acts_before V (ignoring p) (standing_first how p (document_bytes d)) (suc k) ≡ listed V d.many (ops_of d) (suc k)
 unfolding acts_before
 acts_next how V p d k s t o q formed small anew there from to moves stood beside =
     let first : Standing = standing_first how p (document_bytes d) in
@@ -290,8 +290,8 @@ acts_next how V p d k s t o q formed small anew there from to moves stood beside
     ∙ ap (λ (x : Gone). acts_before V (ignoring p) first k ++ acts_gone V (protocol (ignoring p) first k) at x) both.1
     ∙ ap (λ (n : ℕ). acts_before V (ignoring p) first k ++ acts_gone V n at g) beside.proto
     ∙ ap (λ (l : List Act). l ++ acts_gone V (protocol_at (ops_of d) k) at g) beside.acts
-    ∙ ap (λ (l : List Act). told V d.many (ops_of d) k ++ l) (item_acts V p (protocol_at (ops_of d) k) at o t anew taken_move.next)
-    ∙ sym (next_told V d.many (ops_of d) k o s t there from to)
+    ∙ ap (λ (l : List Act). listed V d.many (ops_of d) k ++ l) (item_acts V p (protocol_at (ops_of d) k) at o t anew taken_move.next)
+    ∙ sym (next_listed V d.many (ops_of d) k o s t there from to)
 
 beside_next : (how : Detail) (V : ℕ → Value) (p : Pickles) (d : Contents) (k : ℕ) (s t : State) (o : Operation) (q r : Standing) → IsFormed d → length (document_bytes d) < 2 ^ 64 → begins_anew p ≡ true → item_at d k ≡ Some o
     → run (start d.many) (ops_of d) k ≡ Some s → run (start d.many) (ops_of d) (suc k) ≡ Some t → move o k s ≡ Ok t

@@ -24,7 +24,7 @@ use Rattle.pickle_machine.specs.Loader.{loose_at, view_at, opaque_at, iterates_a
 use Rattle.pickle_loader.specs.Environment.{PyType, PyList, PyDict, PyByteArray, Value, Plain, Own, Foreign, is_elsewhere, Act, Given, Find, Call, New, NewEx, SetState, Method, Reply, Raises, Answers, Unpickler}
 use Rattle.pickle_loader.specs.Unpickler.{Step, Ran, Raised, answered, ask, make, get, if_able, can_call, can_call_with, iterates, has_keys, is_str, viewed, put_in, fill_own, fill, fills, fill_pairs, then_raises, pop, item, on_top, pop_mark, instantiated, tell}
 use Rattle.pickle_loader.specs.Dispatch.{dispatch}
-use Rattle.pickle_loader.specs.Told.{told_of}
+use Rattle.pickle_loader.specs.Listed.{listed_of}
 use Rattle.pickle_loader.specs.Whole.{IsWhole}
 use Rattle.pickle_loader.specs.Beyond.{is_missing, RaisesAt}
 use Rattle.pickle_loader.proofs.Images.{image, pop_image, on_top_image, mark_image}
@@ -36,13 +36,13 @@ use Rattle.pickle_loader.proofs.Origins.{neither, not_elsewhere, not_iterates, n
 
 -- ---- tests
 
--- it raises, and what it did besides is not told
-abbrev pub Untold : Here → Step → Type 0
-Untold h step = RaisesAt (told_of h.acts) step
+-- it raises, and what it did besides is not listed
+abbrev pub Unlisted : Here → Step → Type 0
+Unlisted h step = RaisesAt (listed_of h.acts) step
 
 -- where a refusal does not say that something is missing, it raises
 abbrev pub Others : Here → Option Refusal → Step → Type 0
-Others h x step = (r : Refusal) → x ≡ Some r → is_missing r ≡ false → Untold h step
+Others h x step = (r : Refusal) → x ≡ Some r → is_missing r ≡ false → Unlisted h step
 
 none : (h : Here) (step : Step) → Others h None step
 none h step r e m = absurd cc
@@ -54,22 +54,22 @@ past h false x rest step f more r e m =
     let bad : true ≡ false = sym f ∙ ap is_missing same ∙ m in
     absurd cc
 
-raised_by : (h : Here) (b : Bool) (x : Refusal) (rest : Option Refusal) (step : Step) → (b ≡ false → Untold h step) → (b ≡ true → Others h rest step) → Others h (unless b x rest) step
+raised_by : (h : Here) (b : Bool) (x : Refusal) (rest : Option Refusal) (step : Step) → (b ≡ false → Unlisted h step) → (b ≡ true → Others h rest step) → Others h (unless b x rest) step
 raised_by h true x rest step short long r e m = long refl r e m
 raised_by h false x rest step short long r e m = short refl
 
 only_missing : (h : Here) (b : Bool) (x : Refusal) (step : Step) → is_missing x ≡ true → Others h (unless b x None) step
 only_missing h b x step f = past h b x None step f (λ _. none h step)
 
-always : (h : Here) (x : Option Refusal) (step : Step) → Untold h step → Others h x step
-always h x step untold r e m = untold
+always : (h : Here) (x : Option Refusal) (step : Step) → Unlisted h step → Others h x step
+always h x step unlisted r e m = unlisted
 
 -- a method runs unseen, and then it raises
-method_raises : (h : Here) (r : Reply) (u : Unpickler) → u.acts ≡ h.acts → Untold h (answered r Method u (λ v q. Raised q.acts))
-method_raises h Raises u e = quiet u.acts Method refl ∙ ap told_of e
-method_raises h (Answers x) u e = quiet u.acts Method refl ∙ ap told_of e
+method_raises : (h : Here) (r : Reply) (u : Unpickler) → u.acts ≡ h.acts → Unlisted h (answered r Method u (λ v q. Raised q.acts))
+method_raises h Raises u e = quiet u.acts Method refl ∙ ap listed_of e
+method_raises h (Answers x) u e = quiet u.acts Method refl ∙ ap listed_of e
 
-unable : (h : Here) (b : Bool) (u : Unpickler) (step : Step) → u.acts ≡ h.acts → b ≡ false → Untold h (if_able h.w b u step)
+unable : (h : Here) (b : Bool) (u : Unpickler) (step : Step) → u.acts ≡ h.acts → b ≡ false → Unlisted h (if_able h.w b u step)
 unable h true u step e f = absurd cc
 unable h false u step e f = method_raises h (h.w.reply u.acts Method) u e
 
@@ -188,9 +188,9 @@ call_with_others h false whole e =
     (unable h (can_call_with h.w (item 0 vs) (item 1 vs) (item 2 vs)) q (get h.w (NewEx (item 0 vs) (item 1 vs) (item 2 vs)) q) refl same))
 
 -- OBJ
-class_untold : (h : Here) (xs : List ℕ) (q : Unpickler) → q.acts ≡ h.acts → is_elsewhere (h.V (get_or xs 0 0)) ≡ false → Untold h (instantiated h.w (map h.V xs) q)
-class_untold h [] q e bad = ap told_of e
-class_untold h (x ∷ xs) q e bad = unable h (is_elsewhere (h.V x)) q _ e bad
+class_unlisted : (h : Here) (xs : List ℕ) (q : Unpickler) → q.acts ≡ h.acts → is_elsewhere (h.V (get_or xs 0 0)) ≡ false → Unlisted h (instantiated h.w (map h.V xs) q)
+class_unlisted h [] q e bad = ap listed_of e
+class_unlisted h (x ∷ xs) q e bad = unable h (is_elsewhere (h.V x)) q _ e bad
 
 obj_others : (h : Here) (b : Bool) → IsWhole h.s → takes_obj h.s ≡ b → Others h (refusal_of (cond b (row.Cut cutting.Any) (row.Cut cutting.Callable)) h.s) (pop_mark (unpickler h) (λ items q. instantiated h.w items q))
 obj_others h true whole e = cut_others h cutting.Any (λ items q. instantiated h.w items q) (none h _)
@@ -200,15 +200,15 @@ obj_others h false whole e =
     (λ enough.
     let some : 0 < length h.s.top = omega (arith, leb-true 1 (length h.s.top) enough) in
     let bad : loose_at h.s.heap (slice_index h.s.top 0) ≡ false = ap (λ (b : Bool). b && loose_at h.s.heap (slice_index h.s.top 0)) (sym (lt-ltb 0 (length h.s.top) some)) ∙ e in
-    always h _ _ (class_untold h h.s.top (image h.V (cut h.s) h.proto h.acts) refl (not_elsewhere h (get_or h.s.top 0 0) whole (there_first (length h.s.heap) h.s.top whole.top some) bad))))
+    always h _ _ (class_unlisted h h.s.top (image h.V (cut h.s) h.proto h.acts) refl (not_elsewhere h (get_or h.s.top 0 0) whole (there_first (length h.s.heap) h.s.top whole.top some) bad))))
 
 -- ---- names
 
-names_untold : (h : Here) (a b : Bool) (x : Step) → (a ≡ false) ⊎ (b ≡ false) → Untold h (if a then (if b then x else Raised h.acts) else Raised h.acts)
-names_untold h false b x bad = refl
-names_untold h true false x bad = refl
-names_untold h true true x (inl bad) = absurd cc
-names_untold h true true x (inr bad) = absurd cc
+names_unlisted : (h : Here) (a b : Bool) (x : Step) → (a ≡ false) ⊎ (b ≡ false) → Unlisted h (if a then (if b then x else Raised h.acts) else Raised h.acts)
+names_unlisted h false b x bad = refl
+names_unlisted h true false x bad = refl
+names_unlisted h true true x (inl bad) = absurd cc
+names_unlisted h true true x (inr bad) = absurd cc
 
 names_others : (h : Here) → IsWhole h.s
     → Others h (refusal_of (row.Take taking.Names) h.s) (pop 2 (unpickler h) (λ vs q. if is_str h.w (item 1 vs) then (if is_str h.w (item 0 vs) then get h.w (Find q.proto (Given (item 0 vs)) (Given (item 1 vs))) q else Raised q.acts) else Raised q.acts))
@@ -219,14 +219,14 @@ names_others h whole =
     let upper : is_str h.w (item 1 vs) ≡ is_str h.w (h.V (deep 0 h.s.top)) = ap (is_str h.w) (value_at h 2 1 0 refl enough) in
     let lower : is_str h.w (item 0 vs) ≡ is_str h.w (h.V (deep 1 h.s.top)) = ap (is_str h.w) (value_at h 2 0 1 refl enough) in
     raised_by h (object_meets demand.Text h.s (deep 0 h.s.top)) (refusal.NotText (deep 0 h.s.top)) _ _
-    (λ bad. names_untold h (is_str h.w (item 1 vs)) (is_str h.w (item 0 vs)) _ (inl (upper ∙ not_text h (deep 0 h.s.top) (there_at_depth h 0 2 whole (omega arith) enough) bad)))
+    (λ bad. names_unlisted h (is_str h.w (item 1 vs)) (is_str h.w (item 0 vs)) _ (inl (upper ∙ not_text h (deep 0 h.s.top) (there_at_depth h 0 2 whole (omega arith) enough) bad)))
     (λ _. raised_by h (object_meets demand.Text h.s (deep 1 h.s.top)) (refusal.NotText (deep 1 h.s.top)) None _
-    (λ bad. names_untold h (is_str h.w (item 1 vs)) (is_str h.w (item 0 vs)) _ (inr (lower ∙ not_text h (deep 1 h.s.top) (there_at_depth h 1 2 whole (omega arith) enough) bad)))
+    (λ bad. names_unlisted h (is_str h.w (item 1 vs)) (is_str h.w (item 0 vs)) _ (inr (lower ∙ not_text h (deep 1 h.s.top) (there_at_depth h 1 2 whole (omega arith) enough) bad)))
     (λ _. none h _)))
 
 -- ---- DICT
 
-odd_dict : (h : Here) (r : Reply) (b : Bool) (x : Unpickler → Step) (u : Unpickler) → u.acts ≡ h.acts → b ≡ false → Untold h (answered r Method u (λ v q. if b then x q else Raised q.acts))
+odd_dict : (h : Here) (r : Reply) (b : Bool) (x : Unpickler → Step) (u : Unpickler) → u.acts ≡ h.acts → b ≡ false → Unlisted h (answered r Method u (λ v q. if b then x q else Raised q.acts))
 odd_dict h r true x u e bad = absurd cc
 odd_dict h r false x u e bad = method_raises h r u e
 
@@ -240,8 +240,8 @@ dict_others h =
 
 -- ---- READONLY_BUFFER
 
-raised_untold : (h : Here) (x : Step) → x ≡ Raised h.acts → Untold h x
-raised_untold h x e = subst (λ (y : Step). Untold h y) (sym e) refl
+raised_unlisted : (h : Here) (x : Step) → x ≡ Raised h.acts → Unlisted h x
+raised_unlisted h x e = subst (λ (y : Step). Unlisted h y) (sym e) refl
 
 view_others : (h : Here) (b : Bool) → IsWhole h.s → takes_string h.s ≡ b → Others h (refusal_of (cond b row.Nothing row.ReadOnly) h.s) (on_top (unpickler h) (λ v. viewed h.w v (unpickler h)))
 view_others h true whole is = none h _
@@ -253,7 +253,7 @@ view_others h false whole is =
     let both = neither (object_meets demand.ReadOnly h.s id) (object_meets demand.Writable h.s id) bad in
     let some : 0 < length h.s.top = omega (arith, leb-true 1 (length h.s.top) enough) in
     let text : string_at h.s.heap id ≡ false = ap (λ (b : Bool). b && string_at h.s.heap id) (sym (lt-ltb 0 (length h.s.top) some)) ∙ is in
-    raised_untold h (viewed h.w (h.V id) (unpickler h)) (not_viewed h id (unpickler h) (there_at_depth h 0 1 whole (omega arith) enough) text both.0 both.1))
+    raised_unlisted h (viewed h.w (h.V id) (unpickler h)) (not_viewed h id (unpickler h) (there_at_depth h 0 1 whole (omega arith) enough) text both.0 both.1))
     (λ _. none h _))
 
 -- ---- what is put in
@@ -273,15 +273,15 @@ no_odd_fill false v o q x e h g = absurd cc
 
 -- some items, none of which can go in
 some_fill : (h : Here) (f : Filling) (id : ℕ) (items : List ℕ) (u : Unpickler) → IsWhole h.s → id < length h.s.heap → u.acts ≡ h.acts → 0 < length items → object_meets (demand.Target f) h.s id ≡ false → view_at h.s.heap id ≡ false
-    → Untold h (fills h.w f (h.V id) (map h.V items) u)
+    → Unlisted h (fills h.w f (h.V id) (map h.V items) u)
 some_fill h f id [] u whole within e some bad view = absurd (omega (arith, some))
 some_fill h f id (x ∷ items) u whole within e some bad view =
     let elsewhere : is_elsewhere (h.V id) ≡ false = not_elsewhere h id whole within (target_loose h f id within bad view) in
-    subst (λ (y : Step). Untold h y) (sym (not_filled h f id (map h.V (x ∷ items)) u within bad elsewhere)) (ap told_of e)
+    subst (λ (y : Step). Unlisted h y) (sym (not_filled h f id (map h.V (x ∷ items)) u within bad elsewhere)) (ap listed_of e)
 
 change_others : (h : Here) (f : Filling) (go : List Value → Value → Unpickler → Step)
     → (nat_le (values_of f + 1) (length h.s.top) ≡ true → object_meets (demand.Target f) h.s (deep (values_of f) h.s.top) ≡ false
-    → Untold h (go (map h.V (last_of (values_of f) h.s)) (h.V (deep (values_of f) h.s.top)) (image h.V (without (values_of f) h.s) h.proto h.acts)))
+    → Unlisted h (go (map h.V (last_of (values_of f) h.s)) (h.V (deep (values_of f) h.s.top)) (image h.V (without (values_of f) h.s) h.proto h.acts)))
     → Others h (refusal_of (row.Change f) h.s) (pop (values_of f) (unpickler h) (λ vs q. on_top q (λ target. go vs target q)))
 change_others h f go more =
     let n : ℕ = values_of f in
@@ -290,9 +290,9 @@ change_others h f go more =
     let below : n < length h.s.top = omega (arith, leb-true (n + 1) (length h.s.top) enough) in
     let size : length (without n h.s).top ≡ length h.s.top - n = length-take-le (length h.s.top - n) h.s.top (omega arith) in
     raised_by h (object_meets (demand.Target f) h.s (deep n h.s.top)) (refusal.WrongKind (deep n h.s.top)) None _
-    (λ bad. subst (λ (x : Step). Untold h x) (sym (pop_image h.V h.s h.proto h.acts n (λ vs q. on_top q (λ target. go vs target q)) (le-leb n (length h.s.top) (omega (arith, below)))))
-    (subst (λ (x : Step). Untold h x) (sym (on_top_image h.V (without n h.s) h.proto h.acts (λ target. go (map h.V (last_of n h.s)) target (image h.V (without n h.s) h.proto h.acts)) (le-leb 1 (length (without n h.s).top) (omega (arith, size, below)))))
-    (subst (λ (id : ℕ). Untold h (go (map h.V (last_of n h.s)) (h.V id) (image h.V (without n h.s) h.proto h.acts))) (sym (deep_without n h.s.top below)) (more enough bad))))
+    (λ bad. subst (λ (x : Step). Unlisted h x) (sym (pop_image h.V h.s h.proto h.acts n (λ vs q. on_top q (λ target. go vs target q)) (le-leb n (length h.s.top) (omega (arith, below)))))
+    (subst (λ (x : Step). Unlisted h x) (sym (on_top_image h.V (without n h.s) h.proto h.acts (λ target. go (map h.V (last_of n h.s)) target (image h.V (without n h.s) h.proto h.acts)) (le-leb 1 (length (without n h.s).top) (omega (arith, size, below)))))
+    (subst (λ (id : ℕ). Unlisted h (go (map h.V (last_of n h.s)) (h.V id) (image h.V (without n h.s) h.proto h.acts))) (sym (deep_without n h.s.top below)) (more enough bad))))
     (λ _. none h _))
 
 length_drop_all : (n : ℕ) (xs : List ℕ) → n < length xs → length (drop (length xs - n) xs) ≡ n
@@ -374,45 +374,45 @@ items_others h f whole unpaired view e =
 
 -- ---- SETITEMS
 
--- what becomes of pairs in a container of the unpickler's own is not told
-then_untold : (h : Here) (x : Step) (u : Unpickler) → told_of u.acts ≡ told_of h.acts → x ≡ Ran u → Untold h (then_raises x)
-then_untold h x u e is = subst (λ (y : Step). Untold h (then_raises y)) (sym is) e
+-- what becomes of pairs in a container of the unpickler's own is not listed
+then_unlisted : (h : Here) (x : Step) (u : Unpickler) → listed_of u.acts ≡ listed_of h.acts → x ≡ Ran u → Unlisted h (then_raises x)
+then_unlisted h x u e is = subst (λ (y : Step). Unlisted h (then_raises y)) (sym is) e
 
-put_untold : (h : Here) (r : Reply) (t : PyType) (n : ℕ) (items : List Value) (u : Unpickler) → u.acts ≡ h.acts → Untold h (then_raises (answered r Method u (λ v q. put_in filling.SetItem (Own t n) items q)))
-put_untold h Raises t n items u e = quiet u.acts Method refl ∙ ap told_of e
-put_untold h (Answers x) t n items u e = quiet (u.acts ++ Method ∷ []) _ refl ∙ quiet u.acts Method refl ∙ ap told_of e
+put_unlisted : (h : Here) (r : Reply) (t : PyType) (n : ℕ) (items : List Value) (u : Unpickler) → u.acts ≡ h.acts → Unlisted h (then_raises (answered r Method u (λ v q. put_in filling.SetItem (Own t n) items q)))
+put_unlisted h Raises t n items u e = quiet u.acts Method refl ∙ ap listed_of e
+put_unlisted h (Answers x) t n items u e = quiet (u.acts ++ Method ∷ []) _ refl ∙ quiet u.acts Method refl ∙ ap listed_of e
 
-pub own_untold : (h : Here) (t : PyType) (n : ℕ) (items : List Value) (u : Unpickler) → u.acts ≡ h.acts → Untold h (then_raises (fill_own h.w filling.SetItem t (Own t n) items u))
-own_untold h PyDict n items u e = put_untold h (h.w.reply u.acts Method) PyDict n items u e
-own_untold h PyList n items u e = put_untold h (h.w.reply u.acts Method) PyList n items u e
-own_untold h PyByteArray n items u e = put_untold h (h.w.reply u.acts Method) PyByteArray n items u e
-own_untold h _ n items u e = ap told_of e
+pub own_unlisted : (h : Here) (t : PyType) (n : ℕ) (items : List Value) (u : Unpickler) → u.acts ≡ h.acts → Unlisted h (then_raises (fill_own h.w filling.SetItem t (Own t n) items u))
+own_unlisted h PyDict n items u e = put_unlisted h (h.w.reply u.acts Method) PyDict n items u e
+own_unlisted h PyList n items u e = put_unlisted h (h.w.reply u.acts Method) PyList n items u e
+own_unlisted h PyByteArray n items u e = put_unlisted h (h.w.reply u.acts Method) PyByteArray n items u e
+own_unlisted h _ n items u e = ap listed_of e
 
-odd_own : (h : Here) (v : Value) (items : List Value) (u : Unpickler) → u.acts ≡ h.acts → is_elsewhere v ≡ false → Untold h (then_raises (fills h.w filling.SetItem v items u))
-odd_own h (Plain k) [] u e bad = ap told_of e
-odd_own h (Own t n) [] u e bad = ap told_of e
-odd_own h (Plain k) (x ∷ items) u e bad = ap told_of e
-odd_own h (Own t n) (x ∷ items) u e bad = own_untold h t n (x ∷ items) u e
+odd_own : (h : Here) (v : Value) (items : List Value) (u : Unpickler) → u.acts ≡ h.acts → is_elsewhere v ≡ false → Unlisted h (then_raises (fills h.w filling.SetItem v items u))
+odd_own h (Plain k) [] u e bad = ap listed_of e
+odd_own h (Own t n) [] u e bad = ap listed_of e
+odd_own h (Plain k) (x ∷ items) u e bad = ap listed_of e
+odd_own h (Own t n) (x ∷ items) u e bad = own_unlisted h t n (x ∷ items) u e
 odd_own h (Foreign t n) items u e bad = absurd cc
 
 -- of one key nothing is put in
-tell_untold : (h : Here) (r : Reply) (u : Unpickler) → u.acts ≡ h.acts → Untold h (then_raises (answered r Method u (λ v q. Ran q)))
-tell_untold h Raises u e = quiet u.acts Method refl ∙ ap told_of e
-tell_untold h (Answers x) u e = quiet u.acts Method refl ∙ ap told_of e
+tell_unlisted : (h : Here) (r : Reply) (u : Unpickler) → u.acts ≡ h.acts → Unlisted h (then_raises (answered r Method u (λ v q. Ran q)))
+tell_unlisted h Raises u e = quiet u.acts Method refl ∙ ap listed_of e
+tell_unlisted h (Answers x) u e = quiet u.acts Method refl ∙ ap listed_of e
 
-nothing_untold : (h : Here) (b : Bool) (u : Unpickler) → u.acts ≡ h.acts → Untold h (then_raises (if b then tell h.w Method u else Ran u))
-nothing_untold h true u e = tell_untold h (h.w.reply u.acts Method) u e
-nothing_untold h false u e = ap told_of e
+nothing_unlisted : (h : Here) (b : Bool) (u : Unpickler) → u.acts ≡ h.acts → Unlisted h (then_raises (if b then tell h.w Method u else Ran u))
+nothing_unlisted h true u e = tell_unlisted h (h.w.reply u.acts Method) u e
+nothing_unlisted h false u e = ap listed_of e
 
-odd_none : (h : Here) (v : Value) (items : List Value) (u : Unpickler) → u.acts ≡ h.acts → length items ≡ 0 → Untold h (then_raises (fills h.w filling.SetItem v items u))
-odd_none h (Plain k) [] u e bad = ap told_of e
-odd_none h (Own t n) [] u e bad = ap told_of e
-odd_none h (Foreign t n) [] u e bad = nothing_untold h h.w.looks_up_for_nothing u e
+odd_none : (h : Here) (v : Value) (items : List Value) (u : Unpickler) → u.acts ≡ h.acts → length items ≡ 0 → Unlisted h (then_raises (fills h.w filling.SetItem v items u))
+odd_none h (Plain k) [] u e bad = ap listed_of e
+odd_none h (Own t n) [] u e bad = ap listed_of e
+odd_none h (Foreign t n) [] u e bad = nothing_unlisted h h.w.looks_up_for_nothing u e
 odd_none h v (x ∷ items) u e bad = absurd (omega (arith, bad))
 
 odd_by : (h : Here) (id n : ℕ) (items : List Value) (u : Unpickler) (b : Bool) → IsWhole h.s → id < length h.s.heap → u.acts ≡ h.acts → nat_lt 0 (n / 2) ≡ b → length items ≡ n - 1 → n % 2 ≡ 1
     → is_odd filling.SetItem n ≡ true → fill_when filling.SetItem n id h.s.heap ≡ None
-    → Untold h (then_raises (fills h.w filling.SetItem (h.V id) items u))
+    → Unlisted h (then_raises (fills h.w filling.SetItem (h.V id) items u))
 odd_by h id n items u true whole within e some size odd sets put =
     let bad = no_odd_fill (nat_lt 0 (n / 2)) (view_at h.s.heap id) (is_odd filling.SetItem n) (opaque_at h.s.heap id) _ put some sets in
     let loose : loose_at h.s.heap id ≡ false = ap (λ (b : Bool). opaque_at h.s.heap id || b) bad.0 ∙ ap (λ (b : Bool). b || false) bad.1 in
@@ -420,10 +420,10 @@ odd_by h id n items u true whole within e some size odd sets put =
 odd_by h id n items u false whole within e some size odd sets put =
     odd_none h (h.V id) items u e (omega (arith, size, ltb-false 0 (n / 2) some, odd))
 
-fill_pairs_by : (h : Here) (b : Bool) (v : Value) (items : List Value) (q : Unpickler) → b ≡ false → Untold h (then_raises (fills h.w filling.SetItem v (take (length items - 1) items) q))
-    → Untold h (if b then fills h.w filling.SetItem v items q else then_raises (fills h.w filling.SetItem v (take (length items - 1) items) q))
-fill_pairs_by h true v items q e untold = absurd cc
-fill_pairs_by h false v items q e untold = untold
+fill_pairs_by : (h : Here) (b : Bool) (v : Value) (items : List Value) (q : Unpickler) → b ≡ false → Unlisted h (then_raises (fills h.w filling.SetItem v (take (length items - 1) items) q))
+    → Unlisted h (if b then fills h.w filling.SetItem v items q else then_raises (fills h.w filling.SetItem v (take (length items - 1) items) q))
+fill_pairs_by h true v items q e unlisted = absurd cc
+fill_pairs_by h false v items q e unlisted = unlisted
 
 is_odd_number : (n : ℕ) → (n % 2 == 0) ≡ false → n % 2 ≡ 1
 is_odd_number n e = grind arith

@@ -27,13 +27,13 @@ use Rattle.pickle_further.specs.Going.{used_op, then_as, moved_so}
 use Rattle.pickle_loader.specs.Environment.{PyType, Value, Plain, Own, Foreign, Line, Act, Find, Instance, Fill, Reply, Raises, Answers, Unpickler}
 use Rattle.pickle_loader.specs.Unpickler.{Step, Ran, Stopped, Raised, answered, acted, get, fill_own, fills, fill_pairs, then_raises, to_mark, pop_mark, on_top}
 use Rattle.pickle_loader.specs.Dispatch.{dispatch, load_op}
-use Rattle.pickle_loader.specs.Told.{told_of, acts_told, protocol_after, taken}
+use Rattle.pickle_loader.specs.Listed.{listed_of, acts_listed, protocol_after, taken}
 use Rattle.pickle_loader.specs.Laws.{sections, IsSame}
 use Rattle.pickle_loader.specs.Whole.{IsWhole}
 use Rattle.pickle_loader.specs.Beyond.{HasValue, is_missing, less_of, StepFollows, MapsNew, dropped, RaisesAt, RaisesIn, Moves, Comes, AStepBeyond}
 use Rattle.pickle_loader.proofs.Cuts.{zero_only}
 use Rattle.pickle_loader.proofs.Images.{image, mark_image, on_top_image}
-use Rattle.pickle_loader.proofs.Pushes.{told_pushed, told_one}
+use Rattle.pickle_loader.proofs.Pushes.{listed_pushed, listed_one}
 use Rattle.pickle_loader.proofs.Methods.{Here, unpickler}
 use Rattle.pickle_loader.proofs.Fills.{taken_is, split_cut}
 use Rattle.pickle_loader.proofs.Still.{fresh_same}
@@ -41,15 +41,15 @@ use Rattle.pickle_loader.proofs.Beyond.{same_image, wide_moves_are_followed}
 use Rattle.pickle_loader.proofs.Missing.{what_is_missing_raises}
 use Rattle.pickle_loader.proofs.Viewed.{some_of, fills_are_followed}
 use Rattle.pickle_loader.proofs.Wholes.{whole_push, whole_without, whole_cut, whole_next, no_view_kind}
-use Rattle.pickle_loader.proofs.Refused.{Untold, own_untold, others}
+use Rattle.pickle_loader.proofs.Refused.{Unlisted, own_unlisted, others}
 
 -- ---- where it is refused
 
-untold_by : (h : Here) (o : Operation) (b : Bool) → Untold h (dispatch h.w o.opcode o.arg (unpickler h)) → Untold h (if b then Raised h.acts else dispatch h.w o.opcode o.arg (unpickler h))
-untold_by h o true untold = refl
-untold_by h o false untold = untold
+unlisted_by : (h : Here) (o : Operation) (b : Bool) → Unlisted h (dispatch h.w o.opcode o.arg (unpickler h)) → Unlisted h (if b then Raised h.acts else dispatch h.w o.opcode o.arg (unpickler h))
+unlisted_by h o true unlisted = refl
+unlisted_by h o false unlisted = unlisted
 
-raised_at : (acts : List Act) (x : Step) (done : List Act) → x ≡ Raised done → told_of done ≡ acts → RaisesAt acts x
+raised_at : (acts : List Act) (x : Step) (done : List Act) → x ≡ Raised done → listed_of done ≡ acts → RaisesAt acts x
 raised_at acts x done is e = subst (λ (y : Step). RaisesAt acts y) (sym is) e
 
 -- INST that is refused has no mark
@@ -74,10 +74,10 @@ not_inst o s r false is m e = is
 not_inst o s r true is m e = absurd (inst_refused o.opcode o.arg s r (inst_only o.opcode is) e m)
 
 refused_by : (h : Here) (o : Operation) (r : Refusal) (b : Bool) → HasValue o → is_missing r ≡ b → IsWhole h.s → IsSame h.w h.V h.s (unpickler h) → (is_inst o.opcode && (length h.s.marked == 0)) ≡ false → fill_of (row_of o) h.s ≡ None
-    → refusal_of (less_of o h.s) h.s ≡ Some r → Untold h (load_op h.w o (unpickler h))
+    → refusal_of (less_of o h.s) h.s ≡ Some r → Unlisted h (load_op h.w o (unpickler h))
 refused_by h o r true value is whole same inst fill e =
-    raised_at (told_of h.acts) (load_op h.w o (unpickler h)) h.acts (what_is_missing_raises h.w h.V h.s (unpickler h) o r value same (not_inst o h.s r (is_inst o.opcode) refl inst e) e is) refl
-refused_by h o r false value is whole same inst fill e = untold_by h o (h.w.fails (unpickler h) o) (others h o.opcode o.arg whole fill r e is)
+    raised_at (listed_of h.acts) (load_op h.w o (unpickler h)) h.acts (what_is_missing_raises h.w h.V h.s (unpickler h) o r value same (not_inst o h.s r (is_inst o.opcode) refl inst e) e is) refl
+refused_by h o r false value is whole same inst fill e = unlisted_by h o (h.w.fails (unpickler h) o) (others h o.opcode o.arg whole fill r e is)
 
 -- ---- INST that only imports
 
@@ -85,21 +85,21 @@ no_marks : (V : ℕ → Value) (ms : List Marked) (u : Unpickler) (go : List Val
 no_marks V [] u go e = refl
 no_marks V (m ∷ ms) u go e = let none : length (m ∷ ms) ≡ 0 = zero_only (length (m ∷ ms)) e in absurd (omega (arith, none))
 
-found_raises : (h : Here) (r : Reply) (a : Act) (new : List Act) (go : List Value → Unpickler → Step) → (length h.s.marked == 0) ≡ true → told_of (a ∷ []) ≡ new
-    → RaisesIn (told_of h.acts ++ new) (answered r a (unpickler h) (λ found p. pop_mark p go))
-found_raises h Raises a new go e is = ([], append-nil (told_of (h.acts ++ a ∷ [])) ∙ told_one h.acts a ∙ ap (λ (l : List Act). told_of h.acts ++ l) is)
+found_raises : (h : Here) (r : Reply) (a : Act) (new : List Act) (go : List Value → Unpickler → Step) → (length h.s.marked == 0) ≡ true → listed_of (a ∷ []) ≡ new
+    → RaisesIn (listed_of h.acts ++ new) (answered r a (unpickler h) (λ found p. pop_mark p go))
+found_raises h Raises a new go e is = ([], append-nil (listed_of (h.acts ++ a ∷ [])) ∙ listed_one h.acts a ∙ ap (λ (l : List Act). listed_of h.acts ++ l) is)
 found_raises h (Answers t) a new go e is =
-    subst (λ (x : Step). RaisesIn (told_of h.acts ++ new) x) (sym (no_marks h.V h.s.marked (acted a (unpickler h)) go e))
-    ([], append-nil (told_of (h.acts ++ a ∷ [])) ∙ told_one h.acts a ∙ ap (λ (l : List Act). told_of h.acts ++ l) is)
+    subst (λ (x : Step). RaisesIn (listed_of h.acts ++ new) x) (sym (no_marks h.V h.s.marked (acted a (unpickler h)) go e))
+    ([], append-nil (listed_of (h.acts ++ a ∷ [])) ∙ listed_one h.acts a ∙ ap (λ (l : List Act). listed_of h.acts ++ l) is)
 
-raises_or : (acts new : List Act) (b : Bool) (x : Step) → RaisesIn (told_of acts ++ new) x → RaisesIn (told_of acts ++ new) (if b then Raised acts else x)
+raises_or : (acts new : List Act) (b : Bool) (x : Step) → RaisesIn (listed_of acts ++ new) x → RaisesIn (listed_of acts ++ new) (if b then Raised acts else x)
 raises_or acts new true x e = (new, refl)
 raises_or acts new false x e = e
 
-import_raises : (h : Here) (o : Opcode) (arg : List ℕ) (new : List Act) → o ≡ op.Inst → (length h.s.marked == 0) ≡ true → Find h.proto (Line (first_text arg)) (Line (second_text arg)) ∷ [] ≡ new → RaisesIn (told_of h.acts ++ new) (dispatch h.w o arg (unpickler h))
-import_raises h op.Inst arg new is e told =
-    found_raises h (h.w.reply h.acts (Find h.proto (Line (first_text arg)) (Line (second_text arg)))) (Find h.proto (Line (first_text arg)) (Line (second_text arg))) new (λ items q. get h.w (Instance None items) q) e told
-import_raises h _ arg new is e told = absurd cc
+import_raises : (h : Here) (o : Opcode) (arg : List ℕ) (new : List Act) → o ≡ op.Inst → (length h.s.marked == 0) ≡ true → Find h.proto (Line (first_text arg)) (Line (second_text arg)) ∷ [] ≡ new → RaisesIn (listed_of h.acts ++ new) (dispatch h.w o arg (unpickler h))
+import_raises h op.Inst arg new is e listed =
+    found_raises h (h.w.reply h.acts (Find h.proto (Line (first_text arg)) (Line (second_text arg)))) (Find h.proto (Line (first_text arg)) (Line (second_text arg))) new (λ items q. get h.w (Instance None items) q) e listed
+import_raises h _ arg new is e listed = absurd cc
 
 both_are : (a b : Bool) → (a && b) ≡ true → (a ≡ true) × (b ≡ true)
 both_are true b e = (refl, e)
@@ -158,23 +158,23 @@ whole_dropped _ s whole = whole
 
 -- ---- SETITEMS of an odd number
 
-untold_in : (h : Here) (new : List Act) (x : Step) → Untold h x → RaisesIn (told_of h.acts ++ new) x
-untold_in h new (Ran q) e = e
-untold_in h new (Stopped v q) e = e
-untold_in h new (Raised done) e = (new, ap (λ (l : List Act). l ++ new) e)
+unlisted_in : (h : Here) (new : List Act) (x : Step) → Unlisted h x → RaisesIn (listed_of h.acts ++ new) x
+unlisted_in h new (Ran q) e = e
+unlisted_in h new (Stopped v q) e = e
+unlisted_in h new (Raised done) e = (new, ap (λ (l : List Act). l ++ new) e)
 
 set_raises : (h : Here) (r : Reply) (t : PyType) (n : ℕ) (items : List Value) (u : Unpickler) → u.acts ≡ h.acts
-    → RaisesIn (told_of h.acts ++ Fill filling.SetItem (Foreign t n) items ∷ []) (then_raises (answered r (Fill filling.SetItem (Foreign t n) items) u (λ v q. Ran q)))
+    → RaisesIn (listed_of h.acts ++ Fill filling.SetItem (Foreign t n) items ∷ []) (then_raises (answered r (Fill filling.SetItem (Foreign t n) items) u (λ v q. Ran q)))
 set_raises h Raises t n items u e =
-    ([], append-nil (told_of (u.acts ++ Fill filling.SetItem (Foreign t n) items ∷ [])) ∙ told_one u.acts (Fill filling.SetItem (Foreign t n) items) ∙ ap (λ (l : List Act). told_of l ++ Fill filling.SetItem (Foreign t n) items ∷ []) e)
+    ([], append-nil (listed_of (u.acts ++ Fill filling.SetItem (Foreign t n) items ∷ [])) ∙ listed_one u.acts (Fill filling.SetItem (Foreign t n) items) ∙ ap (λ (l : List Act). listed_of l ++ Fill filling.SetItem (Foreign t n) items ∷ []) e)
 set_raises h (Answers x) t n items u e =
-    ([], append-nil (told_of (u.acts ++ Fill filling.SetItem (Foreign t n) items ∷ [])) ∙ told_one u.acts (Fill filling.SetItem (Foreign t n) items) ∙ ap (λ (l : List Act). told_of l ++ Fill filling.SetItem (Foreign t n) items ∷ []) e)
+    ([], append-nil (listed_of (u.acts ++ Fill filling.SetItem (Foreign t n) items ∷ [])) ∙ listed_one u.acts (Fill filling.SetItem (Foreign t n) items) ∙ ap (λ (l : List Act). listed_of l ++ Fill filling.SetItem (Foreign t n) items ∷ []) e)
 
 pairs_raise : (h : Here) (v : Value) (items : List Value) (u : Unpickler) → u.acts ≡ h.acts → 0 < length items
-    → RaisesIn (told_of h.acts ++ Fill filling.SetItem v items ∷ []) (then_raises (fills h.w filling.SetItem v items u))
+    → RaisesIn (listed_of h.acts ++ Fill filling.SetItem v items ∷ []) (then_raises (fills h.w filling.SetItem v items u))
 pairs_raise h v [] u e some = absurd (omega (arith, some))
-pairs_raise h (Plain k) (x ∷ items) u e some = (Fill filling.SetItem (Plain k) (x ∷ items) ∷ [], ap (λ (l : List Act). told_of l ++ Fill filling.SetItem (Plain k) (x ∷ items) ∷ []) e)
-pairs_raise h (Own t n) (x ∷ items) u e some = untold_in h (Fill filling.SetItem (Own t n) (x ∷ items) ∷ []) (then_raises (fill_own h.w filling.SetItem t (Own t n) (x ∷ items) u)) (own_untold h t n (x ∷ items) u e)
+pairs_raise h (Plain k) (x ∷ items) u e some = (Fill filling.SetItem (Plain k) (x ∷ items) ∷ [], ap (λ (l : List Act). listed_of l ++ Fill filling.SetItem (Plain k) (x ∷ items) ∷ []) e)
+pairs_raise h (Own t n) (x ∷ items) u e some = unlisted_in h (Fill filling.SetItem (Own t n) (x ∷ items) ∷ []) (then_raises (fill_own h.w filling.SetItem t (Own t n) (x ∷ items) u)) (own_unlisted h t n (x ∷ items) u e)
 pairs_raise h (Foreign t n) (x ∷ items) u e some = set_raises h (h.w.reply u.acts (Fill filling.SetItem (Foreign t n) (x ∷ items))) t n (x ∷ items) u e
 
 odd_number : (n : ℕ) → (n % 2 == 0) ≡ false → n % 2 ≡ 1
@@ -202,7 +202,7 @@ pairs_by true acts x y e r = absurd cc
 pairs_by false acts x y e r = r
 
 odd_raises : (h : Here) (g : Goes) → fill_of (row.CutChange filling.SetItem) h.s ≡ Some g → is_odd filling.SetItem (length h.s.top) ≡ true
-    → RaisesIn (told_of h.acts ++ acts_told h.V h.proto h.s (cut h.s) (Some (event.Filled g.filling g.count g.target))) (pop_mark (unpickler h) (λ items q. on_top q (λ target. fill_pairs h.w target items q)))
+    → RaisesIn (listed_of h.acts ++ acts_listed h.V h.proto h.s (cut h.s) (Some (event.Filled g.filling g.count g.target))) (pop_mark (unpickler h) (λ items q. on_top q (λ target. fill_pairs h.w target items q)))
 odd_raises h g e odd =
     let n : ℕ = length h.s.top in
     let t : State = cut h.s in
@@ -217,22 +217,22 @@ odd_raises h g e odd =
     let rest : n % 2 ≡ 1 = odd_number n (not_true (n % 2 == 0) odd) in
     let size : length items ≡ n = length-map h.s.top h.V in
     let front : length (take (length items - 1) items) ≡ n - 1 = length-take-le (length items - 1) items (omega arith) ∙ omega (arith, size) in
-    let new : Fill filling.SetItem (h.V id) (take (length items - 1) items) ∷ [] ≡ acts_told h.V h.proto h.s t (Some (event.Filled g.filling g.count g.target)) =
+    let new : Fill filling.SetItem (h.V id) (take (length items - 1) items) ∷ [] ≡ acts_listed h.V h.proto h.s t (Some (event.Filled g.filling g.count g.target)) =
     ap (λ (m : ℕ). Fill filling.SetItem (h.V id) (take m items) ∷ []) (omega (arith, size, rest))
     ∙ ap (λ (l : List Value). Fill filling.SetItem (h.V id) l ∷ []) (take-map h.V (n / 2 + n / 2) h.s.top)
     ∙ ap (λ (l : List ℕ). Fill filling.SetItem (h.V id) (map h.V (take (n / 2 + n / 2) l)) ∷ []) (sym (taken_is h.s t h.s.top (split_cut h.s marks.0)))
     ∙ ap (λ (b : Bool). if b then Fill filling.SetItem (h.V id) (map h.V (take (n / 2 + n / 2) (taken h.s t))) ∷ [] else []) (sym some)
-    ∙ ap (λ (x : Goes). acts_told h.V h.proto h.s t (Some (event.Filled x.filling x.count x.target))) is.1 in
-    let X : Step → Type 0 = λ (x : Step). RaisesIn (told_of h.acts ++ Fill filling.SetItem (h.V id) (take (length items - 1) items) ∷ []) x in
-    subst (λ (l : List Act). RaisesIn (told_of h.acts ++ l) (pop_mark (unpickler h) (λ items q. on_top q (λ target. fill_pairs h.w target items q)))) new
+    ∙ ap (λ (x : Goes). acts_listed h.V h.proto h.s t (Some (event.Filled x.filling x.count x.target))) is.1 in
+    let X : Step → Type 0 = λ (x : Step). RaisesIn (listed_of h.acts ++ Fill filling.SetItem (h.V id) (take (length items - 1) items) ∷ []) x in
+    subst (λ (l : List Act). RaisesIn (listed_of h.acts ++ l) (pop_mark (unpickler h) (λ items q. on_top q (λ target. fill_pairs h.w target items q)))) new
     (subst X (sym (mark_image h.V h.s h.proto h.acts (λ items q. on_top q (λ target. fill_pairs h.w target items q)) marks.0))
     (subst X (sym (on_top_image h.V t h.proto h.acts (λ target. fill_pairs h.w target items q) (le-leb 1 (length t.top) (omega (arith, ltb-true 0 (length (under h.s.marked)) marks.1)))))
-    (pairs_by (length items % 2 == 0) (told_of h.acts ++ Fill filling.SetItem (h.V id) (take (length items - 1) items) ∷ []) (fills h.w filling.SetItem (h.V id) items q) (then_raises (fills h.w filling.SetItem (h.V id) (take (length items - 1) items) q))
+    (pairs_by (length items % 2 == 0) (listed_of h.acts ++ Fill filling.SetItem (h.V id) (take (length items - 1) items) ∷ []) (fills h.w filling.SetItem (h.V id) items q) (then_raises (fills h.w filling.SetItem (h.V id) (take (length items - 1) items) q))
     (ap (λ (m : ℕ). m % 2 == 0) size ∙ not_true (n % 2 == 0) odd)
     (pairs_raise h (h.V id) (take (length items - 1) items) q refl (omega (arith, front, pairs))))))
 
 odd_op : (h : Here) (o : Opcode) (arg : List ℕ) (g : Goes) (r : Refusal) → fill_of (row_of_opcode o arg) h.s ≡ Some g → ends_odd (row_of_opcode o arg) h.s ≡ Some r
-    → RaisesIn (told_of h.acts ++ acts_told h.V h.proto h.s (dropped (row_of_opcode o arg) h.s) (Some (event.Filled g.filling g.count g.target))) (dispatch h.w o arg (unpickler h))
+    → RaisesIn (listed_of h.acts ++ acts_listed h.V h.proto h.s (dropped (row_of_opcode o arg) h.s) (Some (event.Filled g.filling g.count g.target))) (dispatch h.w o arg (unpickler h))
 odd_op h op.SetItems arg g r e odd = odd_raises h g e (is_so (is_odd filling.SetItem (length h.s.top)) odd)
   where
     is_so : (b : Bool) → (if b then Some refusal.OddItems else None) ≡ Some r → b ≡ true
@@ -249,9 +249,9 @@ fill_protocol op.Stop arg s proto g e = absurd cc
 fill_protocol _ arg s proto g e = refl
 
 by_last : (h : Here) (o : Operation) (g : Goes) (x : Option Refusal) → ends_odd (row_of o) h.s ≡ x → IsSame h.w h.V h.s (unpickler h) → fill_of (row_of o) h.s ≡ Some g
-    → Moves h.w h.V (told_of h.acts ++ acts_told h.V h.proto h.s (dropped (row_of o) h.s) (Some (event.Filled g.filling g.count g.target))) (protocol_after o.opcode o.arg h.proto) h.s (dropped (row_of o) h.s) (load_op h.w o (unpickler h)) x
+    → Moves h.w h.V (listed_of h.acts ++ acts_listed h.V h.proto h.s (dropped (row_of o) h.s) (Some (event.Filled g.filling g.count g.target))) (protocol_after o.opcode o.arg h.proto) h.s (dropped (row_of o) h.s) (load_op h.w o (unpickler h)) x
 by_last h o g None is same e =
-    subst (λ (p : ℕ). MapsNew h.V h.s (dropped (row_of o) h.s) (load_op h.w o (unpickler h)) → StepFollows h.w h.V (told_of h.acts ++ acts_told h.V h.proto h.s (dropped (row_of o) h.s) (Some (event.Filled g.filling g.count g.target))) p (dropped (row_of o) h.s) (load_op h.w o (unpickler h))) (sym (fill_protocol o.opcode o.arg h.s h.proto g e))
+    subst (λ (p : ℕ). MapsNew h.V h.s (dropped (row_of o) h.s) (load_op h.w o (unpickler h)) → StepFollows h.w h.V (listed_of h.acts ++ acts_listed h.V h.proto h.s (dropped (row_of o) h.s) (Some (event.Filled g.filling g.count g.target))) p (dropped (row_of o) h.s) (load_op h.w o (unpickler h))) (sym (fill_protocol o.opcode o.arg h.s h.proto g e))
     (fills_are_followed h.w h.V h.s (unpickler h) o g same e is)
 by_last h o g (Some r) is same e = raises_or h.acts _ (h.w.fails (unpickler h) o) (dispatch h.w o.opcode o.arg (unpickler h)) (odd_op h o.opcode o.arg g r e is)
 
@@ -296,10 +296,10 @@ by_import h o is whole running =
     let names : Kind = kind.Global (record { first = first_text o.arg; second = second_text o.arg }) in
     let t : State = push names [] h.s in
     let inst = both_are (is_inst o.opcode) (length h.s.marked == 0) is in
-    let new : List Act = acts_told h.V h.proto h.s t (made_event t.heap (length h.s.heap)) in
-    let told : Find h.proto (Line (first_text o.arg)) (Line (second_text o.arg)) ∷ [] ≡ new = sym (told_pushed h.V h.proto h.s t h.s.heap (record { kind = names; parts = []; changes = [] }) refl) in
+    let new : List Act = acts_listed h.V h.proto h.s t (made_event t.heap (length h.s.heap)) in
+    let listed : Find h.proto (Line (first_text o.arg)) (Line (second_text o.arg)) ∷ [] ≡ new = sym (listed_pushed h.V h.proto h.s t h.s.heap (record { kind = names; parts = []; changes = [] }) refl) in
     subst (λ (f : State). Comes h.w h.V h.s (unpickler h) import_move (protocol_after o.opcode o.arg h.proto) (load_op h.w o (unpickler h)) (Ok (push names [] f))) (sym (fresh_same h.s running))
-    (whole_push names [] h.s whole tt, raises_or h.acts new (h.w.fails (unpickler h) o) (dispatch h.w o.opcode o.arg (unpickler h)) (import_raises h o.opcode o.arg new (inst_only o.opcode inst.0) inst.1 told))
+    (whole_push names [] h.s whole tt, raises_or h.acts new (h.w.fails (unpickler h) o) (dispatch h.w o.opcode o.arg (unpickler h)) (import_raises h o.opcode o.arg new (inst_only o.opcode inst.0) inst.1 listed))
 
 by_inst : (h : Here) (o : Operation) (b : Bool) → HasValue o → (is_inst o.opcode && (length h.s.marked == 0)) ≡ b → IsWhole h.s → h.s.stopped ≡ false → IsSame h.w h.V h.s (unpickler h)
     → Comes_so h o (if b then import_move else fill_move (fill_of (row_of o) h.s) (row_of o) h.s)

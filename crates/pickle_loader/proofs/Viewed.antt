@@ -23,11 +23,11 @@ use Rattle.pickle_show.specs.declared.event.Event.TheVariants as event
 use Rattle.pickle_loader.specs.Environment.{Reply, Raises, Answers, PyMemoryView, Value, Own, Foreign, Act, Fill, Unpickler}
 use Rattle.pickle_loader.specs.Unpickler.{Step, Ran, Raised, item, answered, pop, on_top, pop_mark, fill, fills, fill_pairs, then_raises}
 use Rattle.pickle_loader.specs.Dispatch.{dispatch, load_op}
-use Rattle.pickle_loader.specs.Told.{told_of, acts_told, taken, objects_in}
+use Rattle.pickle_loader.specs.Listed.{listed_of, acts_listed, taken, objects_in}
 use Rattle.pickle_loader.specs.Values.{origin, IsFrom, Knows}
 use Rattle.pickle_loader.specs.Beyond.{dropped, FillsAreFollowed}
 use Rattle.pickle_loader.proofs.Images.{image, pop_image, on_top_image, mark_image}
-use Rattle.pickle_loader.proofs.Pushes.{IsRead, view_reads, Good, knows_more, told_one}
+use Rattle.pickle_loader.proofs.Pushes.{IsRead, view_reads, Good, knows_more, listed_one}
 use Rattle.pickle_loader.proofs.Methods.{Here, unpickler, raised_good}
 use Rattle.pickle_loader.proofs.Fills.{Splits, taken_is, split_without, split_cut, deep_without}
 use Rattle.pickle_loader.proofs.Beyond.{same_image, follows_by}
@@ -66,10 +66,10 @@ own_raises h t filling.SetItem n vs = raised_good h.V h.w h.s.heap h.acts t _ h.
 own_raises h t filling.Add n vs = raised_good h.V h.w h.s.heap h.acts t _ h.proto h.acts refl
 own_raises h t filling.Build n vs = raised_good h.V h.w h.s.heap h.acts t _ h.proto h.acts refl
 
-told_good : (h : Here) (r : Reply) (t : State) (a : Act) → t.heap ≡ h.s.heap → told_of (a ∷ []) ≡ a ∷ [] → Good h.V h.w h.s.heap h.acts t (a ∷ []) h.proto (answered r a (image h.V t h.proto h.acts) (λ v q. Ran q))
-told_good h Raises t a e is = ([], append-nil (told_of (h.acts ++ a ∷ [])) ∙ told_one h.acts a ∙ ap (λ (l : List Act). told_of h.acts ++ l) is)
-told_good h (Answers x) t a e is =
-    λ foretold. (refl, knows_more h.w h.V h.acts (a ∷ []) t.heap (subst (λ (l : List Object). Knows h.w h.V h.acts l) (sym e) h.knows), told_one h.acts a ∙ ap (λ (l : List Act). told_of h.acts ++ l) is)
+listed_good : (h : Here) (r : Reply) (t : State) (a : Act) → t.heap ≡ h.s.heap → listed_of (a ∷ []) ≡ a ∷ [] → Good h.V h.w h.s.heap h.acts t (a ∷ []) h.proto (answered r a (image h.V t h.proto h.acts) (λ v q. Ran q))
+listed_good h Raises t a e is = ([], append-nil (listed_of (h.acts ++ a ∷ [])) ∙ listed_one h.acts a ∙ ap (λ (l : List Act). listed_of h.acts ++ l) is)
+listed_good h (Answers x) t a e is =
+    λ foretold. (refl, knows_more h.w h.V h.acts (a ∷ []) t.heap (subst (λ (l : List Object). Knows h.w h.V h.acts l) (sym e) h.knows), listed_one h.acts a ∙ ap (λ (l : List Act). listed_of h.acts ++ l) is)
 
 put_good : (h : Here) (t : State) (f : Filling) (v : Value) (vs : List Value) → t.heap ≡ h.s.heap → IsRead h.w v → Puts h t f v vs (fill h.w f v vs (image h.V t h.proto h.acts))
 unfolding Puts
@@ -77,7 +77,7 @@ put_good h t f v vs same (inl (bytes, is)) =
     subst (λ (x : Value). Puts h t f x vs (fill h.w f x vs (image h.V t h.proto h.acts))) (sym is) (raised_good h.V h.w h.s.heap h.acts t _ h.proto h.acts refl)
 put_good h t f v vs same (inr (inl (n, is))) = subst (λ (x : Value). Puts h t f x vs (fill h.w f x vs (image h.V t h.proto h.acts))) (sym is) (own_raises h t f n vs)
 put_good h t f v vs same (inr (inr (p, n, is, memory, only))) =
-    subst (λ (x : Value). Puts h t f x vs (fill h.w f x vs (image h.V t h.proto h.acts))) (sym is) (told_good h (h.w.reply h.acts (Fill f (Foreign p n) vs)) t (Fill f (Foreign p n) vs) same refl)
+    subst (λ (x : Value). Puts h t f x vs (fill h.w f x vs (image h.V t h.proto h.acts))) (sym is) (listed_good h (h.w.reply h.acts (Fill f (Foreign p n) vs)) t (Fill f (Foreign p n) vs) same refl)
 
 puts_good : (h : Here) (t : State) (f : Filling) (v : Value) (items : List ℕ) → 0 < length items → t.heap ≡ h.s.heap → IsRead h.w v → Puts h t f v (map h.V items) (fills h.w f v (map h.V items) (image h.V t h.proto h.acts))
 puts_good h t f v [] some same read = absurd (omega (arith, some))
@@ -98,7 +98,7 @@ whole_in filling.SetItem n e = omega (arith, even_half n (no_odd_half (n % 2 == 
     even_half n e = grind arith
 
 -- the acts of the event
-event_acts : (h : Here) (t : State) (f : Filling) (n id : ℕ) (items : List ℕ) → Splits h.s t items → nat_lt 0 n ≡ true → objects_in f n ≡ length items → acts_told h.V h.proto h.s t (Some (event.Filled f n id)) ≡ Fill f (h.V id) (map h.V items) ∷ []
+event_acts : (h : Here) (t : State) (f : Filling) (n id : ℕ) (items : List ℕ) → Splits h.s t items → nat_lt 0 n ≡ true → objects_in f n ≡ length items → acts_listed h.V h.proto h.s t (Some (event.Filled f n id)) ≡ Fill f (h.V id) (map h.V items) ∷ []
 event_acts h t f n id items split some whole =
     ap (λ (b : Bool). if b then Fill f (h.V id) (map h.V (take (objects_in f n) (taken h.s t))) ∷ [] else []) some
     ∙ ap (λ (l : List ℕ). Fill f (h.V id) (map h.V (take (objects_in f n) l)) ∷ []) (taken_is h.s t items split)
@@ -107,7 +107,7 @@ event_acts h t f n id items split some whole =
 -- ---- rows
 
 Fills : Here → State → Goes → Step → Type 0
-Fills h t g x = Good h.V h.w h.s.heap h.acts t (acts_told h.V h.proto h.s t (Some (event.Filled g.filling g.count g.target))) h.proto x
+Fills h t g x = Good h.V h.w h.s.heap h.acts t (acts_listed h.V h.proto h.s t (Some (event.Filled g.filling g.count g.target))) h.proto x
 
 pub some_of : (b : Bool) (x : Option Goes) (y : Goes) → cond b x None ≡ Some y → (b ≡ true) × (x ≡ Some y)
 some_of true x y e = (refl, e)
@@ -129,10 +129,10 @@ change_fills h f g even values e =
     let at : deep 0 t.top ≡ id = deep_without n h.s.top below in
     let read : IsRead h.w (h.V (deep 0 t.top)) = subst (λ (i : ℕ). IsRead h.w (h.V i)) (sym at) (view_read h id facts.1) in
     let good = puts_good h t f (h.V (deep 0 t.top)) items (omega (arith, count, values)) refl read in
-    let acts : Fill f (h.V (deep 0 t.top)) (map h.V items) ∷ [] ≡ acts_told h.V h.proto h.s t (Some (event.Filled g.filling g.count g.target)) =
+    let acts : Fill f (h.V (deep 0 t.top)) (map h.V items) ∷ [] ≡ acts_listed h.V h.proto h.s t (Some (event.Filled g.filling g.count g.target)) =
     ap (λ (i : ℕ). Fill f (h.V i) (map h.V items) ∷ []) at
     ∙ sym (event_acts h t f (parts_in f n) id items (split_without n h.s) facts.0 (whole_in f n even ∙ sym count))
-    ∙ ap (λ (x : Goes). acts_told h.V h.proto h.s t (Some (event.Filled x.filling x.count x.target))) facts.2 in
+    ∙ ap (λ (x : Goes). acts_listed h.V h.proto h.s t (Some (event.Filled x.filling x.count x.target))) facts.2 in
     subst (λ (l : List Act). Good h.V h.w h.s.heap h.acts t l h.proto (pop n (unpickler h) (λ vs q. on_top q (λ target. fills h.w f target vs q)))) acts
     (subst (λ (x : Step). Good h.V h.w h.s.heap h.acts t (Fill f (h.V (deep 0 t.top)) (map h.V items) ∷ []) h.proto x) (sym (pop_image h.V h.s h.proto h.acts n (λ vs q. on_top q (λ target. fills h.w f target vs q)) (le-leb n (length h.s.top) (omega (arith, below)))))
     (subst (λ (x : Step). Good h.V h.w h.s.heap h.acts t (Fill f (h.V (deep 0 t.top)) (map h.V items) ∷ []) h.proto x) (sym (on_top_image h.V t h.proto h.acts (λ target. fills h.w f target (map h.V items) (image h.V t h.proto h.acts)) (le-leb 1 (length t.top) (omega (arith, size, below))))) good))
@@ -158,9 +158,9 @@ cut_fills h f g go some right e odd =
     let even : is_odd f n ≡ false = no_odd (is_odd f n) odd in
     let facts = fill_facts (puts f) (nat_lt 0 (parts_in f n)) (view_at h.s.heap id) (is_odd f n && opaque_at h.s.heap id) (record { filling = f; count = parts_in f n; target = id }) g here.1 (ap (λ (b : Bool). b && opaque_at h.s.heap id) even) in
     let good = puts_good h t f (h.V id) h.s.top (some facts.0) refl (view_read h id facts.1) in
-    let acts : Fill f (h.V id) (map h.V h.s.top) ∷ [] ≡ acts_told h.V h.proto h.s t (Some (event.Filled g.filling g.count g.target)) =
+    let acts : Fill f (h.V id) (map h.V h.s.top) ∷ [] ≡ acts_listed h.V h.proto h.s t (Some (event.Filled g.filling g.count g.target)) =
     sym (event_acts h t f (parts_in f n) id h.s.top (split_cut h.s there.0) facts.0 (whole_in f n even))
-    ∙ ap (λ (x : Goes). acts_told h.V h.proto h.s t (Some (event.Filled x.filling x.count x.target))) facts.2 in
+    ∙ ap (λ (x : Goes). acts_listed h.V h.proto h.s t (Some (event.Filled x.filling x.count x.target))) facts.2 in
     let Result : Step → Type 0 = λ (x : Step). Good h.V h.w h.s.heap h.acts t (Fill f (h.V id) (map h.V h.s.top) ∷ []) h.proto x in
     subst (λ (l : List Act). Good h.V h.w h.s.heap h.acts t l h.proto (pop_mark (unpickler h) (λ items q. on_top q (λ target. go items target q)))) acts
     (subst Result (sym (mark_image h.V h.s h.proto h.acts (λ items q. on_top q (λ target. go items target q)) there.0))
@@ -202,7 +202,7 @@ unfolding Fills
 fills_are_followed w V s u o g same put odd maps =
     let h : Here = record { V = V; w = w; s = s; proto = u.proto; acts = u.acts; place = 0; knows = same.objects } in
     let t : State = dropped (row_of o) s in
-    let new : List Act = acts_told V u.proto s t (Some (event.Filled g.filling g.count g.target)) in
+    let new : List Act = acts_listed V u.proto s t (Some (event.Filled g.filling g.count g.target)) in
     let good : Good V w s.heap u.acts t new u.proto (load_op w o (image V s u.proto u.acts)) = op_fills h o g (w.fails (unpickler h) o) (opcode_fills h o.opcode o.arg g put odd) in
     follows_by w V s t u.acts new u.proto (load_op w o u) maps
     (subst (λ (x : Unpickler). Good V w s.heap u.acts t new u.proto (load_op w o x)) (sym (same_image w V s u same)) good)

@@ -19,10 +19,10 @@ use Rattle.pickle_show.specs.Event.{made_event}
 use Rattle.pickle_show.proofs.Steps.{is_there}
 use Rattle.pickle_loader.specs.Environment.{PyType, PyMemoryView, Value, Own, Foreign, Act, Make, View, Reply, Raises, Answers, World}
 use Rattle.pickle_loader.specs.Unpickler.{Step, Ran, Raised, item, answered, replaced, has_memory, viewed, load_readonly_buffer}
-use Rattle.pickle_loader.specs.Told.{told_of, acts_told}
+use Rattle.pickle_loader.specs.Listed.{listed_of, acts_listed}
 use Rattle.pickle_loader.proofs.Images.{image, on_top_image, last_image}
 use Rattle.pickle_loader.specs.Values.{IsViewOf}
-use Rattle.pickle_loader.proofs.Pushes.{IsRead, StandsAs, stands_as, knows_more, Good, top_value, knows_pushed, top_appended, told_pushed}
+use Rattle.pickle_loader.proofs.Pushes.{IsRead, StandsAs, stands_as, knows_more, Good, top_value, knows_pushed, top_appended, listed_pushed}
 use Rattle.pickle_loader.proofs.Methods.{Here, unpickler, RowGood, passes, quiet, raised_good, stays_good, nothing_new}
 
 -- the state after it, where the top can only be read already, and where not
@@ -30,10 +30,10 @@ viewed_state : Here → Bool → State
 viewed_state h b = cond b h.s (push kind.ReadOnly (last_of 1 h.s) (without 1 h.s))
 
 ViewGood : Here → Bool → Step → Type 0
-ViewGood h b x = Good h.V h.w h.s.heap h.acts (viewed_state h b) (acts_told h.V h.proto h.s (viewed_state h b) (made_event (viewed_state h b).heap (length h.s.heap))) h.proto x
+ViewGood h b x = Good h.V h.w h.s.heap h.acts (viewed_state h b) (acts_listed h.V h.proto h.s (viewed_state h b) (made_event (viewed_state h b).heap (length h.s.heap))) h.proto x
 
 -- it stays
-stays_as : (h : Here) (acts more : List Act) → acts ≡ h.acts ++ more → told_of acts ≡ told_of h.acts → ViewGood h true (Ran (image h.V h.s h.proto acts))
+stays_as : (h : Here) (acts more : List Act) → acts ≡ h.acts ++ more → listed_of acts ≡ listed_of h.acts → ViewGood h true (Ran (image h.V h.s h.proto acts))
 unfolding ViewGood viewed_state
 stays_as h acts more is e = stays_good h h.s h.proto (image h.V h.s h.proto acts) more refl refl is e
 
@@ -61,7 +61,7 @@ kept h v read = elim read [
 -- ---- a view is made
 
 -- the top is exchanged
-exchanged : (h : Here) (v : Value) (more : List Act) → told_of (h.acts ++ more) ≡ told_of h.acts → IsViewOf h.w (h.V (deep 0 h.s.top)) v → 0 < length h.s.top → (vs : List Value) → vs ≡ map h.V (take (length h.s.top - 1) h.s.top) ++ v ∷ []
+exchanged : (h : Here) (v : Value) (more : List Act) → listed_of (h.acts ++ more) ≡ listed_of h.acts → IsViewOf h.w (h.V (deep 0 h.s.top)) v → 0 < length h.s.top → (vs : List Value) → vs ≡ map h.V (take (length h.s.top - 1) h.s.top) ++ v ∷ []
     → ViewGood h false (Ran (record (image h.V h.s h.proto (h.acts ++ more)) { stack = vs }))
 unfolding ViewGood viewed_state
 exchanged h v more same read top vs e foretold =
@@ -72,14 +72,14 @@ exchanged h v more same read top vs e foretold =
     let stack : vs ≡ map h.V (u.top ++ length h.s.heap ∷ []) = e ∙ ap (λ (y : Value). map h.V u.top ++ y ∷ []) (sym is) ∙ sym (map-append h.V u.top (length h.s.heap ∷ [])) in (
       ap (λ (l : List Value). record (image h.V h.s h.proto acts) { stack = l }) stack,
       knows_pushed h.w h.V acts h.s.heap x (knows_more h.w h.V h.acts more h.s.heap h.knows) (subst (λ (y : Value). IsViewOf h.w (item 0 (map h.V (last_of 1 h.s))) y) (sym is) (subst (λ (y : Value). IsViewOf h.w y v) (sym (last_image h.V h.s top)) read)),
-      same ∙ nothing_new _ _ (told_pushed h.V h.proto h.s (push kind.ReadOnly (last_of 1 h.s) u) h.s.heap x refl),
+      same ∙ nothing_new _ _ (listed_pushed h.V h.proto h.s (push kind.ReadOnly (last_of 1 h.s) u) h.s.heap x refl),
     )
 
 -- the others are as they were
 others : (h : Here) → take (length (map h.V h.s.top) - 1) (map h.V h.s.top) ≡ map h.V (take (length h.s.top - 1) h.s.top)
 others h = ap (λ (m : ℕ). take (m - 1) (map h.V h.s.top)) (length-map h.s.top h.V) ∙ take-map h.V (length h.s.top - 1) h.s.top
 
-new_view : (h : Here) (more : List Act) (n : ℕ) → told_of (h.acts ++ more) ≡ told_of h.acts → 0 < length h.s.top → ViewGood h false (replaced false n (image h.V h.s h.proto (h.acts ++ more)))
+new_view : (h : Here) (more : List Act) (n : ℕ) → listed_of (h.acts ++ more) ≡ listed_of h.acts → 0 < length h.s.top → ViewGood h false (replaced false n (image h.V h.s h.proto (h.acts ++ more)))
 new_view h more n same top =
     exchanged h (Own PyMemoryView n) more same (inl (n, refl)) top _ (ap (λ (l : List Value). l ++ Own PyMemoryView n ∷ []) (others h))
 

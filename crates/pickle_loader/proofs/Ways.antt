@@ -25,8 +25,8 @@ use Rattle.pickle_further.specs.Going.{Standing, Going as Gone, used_op, moved_s
 use Rattle.pickle_further.specs.Parts.{are_many, standing_first}
 use Rattle.pickle_loader.specs.Environment.{Value, Plain, Act, Unpickler, World}
 use Rattle.pickle_loader.specs.Dispatch.{Loaded, Going, Ended, Failed, loaded, acts_of, new_unpickler}
-use Rattle.pickle_loader.specs.Told.{told_of}
-use Rattle.pickle_loader.specs.Laws.{IsSame, Holds, IsTold}
+use Rattle.pickle_loader.specs.Listed.{listed_of}
+use Rattle.pickle_loader.specs.Laws.{IsSame, Holds, AreListed}
 use Rattle.pickle_loader.specs.Onward.{load_taken, Onward, again, reads_on, load_more, load_read, load_on, load_way, stands_behind, stands_on, stands, state_by, state_on, state_behind, protocol_read, protocol_on, protocol, acts_gone, acts_on, acts_before, NothingBeyond}
 use Rattle.pickle_loader.proofs.Pushes.{top_value}
 use Rattle.pickle_loader.proofs.Still.{fresh_running}
@@ -37,8 +37,8 @@ use Rattle.pickle_loader.proofs.Onwards.{OnWay, Begins, Along, HoldsBehind, fail
 
 -- ---- one item more
 
--- whatever comes, where it raised before nothing more is told
-failed_along : (w : World) (V : ℕ → Value) (p : Pickles) (acts : List Act) (proto : ℕ) (x : Option Standing) (done rest : List Act) (bytes : List ℕ) (left : ℕ) → told_of done ++ rest ≡ acts
+-- whatever comes, where it raised before nothing more is listed
+failed_along : (w : World) (V : ℕ → Value) (p : Pickles) (acts : List Act) (proto : ℕ) (x : Option Standing) (done rest : List Act) (bytes : List ℕ) (left : ℕ) → listed_of done ++ rest ≡ acts
     → Along w V p acts proto x (record { now = Failed done; rest = bytes; left = left })
 failed_along w V p acts proto None done rest bytes left e = ((rest, e), inl refl)
 failed_along w V p acts proto (Some q) done rest bytes left e = ((rest, e), λ reads. absurd cc)
@@ -92,7 +92,7 @@ next_on w V way acts proto q (Going u) rest left along =
     let ready = along.1 refl in
     in_step w V way acts proto q (Going u) rest left ready.rest ready.left
     (as_one_next way
-    (record { V = V; w = w; q = q; acts = acts; proto = proto; r = u; same = along.0.0; at = along.0.1; told = along.0.2; whole = ready.whole; many = ready.many; few = ready.few })
+    (record { V = V; w = w; q = q; acts = acts; proto = proto; r = u; same = along.0.0; at = along.0.1; done = along.0.2; whole = ready.whole; many = ready.many; few = ready.few })
     (Going u) (record { reads = refl; more = λ item. refl; acts = refl }))
 next_on w V way acts proto q (Ended v u) rest left along =
     let ready = along.1 along.0.3 in
@@ -107,7 +107,7 @@ next_on w V way acts proto q (Ended v u) rest left along =
       r = again way.pickles u;
       same = along.0.0;
       at = along.0.1;
-      told = along.0.2;
+      done = along.0.2;
       whole = ready.whole;
       many = ready.many;
       few = ready.few;
@@ -117,7 +117,7 @@ next_on w V way acts proto q (Failed done) rest left along =
     let more : List Act = acts_gone V proto q (going way q) in
     λ right. (
       failed_along w V way.pickles (acts ++ more) (protocol_read (taken way.frames q.at.left q.rest) proto) (stands_behind q (going way q)) done (along.0.0 ++ more) rest left
-          (sym (append_assoc (told_of done) along.0.0 more) ∙ ap (λ (a : List Act). a ++ more) along.0.1),
+          (sym (append_assoc (listed_of done) along.0.0 more) ∙ ap (λ (a : List Act). a ++ more) along.0.1),
       record { holds = tt; ends = failed_ends (going way q).gone.closing done },
     )
 
@@ -293,8 +293,8 @@ again_acts pickles.All u = refl
 again_acts pickles.OneMemo u = refl
 
 on_begins : (w : World) (V : ℕ → Value) (p : Pickles) (acts : List Act) (proto : ℕ) (s : State) (l : Loaded) → OnWay w V p acts proto s l → Begins acts l
-on_begins w V p acts proto s (Going u) on = ([], append-nil (told_of u.acts) ∙ on.2)
-on_begins w V p acts proto s (Ended v u) on = ([], append-nil (told_of u.acts) ∙ ap told_of (sym (again_acts p u)) ∙ on.2)
+on_begins w V p acts proto s (Going u) on = ([], append-nil (listed_of u.acts) ∙ on.2)
+on_begins w V p acts proto s (Ended v u) on = ([], append-nil (listed_of u.acts) ∙ ap listed_of (sym (again_acts p u)) ∙ on.2)
 on_begins w V p acts proto s (Failed done) on = on
 
 begins : (w : World) (V : ℕ → Value) (p : Pickles) (acts : List Act) (proto : ℕ) (o : Option Standing) (x : Onward) → Along w V p acts proto o x → Begins acts x.now
@@ -415,7 +415,7 @@ over_at_none w V p acts proto (Some q) x e along = absurd cc
 -- item by item
 pub record ByItems (w : World) (way : Way) (bytes : List ℕ) : Type 0 where
   pub V : ℕ → Value
-  pub told : IsTold w V (acts_before V way (standing_first detail.Cut way.pickles bytes)) (state_behind way (standing_first detail.Cut way.pickles bytes)) (λ n. (load_way w way bytes n).now)
+  pub listed : AreListed w V (acts_before V way (standing_first detail.Cut way.pickles bytes)) (state_behind way (standing_first detail.Cut way.pickles bytes)) (λ n. (load_way w way bytes n).now)
   pub holds : (n : ℕ) (q : Standing) → stands_at way bytes n ≡ Some q → HoldsBehind w V (going way q) (load_way w way bytes (suc n)).now
   pub over : (n : ℕ) → stands_at way bytes n ≡ None → (reads_on way.pickles (load_way w way bytes n).now ≡ false) ⊎ ((load_way w way bytes n).rest ≡ [])
 
@@ -423,7 +423,7 @@ pub by_items : (w : World) (way : Way) (bytes : List ℕ) → ByItems w way byte
 unfolding all_values
 by_items w way bytes = record {
   V = all_values w way bytes;
-  told = record {
+  listed = record {
     acts = λ n. begins w (value_of w way bytes (suc (length bytes))) way.pickles _ _ (stands_at way bytes n) (load_way w way bytes n) (along_last w way bytes n);
     values = holds_at w way bytes;
   };
@@ -432,4 +432,4 @@ by_items w way bytes = record {
 }
 
 pub nothing_beyond : NothingBeyond
-nothing_beyond w way bytes = let all = by_items w way bytes in (all.V, all.told)
+nothing_beyond w way bytes = let all = by_items w way bytes in (all.V, all.listed)

@@ -32,10 +32,10 @@ use Rattle.pickle_further.specs.declared.way.Pickles.{Pickles}
 use Rattle.pickle_further.specs.declared.way.Pickles.TheVariants as pickles
 use Rattle.pickle_further.specs.declared.way.Way.{Way}
 use Rattle.pickle_further.specs.Going.{Standing, Going, going, stands_after, Tale, tale_over, tale, tale_of, search_from}
-use Rattle.pickle_further.specs.Parts.{stop_words, stop_line, ends_line, part_end, ignored_words, buffered_words, held_words, header, tale_text, told_text, text_from, ignoring, buffering, holding, standing_at, standing_first, behind_at, found_text, loss_at, lost_by, is_open, parts}
+use Rattle.pickle_further.specs.Parts.{stop_words, stop_line, ends_line, part_end, ignored_words, buffered_words, held_words, header, tale_text, part_text, text_from, ignoring, buffering, holding, standing_at, standing_first, behind_at, found_text, loss_at, lost_by, is_open, parts}
 use Rattle.pickle_further.specs.CallsText.{document_calls, loss_words, loss_line, first_loss, loss_text, kept_behind, kept_calls}
 use Rattle.pickle_loader.specs.Onward.{stands_behind, stands}
-use Rattle.pickle_loader.specs.Text.{line_gone, line_on, lines_before, told_lines, lines_from, lines_if, behind_lines, lost_lines, parts_lines, document_lines, kept_parts, kept_lines, WholeTextIsItsLines}
+use Rattle.pickle_loader.specs.Text.{line_gone, line_on, lines_before, part_lines, lines_from, lines_if, behind_lines, lost_lines, parts_lines, document_lines, kept_parts, kept_lines, WholeTextIsItsLines}
 use Rattle.pickle_loader.proofs.Losses.{shifted, over}
 
 -- ---- texts that end with a newline
@@ -182,10 +182,10 @@ part_ends : (imports calls : ℕ) (c : Closing) → EndsLine (part_end imports c
 unfolding part_end ◌⧺◌
 part_ends imports calls c = both_end (totals_line imports calls) (ends_line c) (line_ends (totals_line imports calls) (totals_is_line imports calls)) (line_ends (ends_line c) (ends_is_line c))
 
-cut_told : (holes : List Hole) (w : Way) (x : Option Standing) → cut_lines (told_text holes w x) ≡ told_lines holes w x
+cut_part : (holes : List Hole) (w : Way) (x : Option Standing) → cut_lines (part_text holes w x) ≡ part_lines holes w x
 unfolding tale_text ◌⧺◌
-cut_told holes w None = cut_nothing
-cut_told holes w (Some p) =
+cut_part holes w None = cut_nothing
+cut_part holes w (Some p) =
     let t : Tale = tale_of holes w p in
     let end : List ℕ = part_end t.lines.imports t.lines.calls (closing_in holes t.closing) in
     cut_line (header w.frames) (t.lines.text ++ end) (header_is_line w.frames)
@@ -193,10 +193,10 @@ cut_told holes w (Some p) =
     (cut_join t.lines.text end (tale_ends holes (suc (length p.rest)) w p)
     ∙ ap₂ (λ (a b : List (List ℕ)). a ++ b) (cut_tale holes (suc (length p.rest)) w p) (cut_part_end t.lines.imports t.lines.calls (closing_in holes t.closing)))
 
-told_ends : (holes : List Hole) (w : Way) (x : Option Standing) → EndsLine (told_text holes w x)
+part_ends_line : (holes : List Hole) (w : Way) (x : Option Standing) → EndsLine (part_text holes w x)
 unfolding tale_text ◌⧺◌
-told_ends holes w None = inl refl
-told_ends holes w (Some p) =
+part_ends_line holes w None = inl refl
+part_ends_line holes w (Some p) =
     let t : Tale = tale_of holes w p in
     let end : List ℕ = part_end t.lines.imports t.lines.calls (closing_in holes t.closing) in
     both_end (header w.frames) (t.lines.text ++ end) (line_ends (header w.frames) (header_is_line w.frames))
@@ -204,11 +204,11 @@ told_ends holes w (Some p) =
 
 cut_from : (holes : List Hole) (w : Way) (p : Standing) → cut_lines (text_from holes w p) ≡ lines_from holes w p
 unfolding text_from
-cut_from holes w p = cut_told holes w (search_from sought.Event w p)
+cut_from holes w p = cut_part holes w (search_from sought.Event w p)
 
 from_ends : (holes : List Hole) (w : Way) (p : Standing) → EndsLine (text_from holes w p)
 unfolding text_from
-from_ends holes w p = told_ends holes w (search_from sought.Event w p)
+from_ends holes w p = part_ends_line holes w (search_from sought.Event w p)
 
 cut_found : (holes : List Hole) (w : Way) (x : Option Standing) → cut_lines (found_text holes w x) ≡ lines_if holes w x
 cut_found holes w None = cut_nothing

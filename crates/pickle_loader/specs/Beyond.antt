@@ -23,7 +23,7 @@ use Rattle.pickle_further.specs.Going.{used_op, moved_so, event_by}
 use Rattle.pickle_loader.specs.Environment.{Value, Act, Unpickler, World}
 use Rattle.pickle_loader.specs.Unpickler.{Step, Ran, Stopped, Raised, item}
 use Rattle.pickle_loader.specs.Dispatch.{int_key, load_op}
-use Rattle.pickle_loader.specs.Told.{told_of, acts_told, protocol_after}
+use Rattle.pickle_loader.specs.Listed.{listed_of, acts_listed, protocol_after}
 use Rattle.pickle_loader.specs.Laws.{IsSame, IsResult}
 use Rattle.pickle_loader.specs.Whole.{IsWhole}
 
@@ -40,12 +40,12 @@ KeysAgree = (arg : List ℕ) → value_fault form.Decimal arg ≡ None
 abbrev pub less_of : Operation → State → Row
 less_of o s = asks_less (row_of o) s
 
--- what a step comes to: it holds what the state holds, by this protocol, and told these acts; it ended with the state's result, as STOP
--- does, and told them; or it raised, and told a beginning of them
+-- what a step comes to: it holds what the state holds, by this protocol, and these of its acts are listed; it ended with the state's
+-- result, as STOP does, and they are; or it raised, and a beginning of them is
 abbrev pub StepFollows : World → (ℕ → Value) → List Act → ℕ → State → Step → Type 0
-StepFollows w V acts proto t (Ran q) = IsSame w V t q × (told_of q.acts ≡ acts) × (q.proto ≡ proto)
-StepFollows w V acts proto t (Stopped v q) = IsSame w V t q × (told_of q.acts ≡ acts) × IsResult V t v × (t.stopped ≡ t.many)
-StepFollows w V acts proto t (Raised done) = (rest : List Act) × (told_of done ++ rest ≡ acts)
+StepFollows w V acts proto t (Ran q) = IsSame w V t q × (listed_of q.acts ≡ acts) × (q.proto ≡ proto)
+StepFollows w V acts proto t (Stopped v q) = IsSame w V t q × (listed_of q.acts ≡ acts) × IsResult V t v × (t.stopped ≡ t.many)
+StepFollows w V acts proto t (Raised done) = (rest : List Act) × (listed_of done ++ rest ≡ acts)
 
 -- for an object that is made the map has the value on top
 abbrev pub MapsNew : (ℕ → Value) → State → State → Step → Type 0
@@ -61,7 +61,7 @@ abbrev pub WideMovesAreFollowed : Type 0
 WideMovesAreFollowed = (w : World) (V : ℕ → Value) (s t : State) (u : Unpickler) (o : Operation) (place : ℕ) → HasValue o → s.stopped ≡ false
     → IsSame w V s u → move_as (less_of o s) o place s ≡ Ok t
     → MapsNew V s t (load_op w o u)
-    → StepFollows w V (told_of u.acts ++ acts_told V u.proto s t (event_of (less_of o s) (before_of s) t))
+    → StepFollows w V (listed_of u.acts ++ acts_listed V u.proto s t (event_of (less_of o s) (before_of s) t))
     (protocol_after o.opcode o.arg u.proto) t (load_op w o u)
 
 -- ---- what is missing
@@ -94,21 +94,21 @@ abbrev pub FillsAreFollowed : Type 0
 FillsAreFollowed = (w : World) (V : ℕ → Value) (s : State) (u : Unpickler) (o : Operation) (f : Fill) → IsSame w V s u → fill_of (row_of o) s ≡ Some f
     → ends_odd (row_of o) s ≡ None
     → MapsNew V s (dropped (row_of o) s) (load_op w o u)
-    → StepFollows w V (told_of u.acts ++ acts_told V u.proto s (dropped (row_of o) s) (Some (event.Filled f.filling f.count f.target)))
+    → StepFollows w V (listed_of u.acts ++ acts_listed V u.proto s (dropped (row_of o) s) (Some (event.Filled f.filling f.count f.target)))
     u.proto (dropped (row_of o) s) (load_op w o u)
 
 -- ---- a step beyond
 
--- it raises, and told no more than these acts; or no more than a beginning of them
+-- it raises, and no more than these acts are listed; or no more than a beginning of them
 abbrev pub RaisesAt : List Act → Step → Type 0
 RaisesAt acts (Ran q) = ⊥
 RaisesAt acts (Stopped v q) = ⊥
-RaisesAt acts (Raised done) = told_of done ≡ acts
+RaisesAt acts (Raised done) = listed_of done ≡ acts
 
 abbrev pub RaisesIn : List Act → Step → Type 0
 RaisesIn acts (Ran q) = ⊥
 RaisesIn acts (Stopped v q) = ⊥
-RaisesIn acts (Raised done) = (rest : List Act) × (told_of done ++ rest ≡ acts)
+RaisesIn acts (Raised done) = (rest : List Act) × (listed_of done ++ rest ≡ acts)
 
 -- by whether the loader ends after this move
 abbrev pub Moves : World → (ℕ → Value) → List Act → ℕ → State → State → Step → Option Refusal → Type 0
@@ -117,11 +117,11 @@ Moves w V acts proto s t x (Some r) = RaisesIn acts x
 
 -- by what the move comes to: it is refused, or leads to a state, where the event tells its acts
 abbrev pub Comes : World → (ℕ → Value) → State → Unpickler → LoaderMove → ℕ → Step → Result State Refusal → Type 0
-Comes w V s u m proto x (Err r) = RaisesAt (told_of u.acts) x
-Comes w V s u m proto x (Ok t) = IsWhole t × Moves w V (told_of u.acts ++ acts_told V u.proto s t (event_by m s t m.fill)) proto s t x m.last
+Comes w V s u m proto x (Err r) = RaisesAt (listed_of u.acts) x
+Comes w V s u m proto x (Ok t) = IsWhole t × Moves w V (listed_of u.acts ++ acts_listed V u.proto s t (event_by m s t m.fill)) proto s t x m.last
 
 -- in every environment, for each opcode and each state in which all is there: where a loader does not move, the
--- unpickler that holds what the state holds raises at this opcode and told nothing; where it moves, the unpickler does exactly what the
+-- unpickler that holds what the state holds raises at this opcode and does nothing that is listed; where it moves, the unpickler does exactly what the
 -- event of that move tells, or raises and did a beginning of it; and where the loader ends after the move it raises
 abbrev pub AStepBeyond : Type 0
 AStepBeyond = (w : World) (V : ℕ → Value) (s : State) (u : Unpickler) (o : Operation) (place : ℕ) → HasValue o → IsWhole s → s.stopped ≡ false → IsSame w V s u

@@ -19,12 +19,12 @@ use Rattle.pickle_further.specs.CallsText.{IsCallsText}
 use Rattle.pickle_loader.specs.Environment.{Value, Act, World}
 use Rattle.pickle_loader.specs.Dispatch.{Loaded, Going, Ended, Failed, loaded, acts_of, new_unpickler, load_op}
 use Rattle.pickle_loader.specs.Reader.{Fetched, Fetch, NoFetch, fetch, opened, all_left}
-use Rattle.pickle_loader.specs.Told.{told_of}
-use Rattle.pickle_loader.specs.Laws.{IsTold}
-use Rattle.pickle_loader.specs.Onward.{again, reads_on, stands, state_behind, protocol, acts_gone, acts_before, IsToldFrom, begins_anew}
+use Rattle.pickle_loader.specs.Listed.{listed_of}
+use Rattle.pickle_loader.specs.Laws.{AreListed}
+use Rattle.pickle_loader.specs.Onward.{again, reads_on, stands, state_behind, protocol, acts_gone, acts_before, AreListedFrom, begins_anew}
 use Rattle.pickle_loader.specs.Bytes.{Loading, load_bytes}
 use Rattle.pickle_loader.specs.CLoad.{seen_loaded, c_load_way}
-use Rattle.pickle_loader.specs.Text.{IsAmong, line_gone, way_of, are_told}
+use Rattle.pickle_loader.specs.Text.{IsAmong, line_gone, way_of, is_in_text}
 
 -- one load, a loop of loads, or one unpickler that loads again, which keeps its memo
 abbrev pub load_once : World → Pickles → Operation → Loaded → Loaded
@@ -65,13 +65,13 @@ state_left (b ∷ bytes) s = s
 -- that the lines of a reading tell it, and which values it holds as long as bytes are left
 abbrev pub TellsWay : World → (ℕ → Value) → Pickles → List ℕ → Way → Standing → Type 0
 TellsWay w V p bytes way q =
-    IsTold w V (acts_before V way q) (λ n. state_left (all_left (load_framed w p bytes n).reader) (state_behind way q n)) (λ n. (load_framed w p bytes n).now)
+    AreListed w V (acts_before V way q) (λ n. state_left (all_left (load_framed w p bytes n).reader) (state_behind way q n)) (λ n. (load_framed w p bytes n).now)
 
 abbrev pub TellsFrames : World → (ℕ → Value) → Pickles → Frames → List ℕ → Type 0
 TellsFrames w V p f bytes = TellsWay w V p bytes (way_of p f) (standing_first detail.Cut p bytes)
 
 -- in every environment, for any bytes, be it one load, a loop of loads or one unpickler that loads again: after any number of opcodes all that is
--- told of the unpickler is a beginning of what the lines of such a reading tell, of the values that it holds
+-- listed of the unpickler is a beginning of what the lines of such a reading list, of the values that it holds
 abbrev pub NothingBeyondByFrames : Type 0
 NothingBeyondByFrames = (w : World) (p : Pickles) (f : Frames) (bytes : List ℕ) → tells_frames p f ≡ true → (V : ℕ → Value) × TellsFrames w V p f bytes
 
@@ -87,24 +87,24 @@ abbrev pub IsAct : Act → List Act → Type 0
 IsAct a [] = ⊥
 IsAct a (b ∷ acts) = (a ≡ b) ⊎ IsAct a acts
 
--- it is told of an item of this reading, whose line is one of the text
+-- an item of this reading lists it, and the line of that is one of the text
 abbrev pub HasLine : Manner → (ℕ → Value) → Pickles → Frames → List ℕ → Output → Act → Type 0
 HasLine how V p f bytes o a = (k : ℕ) × (q : Standing) × (stands (way_of p f) (standing_first how.detail p bytes) k ≡ Some q)
     × IsAct a (acts_gone V (protocol (way_of p f) (standing_first how.detail p bytes) k) q (going (way_of p f) q))
     × IsAmong (line_gone how.holes q (going (way_of p f) q)) (cut_lines o.text)
 
--- whatever is told of the unpickler in Python, over any bytes, in any environment, has its line in the text of `calls`: where the lines end with
+-- whatever is listed of the unpickler in Python, over any bytes, in any environment, has its line in the text of `calls`: where the lines end with
 -- status 0, and behind every other end
 abbrev pub EachActHasItsLine : Type 0
 EachActHasItsLine = (how : Manner) (w : World) (p : Pickles) (f : Frames) (bytes : List ℕ) (o : Output) → IsCallsText how p bytes o → length bytes < 2 ^ 64
     → tells_frames p f ≡ true
     → (V : ℕ → Value) × TellsFrames w V p f bytes
-    × ((n : ℕ) (a : Act) → IsAct a (told_of (acts_of (load_framed w p bytes n).now)) → HasLine how V p f bytes o a)
+    × ((n : ℕ) (a : Act) → IsAct a (listed_of (acts_of (load_framed w p bytes n).now)) → HasLine how V p f bytes o a)
 
--- and so has whatever is told of the unpickler in C, in each reading that the text tells of: frames ignored, in a buffer that STOP ends, or in one
+-- and so has whatever is listed of the unpickler in C, in each reading that is in the text: frames ignored, in a buffer that STOP ends, or in one
 -- that STOP leaves
 abbrev pub EachActInCHasItsLine : Type 0
 EachActInCHasItsLine = (how : Manner) (w : World) (p : Pickles) (f : Frames) (bytes : List ℕ) (o : Output) → IsCallsText how p bytes o
-    → length bytes < 2 ^ 64 → are_told p f ≡ true
-    → (V : ℕ → Value) × IsToldFrom w V (way_of p f) (standing_first detail.Cut p bytes) (λ n. seen_loaded (c_load_way w (way_of p f) bytes n).now)
-    × ((n : ℕ) (a : Act) → IsAct a (told_of (acts_of (seen_loaded (c_load_way w (way_of p f) bytes n).now))) → HasLine how V p f bytes o a)
+    → length bytes < 2 ^ 64 → is_in_text p f ≡ true
+    → (V : ℕ → Value) × AreListedFrom w V (way_of p f) (standing_first detail.Cut p bytes) (λ n. seen_loaded (c_load_way w (way_of p f) bytes n).now)
+    × ((n : ℕ) (a : Act) → IsAct a (listed_of (acts_of (seen_loaded (c_load_way w (way_of p f) bytes n).now))) → HasLine how V p f bytes o a)

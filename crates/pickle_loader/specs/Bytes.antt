@@ -10,8 +10,8 @@ use Rattle.pickle_show.specs.Calls.{calls_end, calls}
 use Rattle.pickle_loader.specs.Environment.{Value, World}
 use Rattle.pickle_loader.specs.Dispatch.{Loaded, Going, Ended, Failed, acts_of, new_unpickler, load_item}
 use Rattle.pickle_loader.specs.Reader.{Reader, Fetched, Fetch, NoFetch, fetch, opened}
-use Rattle.pickle_loader.specs.Told.{told}
-use Rattle.pickle_loader.specs.Laws.{Follows, IsTold}
+use Rattle.pickle_loader.specs.Listed.{listed}
+use Rattle.pickle_loader.specs.Laws.{Follows, AreListed}
 
 -- an unpickler, or the last of a loop of them, and its file
 pub record Loading : Type 0 where
@@ -44,10 +44,10 @@ abbrev pub BytesAreListed : Type 0
 BytesAreListed = (w : World) (many : Bool) (bytes : List ℕ) (d : Contents) → ReadsAs many bytes d → length bytes < 2 ^ 64
     → (V : ℕ → Value)
     × ((n : ℕ) (s : State) → run (start many) (ops_of d) n ≡ Some s → n ≤ (calls_end d).place
-    → Follows w V (told V many (ops_of d) n) s (load_bytes w many bytes n).now)
+    → Follows w V (listed V many (ops_of d) n) s (load_bytes w many bytes n).now)
 
--- where the reading ends with status 0, for which no STOP may leave a frame unfinished, however long the unpickler runs, all that is told
--- of what it does is a beginning of what the lines tell, of the values that it holds
+-- where the reading ends with status 0, for which no STOP may leave a frame unfinished, however long the unpickler runs, all that is listed
+-- of what it does is a beginning of what the lines list, of the values that it holds
 abbrev pub NothingElse : Type 0
 NothingElse = (how : Manner) (w : World) (many : Bool) (bytes : List ℕ) (d : Contents) → ReadsAs many bytes d → length bytes < 2 ^ 64 → (calls how d).status ≡ 0
-    → (V : ℕ → Value) × IsTold w V (λ n. told V many (ops_of d) (length (ops_of d))) (run (start many) (ops_of d)) (λ n. (load_bytes w many bytes n).now)
+    → (V : ℕ → Value) × AreListed w V (λ n. listed V many (ops_of d) (length (ops_of d))) (run (start many) (ops_of d)) (λ n. (load_bytes w many bytes n).now)

@@ -22,8 +22,8 @@ use Rattle.pickle_further.specs.Parts.{ignoring, buffering, are_many, standing_f
 use Rattle.pickle_loader.specs.Environment.{Value, is_elsewhere, Act, Unpickler, World}
 use Rattle.pickle_loader.specs.Unpickler.{Step, Ran, Raised, item, pop, pop_mark}
 use Rattle.pickle_loader.specs.Dispatch.{Loaded, Going, Ended, Failed, acts_of}
-use Rattle.pickle_loader.specs.Laws.{IsToldOf}
-use Rattle.pickle_loader.specs.Onward.{Onward, reads_on, load_way, IsToldFrom, begins_anew}
+use Rattle.pickle_loader.specs.Laws.{AreListedOf}
+use Rattle.pickle_loader.specs.Onward.{Onward, reads_on, load_way, AreListedFrom, begins_anew}
 use Rattle.pickle_loader.specs.CUnpickler.{CUnpickler, CStep, CRan, CStopped, CRaised, are_call, are_call_with, are_pairs, load_frame, load_get, load_put, dispatch, seen}
 
 -- ---- an item
@@ -129,21 +129,21 @@ seen_onward x = record { now = seen_loaded x.now; rest = x.rest; left = x.left }
 abbrev pub OneLoad : Type 0
 OneLoad = (w : World) (way : Way) (bytes : List ℕ) (n : ℕ) → seen_onward (c_load_way w way bytes n) ≡ load_way (as_in_c w) way bytes n
 
--- and so there is a map from the numbers of objects to values under which all that is told of it is a beginning of what the lines of that
--- reading tell, of the values that it holds
+-- and so there is a map from the numbers of objects to values under which all that is listed of it is a beginning of what the lines of that
+-- reading list, of the values that it holds
 abbrev pub NothingBeyondInC : Type 0
 NothingBeyondInC = (w : World) (way : Way) (bytes : List ℕ)
-    → (V : ℕ → Value) × IsToldFrom w V way (standing_first detail.Cut way.pickles bytes) (λ n. seen_loaded (c_load_way w way bytes n).now)
+    → (V : ℕ → Value) × AreListedFrom w V way (standing_first detail.Cut way.pickles bytes) (λ n. seen_loaded (c_load_way w way bytes n).now)
 
 -- where the lines of one pickle or of several end with status 0, it is a beginning of what they tell: of bytes that are there whole, from which
 -- frames are ignored
 abbrev pub NothingElseInC : Type 0
 NothingElseInC = (how : Manner) (w : World) (p : Pickles) (bytes : List ℕ) (d : Contents) → begins_anew p ≡ true → ReadsAs (are_many p) bytes d
     → length bytes < 2 ^ 64 → (calls how d).status ≡ 0
-    → (V : ℕ → Value) × IsToldOf w V d (λ n. seen_loaded (c_load_way w (ignoring p) bytes n).now)
+    → (V : ℕ → Value) × AreListedOf w V d (λ n. seen_loaded (c_load_way w (ignoring p) bytes n).now)
 
 -- nor does a stream change that: there the unpickler in C keeps frames in a buffer, and loses nothing of it
 abbrev pub NothingElseInAStream : Type 0
 NothingElseInAStream = (how : Manner) (w : World) (p : Pickles) (bytes : List ℕ) (d : Contents) → begins_anew p ≡ true → ReadsAs (are_many p) bytes d
     → length bytes < 2 ^ 64 → (calls how d).status ≡ 0
-    → (V : ℕ → Value) × IsToldOf w V d (λ n. seen_loaded (c_load_way w (buffering p) bytes n).now)
+    → (V : ℕ → Value) × AreListedOf w V d (λ n. seen_loaded (c_load_way w (buffering p) bytes n).now)

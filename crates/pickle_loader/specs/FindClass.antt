@@ -18,7 +18,7 @@ use Rattle.pickle_show.specs.Naming.{Pair}
 use Rattle.pickle_show.specs.Calls.{naming_at, entry_at}
 use Rattle.pickle_show.specs.CallsLaws.{IsStep}
 use Rattle.pickle_show.specs.LineLaws.{names_of, inst_names, IsRead, two_quoted}
-use Rattle.pickle_loader.specs.Told.{protocol_at}
+use Rattle.pickle_loader.specs.Listed.{protocol_at}
 
 -- if self.proto < 3 and self.fix_imports: another import than the names say, where a table has one
 abbrev pub fixed : ℕ → List ℕ → List ℕ → Option Import

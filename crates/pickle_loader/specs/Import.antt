@@ -23,7 +23,7 @@ use Rattle.pickle_further.specs.Going.{Standing, going}
 use Rattle.pickle_further.specs.Parts.{are_many, standing_at, standing_first}
 use Rattle.pickle_further.specs.CallsText.{IsCallsText}
 use Rattle.pickle_loader.specs.Onward.{stands}
-use Rattle.pickle_loader.specs.Text.{line_gone, IsAmong, are_told}
+use Rattle.pickle_loader.specs.Text.{line_gone, IsAmong, is_in_text}
 
 -- the line of an import of this object by these names; while they are names of Python 2, with what Python 3 imports for them
 abbrev pub import_line : Bool → Option NewPair → List ℕ → List ℕ → ℕ → ℕ → List ℕ
@@ -48,19 +48,19 @@ pub record IsImport (holes : List Hole) (from name : List ℕ) (offset id : ℕ)
   pub number_is : decimal made ≡ decimal id
   pub offset_is : right_aligned 5 (decimal (in_file holes q.at.offset)) ≡ right_aligned 5 (decimal offset)
 
--- where a reading begins that the text tells: at the first byte, or where the machine stands before an item of the document
+-- where a reading begins that is in the text: at the first byte, or where the machine stands before an item of the document
 abbrev pub IsStart : Manner → Pickles → List ℕ → Standing → Type 0
 IsStart how p bytes q = (q ≡ standing_first how.detail p bytes)
     ⊎ ((d : Contents) × (k : ℕ) × (s : State) × ReadsAs (are_many p) bytes d × (run (start d.many) (ops_of d) k ≡ Some s) × (q ≡ standing_at how.detail d k s))
 
--- this item of a reading that the text tells is such an import, and this is its line
+-- this item of a reading that is in the text is such an import, and this is its line
 pub record ImportsIt (how : Manner) (p : Pickles) (bytes : List ℕ) (line from name : List ℕ) (offset id : ℕ) : Type 0 where
   pub way : Way
   pub from_here : Standing
   pub place : ℕ
   pub standing : Standing
   pub pickles : way.pickles ≡ p
-  pub told : are_told way.pickles way.frames ≡ true
+  pub in_text : is_in_text way.pickles way.frames ≡ true
   pub begins : IsStart how p bytes from_here
   pub stands : stands way from_here place ≡ Some standing
   pub line_is : line_gone how.holes standing (going way standing) ≡ line

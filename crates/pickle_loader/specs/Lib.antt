@@ -2,7 +2,7 @@
 pub mod Environment
 pub mod Unpickler
 pub mod Dispatch
-pub mod Told
+pub mod Listed
 pub mod Values
 pub mod Reader
 pub mod Laws

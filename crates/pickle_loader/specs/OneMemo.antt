@@ -9,7 +9,7 @@ use Rattle.pickle_further.specs.declared.way.Pickles.TheVariants as pickles
 use Rattle.pickle_further.specs.Parts.{ignoring, standing_first}
 use Rattle.pickle_further.specs.CallsText.{IsCallsText}
 use Rattle.pickle_loader.specs.Environment.{Value, World}
-use Rattle.pickle_loader.specs.Onward.{load_way, IsToldFrom}
+use Rattle.pickle_loader.specs.Onward.{load_way, AreListedFrom}
 use Rattle.pickle_loader.specs.CLoad.{seen_loaded, c_load_way}
 use Rattle.pickle_loader.specs.Text.{way_of}
 
@@ -18,11 +18,11 @@ use Rattle.pickle_loader.specs.Text.{way_of}
 abbrev pub NothingElseWithOneMemo : Type 0
 NothingElseWithOneMemo = (how : Manner) (w : World) (f : Frames) (bytes : List ℕ) (o : Output) → IsCallsText how pickles.OneMemo bytes o → o.status ≡ 0
     → (V : ℕ → Value)
-    × IsToldFrom w V (ignoring pickles.OneMemo) (standing_first how.detail pickles.OneMemo bytes) (λ n. (load_way w (way_of pickles.OneMemo f) bytes n).now)
+    × AreListedFrom w V (ignoring pickles.OneMemo) (standing_first how.detail pickles.OneMemo bytes) (λ n. (load_way w (way_of pickles.OneMemo f) bytes n).now)
 
 -- and so of the one in C
 abbrev pub NothingElseWithOneMemoInC : Type 0
 NothingElseWithOneMemoInC = (how : Manner) (w : World) (f : Frames) (bytes : List ℕ) (o : Output) → IsCallsText how pickles.OneMemo bytes o → o.status ≡ 0
     → (V : ℕ → Value)
-    × IsToldFrom w V (ignoring pickles.OneMemo) (standing_first how.detail pickles.OneMemo bytes)
+    × AreListedFrom w V (ignoring pickles.OneMemo) (standing_first how.detail pickles.OneMemo bytes)
     (λ n. seen_loaded (c_load_way w (way_of pickles.OneMemo f) bytes n).now)

@@ -27,8 +27,8 @@ use Rattle.pickle_further.specs.Parts.{ignoring, are_many, standing_at, standing
 use Rattle.pickle_loader.specs.Environment.{Value, Act, Unpickler, World}
 use Rattle.pickle_loader.specs.Unpickler.{Step, Raised, load_frame, load_get, load_put}
 use Rattle.pickle_loader.specs.Dispatch.{dispatch, Loaded, Going, Ended, Failed, loaded, acts_of, new_unpickler}
-use Rattle.pickle_loader.specs.Told.{acts_told, told, protocol_after}
-use Rattle.pickle_loader.specs.Laws.{IsTold}
+use Rattle.pickle_loader.specs.Listed.{acts_listed, listed, protocol_after}
+use Rattle.pickle_loader.specs.Laws.{AreListed}
 
 -- ---- an item
 
@@ -129,7 +129,7 @@ protocol way p (suc n) = protocol_on way (stands way p n) (protocol way p n)
 
 -- the acts of the event whose line item n has
 abbrev pub acts_gone : (ℕ → Value) → ℕ → Standing → Gone → List Act
-acts_gone V proto p g = acts_told V proto (fresh p.state) g.state g.gone.event
+acts_gone V proto p g = acts_listed V proto (fresh p.state) g.state g.gone.event
 
 abbrev pub acts_on : (ℕ → Value) → Way → ℕ → Option Standing → List Act
 acts_on V way proto None = []
@@ -140,18 +140,18 @@ unfoldable pub acts_before : (ℕ → Value) → Way → Standing → ℕ → Li
 acts_before V way p zero = []
 acts_before V way p (suc n) = acts_before V way p n ++ acts_on V way (protocol way p n) (stands way p n)
 
--- that the lines of a reading tell what is loaded, and which values it holds
-abbrev pub IsToldFrom : World → (ℕ → Value) → Way → Standing → (ℕ → Loaded) → Type 0
-IsToldFrom w V way p loads = IsTold w V (acts_before V way p) (state_behind way p) loads
+-- that the lines of a reading list what is loaded, and which values it holds
+abbrev pub AreListedFrom : World → (ℕ → Value) → Way → Standing → (ℕ → Loaded) → Type 0
+AreListedFrom w V way p loads = AreListed w V (acts_before V way p) (state_behind way p) loads
 
 -- ---- the law
 
 -- in every environment, for any bytes, read as one pickle, as several, or by one Unpickler that loads again, with frames ignored or
--- buffered, there is a map from the numbers of objects to values under which, after any number of opcodes, all that is told of the
--- unpickler is a beginning of what the lines of that reading tell, of the values that it holds
+-- buffered, there is a map from the numbers of objects to values under which, after any number of opcodes, all that is listed of the
+-- unpickler is a beginning of what the lines of that reading list, of the values that it holds
 abbrev pub NothingBeyond : Type 0
 NothingBeyond = (w : World) (way : Way) (bytes : List ℕ)
-    → (V : ℕ → Value) × IsToldFrom w V way (standing_first detail.Cut way.pickles bytes) (λ n. (load_way w way bytes n).now)
+    → (V : ℕ → Value) × AreListedFrom w V way (standing_first detail.Cut way.pickles bytes) (λ n. (load_way w way bytes n).now)
 
 -- ---- the lines of a document
 
@@ -162,13 +162,13 @@ begins_anew pickles.All = true
 begins_anew pickles.OneMemo = false
 
 -- the reading of a document's bytes with frames ignored, where it did not end before, stands at each place that the machine reaches where
--- the part behind an end at that place begins, and told up to there what the lines tell: the lines and the part behind their end are those
+-- the part behind an end at that place begins, and did up to there what the lines list: the lines and the part behind their end are those
 -- of one reading
 abbrev pub LinesAreRead : Type 0
 LinesAreRead = (how : Detail) (V : ℕ → Value) (p : Pickles) (d : Contents) → IsFormed d → length (document_bytes d) < 2 ^ 64 → begins_anew p ≡ true
     → d.many ≡ are_many p
     → (k : ℕ) (s : State) (q : Standing) → run (start d.many) (ops_of d) k ≡ Some s → stands (ignoring p) (standing_first how p (document_bytes d)) k ≡ Some q
-    → (q ≡ standing_at how d k s) × (acts_before V (ignoring p) (standing_first how p (document_bytes d)) k ≡ told V d.many (ops_of d) k)
+    → (q ≡ standing_at how d k s) × (acts_before V (ignoring p) (standing_first how p (document_bytes d)) k ≡ listed V d.many (ops_of d) k)
 
 -- ---- frames in a buffer
 
@@ -180,7 +180,7 @@ unbuffered q = record { state = q.state; rest = q.rest; at = record { offset = q
 abbrev pub NoneLost : Way → Standing → ℕ → Type 0
 NoneLost way p k = (j : ℕ) (q : Standing) → j < k → stands way p j ≡ Some q → (going way q).gone.lost ≡ false
 
--- up to the first item that loses bytes a reading with a buffer is the one in which frames are ignored: it stands where that does, and told
+-- up to the first item that loses bytes a reading with a buffer is the one in which frames are ignored: it stands where that does, and did
 -- the same, so that what is shown of it from there on is all that it has more
 abbrev pub BufferedIsRead : Type 0
 BufferedIsRead = (how : Detail) (V : ℕ → Value) (w : Way) (bytes : List ℕ) (k : ℕ) (q : Standing) → stands w (standing_first how w.pickles bytes) k ≡ Some q

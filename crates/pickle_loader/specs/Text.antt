@@ -1,5 +1,5 @@
 -- The whole text of `calls`, line by line, behind an end too: each of its lines is that of an item of a reading, or one of the lines that
--- close or head a part; no text of a pickle makes a line of its own; and what is told of an item has its line in the text.
+-- close or head a part; no text of a pickle makes a line of its own; and what is listed of an item has its line in the text.
 -- Source: own.
 use Rattle.std.specs.Prelude.{◌≡◌, ◌≢◌, Bool, true, false, ℕ, zero, suc, ◌^◌, ◌<◌, if◌then◌else◌, List, [], ◌∷◌, ◌++◌, length, Option, Some, None}
 use Rattle.pickle_doc.specs.Document.{Contents, ReadsAs, AreBytes, document_bytes}
@@ -53,13 +53,13 @@ all_lines holes way p = lines_before holes way p (suc (length p.rest))
 abbrev pub part_end_lines : List Hole → Tale → List (List ℕ)
 part_end_lines holes t = totals_line t.lines.imports t.lines.calls ∷ ends_line (closing_in holes t.closing) ∷ []
 
-abbrev pub told_lines : List Hole → Way → Option Standing → List (List ℕ)
-told_lines holes way (Some p) = header way.frames ∷ (all_lines holes way p ++ part_end_lines holes (tale_of holes way p))
-told_lines holes way None = []
+abbrev pub part_lines : List Hole → Way → Option Standing → List (List ℕ)
+part_lines holes way (Some p) = header way.frames ∷ (all_lines holes way p ++ part_end_lines holes (tale_of holes way p))
+part_lines holes way None = []
 
 -- from here on: nothing where no item has a line
 abbrev pub lines_from : List Hole → Way → Standing → List (List ℕ)
-lines_from holes way p = told_lines holes way (search_from sought.Event way p)
+lines_from holes way p = part_lines holes way (search_from sought.Event way p)
 
 abbrev pub lines_if : List Hole → Way → Option Standing → List (List ℕ)
 lines_if holes way (Some p) = lines_from holes way p
@@ -132,23 +132,23 @@ never_held frames.Ignored = true
 never_held frames.Buffered = true
 never_held frames.Held = false
 
--- the readings of which a text tells: frames ignored, or in a buffer, which one Unpickler that loads again may keep behind STOP
-abbrev pub are_told : Pickles → Frames → Bool
-are_told pickles.OneMemo f = true
-are_told pickles.All f = never_held f
-are_told pickles.First f = never_held f
+-- the readings that are in a text: frames ignored, or in a buffer, which one Unpickler that loads again may keep behind STOP
+abbrev pub is_in_text : Pickles → Frames → Bool
+is_in_text pickles.OneMemo f = true
+is_in_text pickles.All f = never_held f
+is_in_text pickles.First f = never_held f
 
--- in each of these readings, from the first byte on and as far as it goes: an item that tells an act has an event; and an item with an event has
+-- in each of these readings, from the first byte on and as far as it goes: an item that lists an act has an event; and an item with an event has
 -- a line, which is one of the lines of the text, be it above the headings or under one
 abbrev pub EachReachHasItsLine : Type 0
 EachReachHasItsLine = (how : Manner) (p : Pickles) (f : Frames) (bytes : List ℕ) (o : Output) → IsCallsText how p bytes o → length bytes < 2 ^ 64
-    → are_told p f ≡ true
+    → is_in_text p f ≡ true
     → (n : ℕ) (q : Standing) → stands (way_of p f) (standing_first how.detail p bytes) n ≡ Some q
     → ((V : ℕ → Value) (proto : ℕ) → acts_gone V proto q (going (way_of p f) q) ≢ [] → (going (way_of p f) q).gone.event ≢ None)
     × ((going (way_of p f) q).gone.event ≢ None
     → (line_gone how.holes q (going (way_of p f) q) ≢ []) × IsAmong (line_gone how.holes q (going (way_of p f) q)) (cut_lines o.text))
 
--- how much of an argument is shown changes nothing of what is told
+-- how much of an argument is shown changes nothing of what is listed
 abbrev pub DetailTellsAlike : Type 0
 DetailTellsAlike = (a b : Detail) (V : ℕ → Value) (w : Way) (bytes : List ℕ) (n : ℕ)
     → acts_before V w (standing_first a w.pickles bytes) n ≡ acts_before V w (standing_first b w.pickles bytes) n

@@ -1,6 +1,6 @@
 //! Laws of the definitions. The functions do nothing: what they ensure holds of all documents and all environments.
 
-ghost use Rattle.pickle_loader.specs.Laws.{LoadsAreListed, ToldHasLine, AllTold, NoLineNoAct};
+ghost use Rattle.pickle_loader.specs.Laws.{LoadsAreListed, ActsHaveLines, AllListed, NoLineNoAct};
 ghost use Rattle.pickle_loader.specs.Reader.{OpsAreFetched, FramesOnlyEnd};
 ghost use Rattle.pickle_loader.specs.FlatStack.{OneStack};
 ghost use Rattle.pickle_loader.specs.Beyond.{KeysAgree, WideMovesAreFollowed, WhatIsMissingRaises, FillsAreFollowed, AStepBeyond};
@@ -20,13 +20,13 @@ pub fn loads_are_listed()
 {}
 
 /// An item that tells something has a line.
-pub fn told_has_line()
-    ensures { ToldHasLine }
+pub fn acts_have_lines()
+    ensures { ActsHaveLines }
 {}
 
 /// Where the reading ends with status 0, the lines tell all that the unpickler does.
-pub fn all_told()
-    ensures { AllTold }
+pub fn all_listed()
+    ensures { AllListed }
 {}
 
 /// The opcodes of a document are those that the unpickler reads from its bytes.
@@ -70,7 +70,7 @@ pub fn nothing_else_in_a_stream()
     ensures { NothingElseInAStream }
 {}
 
-/// An accepted item without a line makes the unpickler do nothing that is told.
+/// An accepted item without a line makes the unpickler do nothing that is listed.
 pub fn no_line_no_act()
     ensures { NoLineNoAct }
 {}
@@ -95,7 +95,7 @@ pub fn fills_are_followed()
     ensures { FillsAreFollowed }
 {}
 
-/// Where a loader does not move as a row that asks for less, the unpickler raises and did nothing that is told; where it moves, the
+/// Where a loader does not move as a row that asks for less, the unpickler raises and did nothing that is listed; where it moves, the
 /// unpickler does what the event of that move tells, or raises and did a beginning of it.
 pub fn a_step_beyond()
     ensures { AStepBeyond }
@@ -112,12 +112,12 @@ pub fn nothing_beyond_by_frames()
     ensures { NothingBeyondByFrames }
 {}
 
-/// Each act that is told of it has its line in the text, above the headings or under one.
+/// Each act that is listed of it has its line in the text, above the headings or under one.
 pub fn each_act_has_its_line()
     ensures { EachActHasItsLine }
 {}
 
-/// And each act that is told of the one in C, in each reading of which the text tells.
+/// And each act that is listed of the one in C, in each reading that is in the text.
 pub fn each_act_in_c_has_its_line()
     ensures { EachActInCHasItsLine }
 {}
@@ -172,12 +172,12 @@ pub fn one_line_one_callee()
     ensures { OneLineOneCallee }
 {}
 
-/// Whatever is told of an item of a reading has its line in the text, above the headings or under one.
+/// Whatever an item of a reading lists has its line in the text, above the headings or under one.
 pub fn each_reach_has_its_line()
     ensures { EachReachHasItsLine }
 {}
 
-/// How much of an argument is shown changes nothing of what is told.
+/// How much of an argument is shown changes nothing of what is listed.
 pub fn detail_tells_alike()
     ensures { DetailTellsAlike }
 {}

@@ -170,7 +170,7 @@ impl Lean {
     #[inline(always)]
     pub fn refusal(&self, row: Row) -> Option<Refusal>
         ensures first { result ≡ refusal_of row self.now }
-        ensures told { IfSome result (λ e. e ≢ Refusal.Memory) }
+        ensures named { IfSome result (λ e. e ≢ Refusal.Memory) }
     {
         refusal(self, row)
     }

@@ -244,7 +244,7 @@ impl<'a> Slim<'a> {
     #[inline(always)]
     pub fn refusal(&self, row: Row) -> Option<Refusal>
         ensures first { result ≡ refusal_of row (fresh self.now.state) }
-        ensures told { IfSome result (λ e. e ≢ Refusal.Memory) }
+        ensures named { IfSome result (λ e. e ≢ Refusal.Memory) }
     {
         let lean = &self.lean;
         if lean.has_stopped() {

@@ -1,6 +1,6 @@
 //! How the bytes of a text are read, and what is at the front of them.
 
-/// How the bytes of a text are read. Where a loader is told another encoding for the strings of Python 2, it reads those otherwise.
+/// How the bytes of a text are read. Where a loader is given another encoding for the strings of Python 2, it reads those otherwise.
 #[derive(Clone, Copy)]
 pub enum Coding {
     /// ASCII: the names of INST, the line of PERSID, BINSTRING and SHORT_BINSTRING.

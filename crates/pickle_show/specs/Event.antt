@@ -73,14 +73,14 @@ abbrev pub filled_count : Filling → ℕ → ℕ
 filled_count filling.SetItem n = n / 2
 filled_count _ n = n
 
--- whether that many are told that go into the object of this number: whoever appends or adds, be it nothing, asks the object for its
+-- whether that many are shown that go into the object of this number: whoever appends or adds, be it nothing, asks the object for its
 -- method, and a view of an opaque object may be that object itself; whoever sets nothing does nothing
 abbrev pub touches : Filling → ℕ → List Object → ℕ → Bool
 touches filling.Append n heap id = loose_at heap id
 touches filling.Add n heap id = loose_at heap id
 touches _ n heap id = nat_lt 0 n && object_is is_opaque heap id
 
--- n items, pairs or members went into the top, where that is told
+-- n items, pairs or members went into the top, where that is shown
 abbrev pub into : Filling → ℕ → State → Option Event
 into f n t = if touches f n t.heap (top_of t) then Some (event.Filled f n (top_of t)) else None
 

@@ -132,7 +132,7 @@ impl Course {
 
     /// The same, apart: few steps have a line or change how names are read.
     #[inline(never)]
-    fn told<M: Inspect>(self, row: Row, machine: &M, event: Option<Event>) -> Course
+    fn with_apart<M: Inspect>(self, row: Row, machine: &M, event: Option<Event>) -> Course
         requires imports { self.imports < 2 ^ 32 }
         requires calls { self.calls < 2 ^ 32 }
         requires objects { length (M.state machine.now).heap < 2 ^ 32 }
@@ -170,7 +170,7 @@ impl Course {
                 left: left_behind(op, self.left),
             };
         }
-        let course = self.told(row, machine, event);
+        let course = self.with_apart(row, machine, event);
         Course {
             imports: course.imports,
             calls: course.calls,

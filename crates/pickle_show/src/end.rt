@@ -123,7 +123,7 @@ fn ending_in(holes: &Holes, ending: Ending) -> Ending
 }
 
 /// Writes the last lines: what the bytes begin like, if that holds pickles inside, how many imports and calls there are, how many bytes
-/// STOP left, and how the reading ended. The bytes are what is left of a file without these holes, and the offset is told as in the file.
+/// STOP left, and how the reading ended. The bytes are what is left of a file without these holes, and the offset is shown as in the file.
 /// Answers the status: 0 where nothing is said of how it ended, else 1.
 ///
 /// `Failed` where the sink fails; a beginning of the lines was written then.

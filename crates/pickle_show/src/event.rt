@@ -208,7 +208,7 @@ fn filled_count(filling: Filling, objects: usize) -> usize
     }
 }
 
-/// Whether so many items, pairs or members are told that go into the object of this number: to append or add, be it nothing, asks the object
+/// Whether so many items, pairs or members are shown that go into the object of this number: to append or add, be it nothing, asks the object
 /// for its method, and so does a view that is the object itself; to set nothing does nothing.
 fn touches<M: Inspect>(filling: Filling, count: usize, machine: &M, id: ObjId) -> bool
     ensures { result ≡ touches filling count (M.state machine.now).heap id }
@@ -220,7 +220,7 @@ fn touches<M: Inspect>(filling: Filling, count: usize, machine: &M, id: ObjId) -
     }
 }
 
-/// The event of a step that put items, pairs or members of this count into the top, if they are told.
+/// The event of a step that put items, pairs or members of this count into the top, if they are shown.
 fn into<M: Inspect>(filling: Filling, count: usize, machine: &M) -> Option<Event>
     ensures { result ≡ into filling count (M.state machine.now) }
 {

@@ -59,7 +59,7 @@ pub record Puts (text : List ℕ) (status : ℕ) (old new : List ℕ) (written :
   pub short : answer ≡ 3 → (length old < length text) × (new ≡ old)
   pub either : (answer ≡ 0) ⊎ (answer ≡ 3)
 
--- the text that is wanted, of these bytes, was put there (0), or it has no room and its size is told (3); else memory ran out (1) or
+-- the text that is wanted, of these bytes, was put there (0), or it has no room and its size is given (3); else memory ran out (1) or
 -- there are too many bytes (2)
 pub record Fills (IsWanted : List ℕ → ℕ → Type 0) (bytes old new : List ℕ) (written : Written) (answer : ℕ) : Type 0 where
   pub whole : answer ≡ 0 → IsWanted (take written.size new) written.status

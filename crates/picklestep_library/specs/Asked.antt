@@ -26,7 +26,7 @@ is_loose options = is_given options 2
 abbrev pub are_modes : ℕ → Bool
 are_modes options = nat_lt options 4
 
--- the pickles that are told of, where the first alone is wanted and where the memo is kept
+-- the pickles that are read, where the first alone is wanted and where the memo is kept
 abbrev pub pickles_by : Bool → Bool → Option Pickles
 pickles_by false false = Some pickles.All
 pickles_by true false = Some pickles.First
@@ -61,6 +61,6 @@ stand_from from (given ∷ more) = may_follow from (hole_of given) && stand_from
 abbrev pub holes_of : List GivenHole → List Hole
 holes_of given = map hole_of given
 
--- the pickles that are told of, where the holes are in order
+-- the pickles that are read, where the holes are in order
 abbrev pub pickles_left : ℕ → List GivenHole → Option Pickles
 pickles_left options given = if stand_from 0 given then pickles_of_input options else None

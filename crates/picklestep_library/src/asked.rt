@@ -63,7 +63,7 @@ pub fn are_modes(options: u32) -> bool
     options < FIRST
 }
 
-/// The pickles that are told of.
+/// The pickles that are read.
 fn pickles_by(first: bool, memo_kept: bool) -> Option<Pickles>
     ensures { result ≡ pickles_by first memo_kept }
 {
@@ -75,7 +75,7 @@ fn pickles_by(first: bool, memo_kept: bool) -> Option<Pickles>
     }
 }
 
-/// The pickles that are told of, where these are options for that and go together.
+/// The pickles that are read, where these are options for that and go together.
 pub fn pickles_of(options: u32) -> Option<Pickles>
     ensures { result ≡ pickles_of options }
 {
@@ -140,7 +140,7 @@ fn are_in_order(given: &[GivenHole]) -> bool
     true
 }
 
-/// The pickles that are told of, where the holes are in order.
+/// The pickles that are read, where the holes are in order.
 pub fn pickles_left(options: u32, given: &[GivenHole]) -> Option<Pickles>
     ensures pickles { result ≡ pickles_left options given.now }
     ensures order { result ≢ None → stand_from 0 given.now ≡ true }

@@ -4,7 +4,7 @@ ghost use Rattle.std.specs.Prelude.{◌≡◌, []};
 
 mod script;
 
-use crate::session::script::{Counts, Told, command, open_whole, open_window};
+use crate::session::script::{Counts, Given, command, open_whole, open_window};
 use pickle_doc::{Edit, End};
 use pickle_machine::Refusal;
 use pickle_ops::Opcode;
@@ -149,12 +149,12 @@ const WINDOWS: [(usize, bool, &[u8], &[Counts]); 4] = [
         false,
         PAIR,
         &[
-            (Told::Goto(4), Reply::At(4), 4, 2, 4),
-            (Told::Back, Reply::At(3), 3, 1, 1),
-            (Told::Back, Reply::At(2), 2, 0, 1),
-            (Told::Back, Reply::At(1), 1, 1, 1),
-            (Told::Goto(5), Reply::At(5), 5, 2, 4),
-            (Told::Goto(0), Reply::At(0), 0, 0, 0),
+            (Given::Goto(4), Reply::At(4), 4, 2, 4),
+            (Given::Back, Reply::At(3), 3, 1, 1),
+            (Given::Back, Reply::At(2), 2, 0, 1),
+            (Given::Back, Reply::At(1), 1, 1, 1),
+            (Given::Goto(5), Reply::At(5), 5, 2, 4),
+            (Given::Goto(0), Reply::At(0), 0, 0, 0),
         ],
     ),
     (
@@ -162,9 +162,9 @@ const WINDOWS: [(usize, bool, &[u8], &[Counts]); 4] = [
         false,
         PAIR,
         &[
-            (Told::Goto(4), Reply::At(4), 4, 1, 4),
-            (Told::Back, Reply::At(3), 3, 0, 1),
-            (Told::Back, Reply::At(2), 2, 1, 2),
+            (Given::Goto(4), Reply::At(4), 4, 1, 4),
+            (Given::Back, Reply::At(3), 3, 0, 1),
+            (Given::Back, Reply::At(2), 2, 1, 2),
         ],
     ),
     (
@@ -172,9 +172,9 @@ const WINDOWS: [(usize, bool, &[u8], &[Counts]); 4] = [
         false,
         PAIR,
         &[
-            (Told::Goto(2), Reply::At(2), 2, 1, 2),
-            (Told::Back, Reply::At(1), 1, 0, 1),
-            (Told::Back, Reply::At(0), 0, 0, 0),
+            (Given::Goto(2), Reply::At(2), 2, 1, 2),
+            (Given::Back, Reply::At(1), 1, 0, 1),
+            (Given::Back, Reply::At(0), 0, 0, 0),
         ],
     ),
     (
@@ -182,20 +182,20 @@ const WINDOWS: [(usize, bool, &[u8], &[Counts]); 4] = [
         true,
         PAIRS,
         &[
-            (Told::Goto(7), Reply::At(7), 7, 2, 7),
-            (Told::Back, Reply::At(6), 6, 1, 1),
-            (Told::Back, Reply::At(5), 5, 0, 1),
-            (Told::Back, Reply::At(4), 4, 2, 4),
-            (Told::Goto(10), Reply::At(10), 10, 2, 6),
-            (Told::Goto(0), Reply::At(0), 0, 0, 0),
+            (Given::Goto(7), Reply::At(7), 7, 2, 7),
+            (Given::Back, Reply::At(6), 6, 1, 1),
+            (Given::Back, Reply::At(5), 5, 0, 1),
+            (Given::Back, Reply::At(4), 4, 2, 4),
+            (Given::Goto(10), Reply::At(10), 10, 2, 6),
+            (Given::Goto(0), Reply::At(0), 0, 0, 0),
         ],
     ),
 ];
 
 /// Whether a command has this reply, and these counts hold after it.
 fn is_answered<P: Past>(session: &mut Session<P>, alloc: Global, row: &Counts) -> bool {
-    let (told, reply, cursor, kept, work) = *row;
-    let Ok(command) = command(alloc, told) else {
+    let (given, reply, cursor, kept, work) = *row;
+    let Ok(command) = command(alloc, given) else {
         return false;
     };
     let found = session.obey(alloc, &command);
@@ -219,39 +219,39 @@ const ALL_KEPT: [(&[u8], &[Counts]); 3] = [
     (
         DUMP,
         &[
-            (Told::Goto(4), Reply::At(4), 4, 4, 4),
-            (Told::Run, Reply::Ran(7, Why::End), 7, 7, 3),
+            (Given::Goto(4), Reply::At(4), 4, 4, 4),
+            (Given::Run, Reply::Ran(7, Why::End), 7, 7, 3),
             (
-                Told::Run,
+                Given::Run,
                 Reply::Refused(Fault::AtEnd(End::Stopped)),
                 7,
                 7,
                 0,
             ),
-            (Told::Goto(0), Reply::At(0), 0, 0, 7),
+            (Given::Goto(0), Reply::At(0), 0, 0, 7),
         ],
     ),
     // an entry of the memo that is not there
     (
         b"K\x01q\x00K\x02q\x00h\x07.",
         &[
-            (Told::Goto(3), Reply::At(3), 3, 3, 3),
+            (Given::Goto(3), Reply::At(3), 3, 3, 3),
             (
-                Told::Goto(5),
+                Given::Goto(5),
                 Reply::Refused(Fault::Item(4, Refusal::NoMemoEntry(7))),
                 3,
                 3,
                 2,
             ),
             (
-                Told::Run,
+                Given::Run,
                 Reply::Ran(4, Why::Refused(Refusal::NoMemoEntry(7))),
                 4,
                 4,
                 1,
             ),
             (
-                Told::Run,
+                Given::Run,
                 Reply::Refused(Fault::Item(4, Refusal::NoMemoEntry(7))),
                 4,
                 4,
@@ -263,7 +263,7 @@ const ALL_KEPT: [(&[u8], &[Counts]); 3] = [
     (
         b"ccollections\nOrderedDict\n)R(K\x01K\x02Nu.",
         &[(
-            Told::Goto(8),
+            Given::Goto(8),
             Reply::Refused(Fault::Item(7, Refusal::OddItems)),
             0,
             0,
@@ -364,7 +364,7 @@ fn a_thousand_insertions(rt: HostRuntime) -> Result<(), Fail> {
     bytes.push(b'.')?;
     let mut session = Session::open(rt.alloc(), Whole::new(rt.alloc()), b".")?;
     for k in 0..1000 {
-        let insert = command(rt.alloc(), Told::Insert(0, Opcode::None, b""))?;
+        let insert = command(rt.alloc(), Given::Insert(0, Opcode::None, b""))?;
         let reply = session.obey(rt.alloc(), &insert);
         assert_eq!(rt; reply, Reply::Edited(0), "insertion {k}");
     }
@@ -399,7 +399,7 @@ fn large_input(rt: HostRuntime) -> Result<(), Fail> {
     let bytes = large(rt.alloc())?;
     let mut session = Session::open(rt.alloc(), Whole::new(rt.alloc()), &bytes)?;
     let insert = (
-        Told::Insert(0, Opcode::None, b""),
+        Given::Insert(0, Opcode::None, b""),
         Reply::Edited(0),
         0,
         0,
@@ -407,13 +407,13 @@ fn large_input(rt: HostRuntime) -> Result<(), Fail> {
     );
     assert!(rt; is_answered(&mut session, rt.alloc(), &insert));
     assert_eq!(rt; session.document().total(), LARGE as u64 + 1);
-    let undo = (Told::Undo, Reply::Undone(0), 0, 0, 0);
+    let undo = (Given::Undo, Reply::Undone(0), 0, 0, 0);
     assert!(rt; is_answered(&mut session, rt.alloc(), &undo));
     assert_eq!(rt;
         (session.undos(), session.redos(), session.offset()),
         (0, 1, 0)
     );
-    let run = (Told::Run, Reply::Ran(2, Why::End), 2, 2, 2);
+    let run = (Given::Run, Reply::Ran(2, Why::End), 2, 2, 2);
     assert!(rt; is_answered(&mut session, rt.alloc(), &run));
     assert_eq!(rt; session.offset(), LARGE as u64);
     assert!(rt; has_bytes(&session, &bytes));
@@ -438,10 +438,10 @@ fn many_marks(rt: HostRuntime) -> Result<(), Fail> {
 }
 
 /// Whether a session accepts the first commands of a way.
-fn go(alloc: Global, many: bool, bytes: &[u8], way: &[Told]) -> Result<bool, Fail> {
+fn go(alloc: Global, many: bool, bytes: &[u8], way: &[Given]) -> Result<bool, Fail> {
     let mut session = open_whole(alloc, many, bytes)?;
-    for told in way {
-        let command = command(alloc, *told)?;
+    for given in way {
+        let command = command(alloc, *given)?;
         if matches!(session.obey(alloc, &command), Reply::Refused(_)) {
             return Ok(false);
         }
@@ -451,24 +451,24 @@ fn go(alloc: Global, many: bool, bytes: &[u8], way: &[Told]) -> Result<bool, Fai
 
 /// Bytes, read as several pickles or as one, a way, and how many of its first commands may ask for memory: the first step over a dump
 /// is free, and so are a step that is taken again behind the first of its pickle, and each way back.
-const WAYS: [(bool, &[u8], &[Told], usize); 7] = [
-    (false, DUMP, &[Told::Step, Told::Back, Told::Step], 0),
+const WAYS: [(bool, &[u8], &[Given], usize); 7] = [
+    (false, DUMP, &[Given::Step, Given::Back, Given::Step], 0),
     (
         false,
         CYCLE,
-        &[Told::Goto(3), Told::Back, Told::Back, Told::Step],
+        &[Given::Goto(3), Given::Back, Given::Back, Given::Step],
         1,
     ),
     (
         false,
         DUMP,
         &[
-            Told::Run,
-            Told::Goto(3),
-            Told::Back,
-            Told::Goto(2),
-            Told::Clear(0),
-            Told::Goto(0),
+            Given::Run,
+            Given::Goto(3),
+            Given::Back,
+            Given::Goto(2),
+            Given::Clear(0),
+            Given::Goto(0),
         ],
         1,
     ),
@@ -476,12 +476,12 @@ const WAYS: [(bool, &[u8], &[Told], usize); 7] = [
         false,
         DUMP,
         &[
-            Told::Delete(3),
-            Told::Undo,
-            Told::Redo,
-            Told::Undo,
-            Told::Delete(2),
-            Told::Undo,
+            Given::Delete(3),
+            Given::Undo,
+            Given::Redo,
+            Given::Undo,
+            Given::Delete(2),
+            Given::Undo,
         ],
         0,
     ),
@@ -489,30 +489,30 @@ const WAYS: [(bool, &[u8], &[Told], usize); 7] = [
         true,
         PAIRS,
         &[
-            Told::Run,
-            Told::Goto(7),
-            Told::Back,
-            Told::Goto(3),
-            Told::Goto(0),
+            Given::Run,
+            Given::Goto(7),
+            Given::Back,
+            Given::Goto(3),
+            Given::Goto(0),
         ],
         1,
     ),
     (
         true,
         b"N.N2\x86.",
-        &[Told::Goto(4), Told::Back, Told::Step, Told::Goto(0)],
+        &[Given::Goto(4), Given::Back, Given::Step, Given::Goto(0)],
         1,
     ),
     (
         true,
         b"N.N0N.",
         &[
-            Told::Delete(3),
-            Told::Undo,
-            Told::Redo,
-            Told::Undo,
-            Told::Delete(4),
-            Told::Undo,
+            Given::Delete(3),
+            Given::Undo,
+            Given::Redo,
+            Given::Undo,
+            Given::Delete(4),
+            Given::Undo,
         ],
         0,
     ),

@@ -46,11 +46,11 @@ fn write_breaks<P: Past, S: Page>(session: &Session<P>, page: &mut S) -> Result<
 pub fn shows<P: Past>(session: &Session<P>, shown: &[u8], bytes: &[u8]) -> bool {
     let mut compared = Comparison::new(shown);
     let mut written = Comparison::new(bytes);
-    let is_told = write_session(session, &mut compared).is_ok();
+    let is_compared = write_session(session, &mut compared).is_ok();
     let is_written = session.document().write_bytes(&mut written).is_ok();
     let offset = session.document().offset(session.cursor());
     offset == Some(session.offset())
-        && is_told
+        && is_compared
         && is_written
         && compared.is_whole()
         && written.is_whole()

@@ -84,13 +84,13 @@ fn is_whole(
     let answer = write_text(alloc, machine, text, &mut sink);
     let answer = written_out(&mut sink, answer);
     let is_whole = sink.get_ref().taken().len() == wanted.len();
-    let told = if is_whole {
+    let right = if is_whole {
         Ok(())
     } else {
         Err(TextStop::Failed)
     };
     if wanted.starts_with(sink.get_ref().taken())
-        && answer == told
+        && answer == right
         && sink.get_ref().failures() == u64::from(!is_whole)
     {
         Some(is_whole)

@@ -37,7 +37,7 @@ pub record Listed (many loose : Bool) (bytes : List ℕ) (old new : Told) (rest 
   -- STOP ends the listing where nothing stands behind it
   pub goes : (length rest == 0 && ends_with_stop (take k (items_of d))) ≡ false
 
--- where a listing began: what was not read yet, and what the device was told
+-- where a listing began: what was not read yet, and what the device reported
 pub record Begun : Type 0 where
   pub unread : Unread
   pub told : Told

@@ -37,7 +37,7 @@ pub record Walked (how : Manner) (many : Bool) (bytes : List ℕ) (old new : Tol
   pub ends : ends_with_stop (take k (items_of d)) ≡ last
   pub outside : first_inside d k ≡ None
 
--- where a run began: how much of an argument is shown, what was not read yet, and what the device was told
+-- where a run began: how much of an argument is shown, what was not read yet, and what the device reported
 pub record Begun : Type 0 where
   pub detail : Detail
   pub rest : List ℕ

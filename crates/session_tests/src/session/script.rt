@@ -5,9 +5,9 @@ use pickle_ops::{OpFault, Opcode, op_of};
 use pickle_session::{Command, Reply, Session, Whole, Window};
 use std::alloc::Global;
 
-/// A command without an `Op` of its own: an opcode and an argument in its place.
+/// A command as a row gives it: in place of an `Op` an opcode and an argument.
 #[derive(Clone, Copy, Debug, PartialEq, Eq)]
-pub enum Told {
+pub enum Given {
     Step,
     Back,
     Goto(usize),
@@ -20,22 +20,22 @@ pub enum Told {
 }
 
 /// A command; the reply; the cursor, the records kept and the work after it.
-pub type Counts = (Told, Reply, usize, usize, u64);
+pub type Counts = (Given, Reply, usize, usize, u64);
 
 /// The command. `Memory` comes where memory runs out, another fault where the opcode has no such argument.
-pub fn command(alloc: Global, told: Told) -> Result<Command, OpFault> {
-    Ok(match told {
-        Told::Step => Command::Step,
-        Told::Back => Command::Back,
-        Told::Run => Command::Run,
-        Told::Goto(k) => Command::Goto(k),
-        Told::Clear(k) => Command::Clear(k),
-        Told::Insert(k, opcode, arg) => {
+pub fn command(alloc: Global, given: Given) -> Result<Command, OpFault> {
+    Ok(match given {
+        Given::Step => Command::Step,
+        Given::Back => Command::Back,
+        Given::Run => Command::Run,
+        Given::Goto(k) => Command::Goto(k),
+        Given::Clear(k) => Command::Clear(k),
+        Given::Insert(k, opcode, arg) => {
             Command::Edit(Edit::Insert(k, op_of(alloc, opcode, arg)?))
         }
-        Told::Delete(k) => Command::Edit(Edit::Delete(k)),
-        Told::Undo => Command::Undo,
-        Told::Redo => Command::Redo,
+        Given::Delete(k) => Command::Edit(Edit::Delete(k)),
+        Given::Undo => Command::Undo,
+        Given::Redo => Command::Redo,
     })
 }
 

@@ -39,7 +39,7 @@ use Rattle.std_alloc.proofs.RawLayout.{as_raw}
 use Rattle.std_alloc.proofs.RcSteps.{word}
 use Rattle.gap_list.specs.Inside.Ownership.{deed, block_owns}
 use Rattle.gap_list.proofs.Memory.{sz, Place, to_room}
-use Rattle.gap_list.proofs.Values.{block_val, block_told}
+use Rattle.gap_list.proofs.Values.{block_val, block_is}
 use Rattle.gap_list.specs.contracts.block.Block as block
 use Rattle.gap_list.specs.contracts.block.Start as start
 use Rattle.gap_list.proofs.block.Start.TheLaws.{lowers}
@@ -63,14 +63,14 @@ free_spec 𝓤 𝓛 𝓜 𝓡 wired T A LT LA g d dd met md =
     let Post : Val → SProp 𝓤 = (walk_of 𝓛 f stays c).post z in
     let a = z.0.3 in let vss = z.0.4 in let κ : Lft = z.0.0.0 in let q : Share = z.0.1.0 in let κ₁ = z.0.0.1.0 in let κ₂ = z.0.0.1.1.0 in
     let rb = a.0.ref_ptr.0 in let ro = a.0.ref_ptr.1 in let h = a.0.now in let begin = a.1.0 in let n = a.1.1.0 in let k = a.1.1.1.0 in
-    let told = lowers.val_is begin vss.1.0 are.1.0 in let fits = are.1.1.0.1 in let marked = block_told vss.1.1.1.0 are.1.1.1.0.0 in
+    let begin_is = lowers.val_is begin vss.1.0 are.1.0 in let fits = are.1.1.0.1 in let marked = block_is vss.1.1.1.0 are.1.1.1.0.0 in
     let Asked : Type 0 = (k.at ≡ begin.ptr) × (k.slots ≡ replicate n None) × (k.alloc ≡ h) in
     qed 𝓛 ((raw (alive 𝓛 f.signature z.0.0 z.0.1) ⊛ ‵ (owns (types_at f.signature.params z.0.0) a vss)) ∷ (raw (fact 𝓤 (κ₁ ⊑ T.lives)) ⊛ raw (fact 𝓤 (κ₂ ⊑ A.lives)) ⊛ raw (fact 𝓤 Asked)) ∷ []) ∵
     move ! (1 ∷ []) $ split ! $ drop ! $ split ! $ heard ! (κ₂ ⊑ A.lives) (λ lives. heard ! Asked (λ asked. split ! $ move ! (1 ∷ []) $
     fsplit ! $ fsplit ! $ drop ! $ use1 𝓛 (‵ (seen Z κ (rb, ro) h)) (id⊢ 𝓤 _) $ move ! (1 ∷ []) $ fsplit ! $ drop ! $ fsplit ! $ drop ! $ fsplit ! $ fsplit ! $ drop ! $
     move ! (3 ∷ []) $ use1 𝓛 (‵ (flft κ q) ⊛ (‵ (flft κ₁ z.0.1.1.0) ⊛ ‵ (flft κ₂ z.0.1.1.1.0) ⊛ ‵ ftrue)) (id⊢ 𝓤 _) $ split ! $ keep ! (2 ∷ 4 ∷ 0 ∷ 1 ∷ []) $
     -- [what the block owns; the `&` to the allocator; the token; the other tokens]
-    regoal ! (λ (us : List Val). prop (WpFn 𝓤 H C Λ fn us Post)) (λ j. are.0.0 j ++ (told j ++ (are.1.1.0.0 j ++ (marked j ++ [])))) refl $
+    regoal ! (λ (us : List Val). prop (WpFn 𝓤 H C Λ fn us Post)) (λ j. are.0.0 j ++ (begin_is j ++ (are.1.1.0.0 j ++ (marked j ++ [])))) refl $
     rewrite ! 0 (λ (u : A.Denot × Ptr × List (Place E)). ‵ (block_owns (R E) (g.dealloc_token u.0) u.1 u.2)) (λ j. (asked.2 j, asked.0 j, asked.1 j)) refl $
     in_a_block ! begin.ptr (λ p. block_owns (R E) (g.dealloc_token h) p (replicate n None)) (id⊢ 𝓤 (never 𝓤)) (λ b o e. fsplit ! $ flt_l ! (λ all_small. fsplit ! $
     let s = sz E in let al : ℕ = capped (align (elτ E)) in

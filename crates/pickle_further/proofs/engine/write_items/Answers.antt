@@ -4,7 +4,7 @@ use Rattle.pickle_further.proofs.engine.write_items.Goals as goal
 
 pub items-init : goal.items-init
 items-init g c = rw c.course_of-course.ensures (record {
-  told = tale_begins _ _ _;
+  in_tale = tale_begins _ _ _;
   size = c.requires.size;
   few = c.requires.few;
   small = c.requires.few;

@@ -23,18 +23,18 @@ returns-in_err-end-clause-err g c =
 pub returns-in_err-status-clause-err : goal.returns-in_err-status-clause-err
 returns-in_err-status-clause-err g c =
     let first = rw (c.new-machine.ensures, c.start.ensures) at c.in_ok-first.ensures.ok in
-    let told = rw c.begin.ensures at c.in_ok-end.ensures.ok in
-    err_is _ _ _ c.from_residual-in_err-status.ensures.1 (rw c.in_err-status.ensures.failed (kept_broken (manner c.args.detail c.args.holes.now) _ _ _ _ _ _ _ (first _) told c.in_err-status.ensures.text))
+    let wrote = rw c.begin.ensures at c.in_ok-end.ensures.ok in
+    err_is _ _ _ c.from_residual-in_err-status.ensures.1 (rw c.in_err-status.ensures.failed (kept_broken (manner c.args.detail c.args.holes.now) _ _ _ _ _ _ _ (first _) wrote c.in_err-status.ensures.text))
 
 pub returns-in_err-write_behind-clause-err : goal.returns-in_err-write_behind-clause-err
 returns-in_err-write_behind-clause-err g c =
     let first = rw (c.new-machine.ensures, c.start.ensures) at c.in_ok-first.ensures.ok in
-    let told = rw c.begin.ensures at c.in_ok-end.ensures.ok in
+    let wrote = rw c.begin.ensures at c.in_ok-end.ensures.ok in
     err_is _ _ _ c.from_residual-in_err-write_behind.ensures.1
-    (behind_cut (manner c.args.detail c.args.holes.now) _ _ _ _ _ _ _ _ _ _ (first _) told c.in_ok-status.ensures.text c.in_ok-loss.ensures.ok c.in_err-write_behind.ensures)
+    (behind_cut (manner c.args.detail c.args.holes.now) _ _ _ _ _ _ _ _ _ _ (first _) wrote c.in_ok-status.ensures.text c.in_ok-loss.ensures.ok c.in_err-write_behind.ensures)
 
 pub returns-clause-ok : goal.returns-clause-ok
 returns-clause-ok g c =
     let first = rw (c.new-machine.ensures, c.start.ensures) at c.in_ok-first.ensures.ok in
-    let told = rw c.begin.ensures at c.in_ok-end.ensures.ok in
-    rw c.kept_status.ensures (kept_done (manner c.args.detail c.args.holes.now) _ _ _ _ _ _ _ _ _ _ (first _) told c.in_ok-status.ensures.text c.in_ok-status.ensures.status c.in_ok-loss.ensures.ok c.in_ok-write_behind.ensures)
+    let wrote = rw c.begin.ensures at c.in_ok-end.ensures.ok in
+    rw c.kept_status.ensures (kept_done (manner c.args.detail c.args.holes.now) _ _ _ _ _ _ _ _ _ _ (first _) wrote c.in_ok-status.ensures.text c.in_ok-status.ensures.status c.in_ok-loss.ensures.ok c.in_ok-write_behind.ensures)

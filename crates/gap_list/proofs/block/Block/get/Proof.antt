@@ -63,14 +63,14 @@ get_spec 𝓤 𝓛 𝓜 𝓡 wired T A LT LA g d dd met md =
     let Post : Val → SProp 𝓤 = (walk_of 𝓛 f stays c).post z in
     let a = z.0.3 in let vss = z.0.4 in let κ : Lft = z.0.0.0 in let q : Share = z.0.1.0 in let κ₁ = z.0.0.1.0 in let κ₂ = z.0.0.1.1.0 in
     let rb = a.0.ref_ptr.0 in let ro = a.0.ref_ptr.1 in let k = a.0.now in let begin = a.1.0 in let i = a.1.1.0 in
-    let told = lowers.val_is begin vss.1.0 are.1.0 in let fits = are.1.1.0.1 in
+    let begin_is = lowers.val_is begin vss.1.0 are.1.0 in let fits = are.1.1.0.1 in
     let Asked : Type 0 = (begin.ptr ≡ k.at) × IsFilled k.slots i in
     qed 𝓛 ((raw (alive 𝓛 f.signature z.0.0 z.0.1) ⊛ ‵ (owns (types_at f.signature.params z.0.0) a vss)) ∷ (raw (fact 𝓤 (κ₁ ⊑ T.lives)) ⊛ raw (fact 𝓤 (κ₂ ⊑ A.lives)) ⊛ raw (fact 𝓤 Asked)) ∷ []) ∵
     move ! (1 ∷ []) $ split ! $ drop ! $ split ! $ drop ! $ heard ! Asked (λ asked. split ! $ move ! (1 ∷ []) $
     fsplit ! $ move ! (1 ∷ []) $ drop ! $ fsplit ! $ drop ! $ move ! (1 ∷ []) $ use1 𝓛 (‵ (flft κ q) ⊛ (‵ (flft κ₁ z.0.1.1.0) ⊛ ‵ (flft κ₂ z.0.1.1.1.0) ⊛ ‵ ftrue)) (id⊢ 𝓤 _) $ split ! $ move ! (2 ∷ 0 ∷ []) $
     use1 𝓛 (‵ (hidden_shr Bk κ k rb ro)) (id⊢ 𝓤 _) $
     -- [the `&`; the token; the other tokens]
-    regoal ! (λ (us : List Val). prop (WpFn 𝓤 H C Λ fn us Post)) (λ j. are.0.0 j ++ (told j ++ (are.1.1.0.0 j ++ []))) refl $
+    regoal ! (λ (us : List Val). prop (WpFn 𝓤 H C Λ fn us Post)) (λ j. are.0.0 j ++ (begin_is j ++ (are.1.1.0.0 j ++ []))) refl $
     enter ! C Λ fn (vptr rb ro ∷ word begin.ptr ∷ vint w64 i ∷ []) Post $
     alloc_all ! (λ l. pass_all ! refl ((tt, tt), (word-Good [] begin.ptr, ((tt, record { fits = fits }), tt))) $ let En : Env 𝓤 𝓛.H = env fn.locals l in
     unhide ! $ fsplit ! $ drop ! $ in_a_block ! k.at (λ p. block_lends (R E) p k.slots κ) (id⊢ 𝓤 (never 𝓤)) (λ b o e. fsplit ! $ flt_l ! (λ all_small. fsplit ! $

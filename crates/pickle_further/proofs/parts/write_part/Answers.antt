@@ -1,6 +1,6 @@
 use Rattle.pickle_further.proofs.Pieces.{stopped}
 use Rattle.pickle_further.proofs.Partly.{header_broken, tale_puts}
-use Rattle.pickle_further.proofs.parts.write_told.Goals as goal
+use Rattle.pickle_further.proofs.parts.write_part.Goals as goal
 
 pub returns-in_err-write_header : goal.returns-in_err-write_header
 returns-in_err-write_header g c =

@@ -1,4 +1,4 @@
--- The acts that the lines of `calls` tell: those of an item's event, with the operands under a map from numbers of objects to values.
+-- The acts that the lines of `calls` list: those of an item's event, with the operands under a map from numbers of objects to values.
 -- Source: own.
 use Rattle.std.specs.Prelude.{ℕ, zero, suc, ◌+◌, Bool, true, false, List, [], ◌∷◌, ◌++◌, map, take, drop, nat_lt, slice_get, if◌then◌else◌, Option, Some, None}
 use Rattle.std.specs.Option.{option_map_or}
@@ -22,19 +22,19 @@ use Rattle.pickle_show.specs.Event.{before_of, event_of}
 use Rattle.pickle_loader.specs.Environment.{Value, is_elsewhere, Line, Given, Act, Make, Find, Extension, Call, New, NewEx, Instance, SetState, Fill, Persist, NextBuffer, View, Method}
 use Rattle.pickle_loader.specs.Unpickler.{item}
 
--- ---- which acts are told
+-- ---- which acts are listed
 
 -- all but what the unpickler makes and fills itself, methods that run unseen, and views
-abbrev pub is_told : Act → Bool
-is_told (Make t items) = false
-is_told (Fill how target items) = is_elsewhere target
-is_told (View v) = false
-is_told Method = false
-is_told _ = true
+abbrev pub is_listed : Act → Bool
+is_listed (Make t items) = false
+is_listed (Fill how target items) = is_elsewhere target
+is_listed (View v) = false
+is_listed Method = false
+is_listed _ = true
 
-abbrev pub told_of : List Act → List Act
-told_of [] = []
-told_of (a ∷ acts) = if is_told a then a ∷ told_of acts else told_of acts
+abbrev pub listed_of : List Act → List Act
+listed_of [] = []
+listed_of (a ∷ acts) = if is_listed a then a ∷ listed_of acts else listed_of acts
 
 -- ---- the acts of an event
 
@@ -78,25 +78,25 @@ objects_in _ n = n
 
 -- from the state before the step, as its move is taken on it, to the one after it; where nothing is put in there is a line, and methods
 -- run unseen. A key without a value is not put in
-abbrev pub acts_told : (ℕ → Value) → ℕ → State → State → Option Event → List Act
-acts_told V proto s t None = []
-acts_told V proto s t (Some (event.Made id)) = option_map_or (λ (o : Object). making proto o.kind (map V o.parts)) (slice_get t.heap id) []
-acts_told V proto s t (Some (event.State value target)) = SetState (V target) (V value) ∷ []
-acts_told V proto s t (Some (event.Filled how n target)) = if nat_lt 0 n then Fill how (V target) (map V (take (objects_in how n) (taken s t))) ∷ [] else []
+abbrev pub acts_listed : (ℕ → Value) → ℕ → State → State → Option Event → List Act
+acts_listed V proto s t None = []
+acts_listed V proto s t (Some (event.Made id)) = option_map_or (λ (o : Object). making proto o.kind (map V o.parts)) (slice_get t.heap id) []
+acts_listed V proto s t (Some (event.State value target)) = SetState (V target) (V value) ∷ []
+acts_listed V proto s t (Some (event.Filled how n target)) = if nat_lt 0 n then Fill how (V target) (map V (take (objects_in how n) (taken s t))) ∷ [] else []
 
 -- ---- the acts of items
 
-abbrev pub told_on : (ℕ → Value) → ℕ → Option Operation → Option State → Option State → List Act
-told_on V proto (Some o) (Some s) (Some t) = acts_told V proto (fresh s) t (event_of (row_of o) (before_of (fresh s)) t)
-told_on V proto (Some o) (Some s) None = []
-told_on V proto (Some o) None t = []
-told_on V proto None s t = []
+abbrev pub listed_on : (ℕ → Value) → ℕ → Option Operation → Option State → Option State → List Act
+listed_on V proto (Some o) (Some s) (Some t) = acts_listed V proto (fresh s) t (event_of (row_of o) (before_of (fresh s)) t)
+listed_on V proto (Some o) (Some s) None = []
+listed_on V proto (Some o) None t = []
+listed_on V proto None s t = []
 
 -- those of item k, by the event that its line is of
-unfoldable pub told_at : (ℕ → Value) → Bool → List Operation → ℕ → List Act
-told_at V many ops k = told_on V (protocol_at ops k) (slice_get ops k) (run (start many) ops k) (run (start many) ops (suc k))
+unfoldable pub listed_at : (ℕ → Value) → Bool → List Operation → ℕ → List Act
+listed_at V many ops k = listed_on V (protocol_at ops k) (slice_get ops k) (run (start many) ops k) (run (start many) ops (suc k))
 
 -- those of the first n items
-unfoldable pub told : (ℕ → Value) → Bool → List Operation → ℕ → List Act
-told V many ops zero = []
-told V many ops (suc n) = told V many ops n ++ told_at V many ops n
+unfoldable pub listed : (ℕ → Value) → Bool → List Operation → ℕ → List Act
+listed V many ops zero = []
+listed V many ops (suc n) = listed V many ops n ++ listed_at V many ops n
