@@ -9,7 +9,7 @@ from typing import Callable, Dict, Iterator, List, NamedTuple, Optional, Tuple, 
 from .records import Brief, Briefs, End, Extension, Global, Name, Reach, Ref, Value
 from .texts import NUMBER, QUOTED, LineReader, LinesError, number_of, unquoted
 
-__all__ = ['Heading', 'LineKey', 'REACHES', 'before_headings', 'counts_in', 'headings_in', 'line_of', 'lowered', 'made_by', 'number_in', 'offset_of',
+__all__ = ['Heading', 'ItemKind', 'KindState', 'LineKey', 'NumberOfKind', 'REACHES', 'before_headings', 'counts_in', 'headings_in', 'kinds_in', 'line_of', 'lowered', 'made_by', 'number_in', 'offset_of',
            'persistent_lines', 'reach_of', 'reached_lines', 'storage_of', 'text_of', 'unnumbered', 'with_offset']
 
 # What is under these headings the strict reading does not reach. Each has the words of the second, and hardly any other line.
@@ -23,6 +23,14 @@ _BEGIN = re.compile(rf' *([0-9]+): (\w+){_NAMED}')
 _PERSISTENT = re.compile(r'^ *[0-9]+: persistent (.*)$', re.MULTILINE)
 # A persistent id as torch writes it, where nothing of it is cut.
 _STORAGE = re.compile(r"\('storage', global '([\w.]+)' '(\w+)', '([^'\\]*)', '[^'\\]*', int ([0-9]+)\) as #[0-9]+")
+# What is said of numpy's kinds of items: one that is made, the state of something, and a number of a kind.
+_KIND = re.compile(
+    r"^ *([0-9]+): ((?:call|new|inst) 'numpy' 'dtype' \((?:string )?(?:'([^'\\]*)'|(global 'numpy' '(?:record|void)'))?.* as #([0-9]+)"
+    r"|(?:call|new|inst) 'numpy\.dtypes' '(\w+)'.* as #([0-9]+)|call 'numpy\.(?:_?core)\.multiarray' 'scalar' \((?:#([0-9]+))?.*"
+    r"|state (.*) to #([0-9]+))$", re.MULTILINE)
+_WHOLE = r"int(?:-line)? '?(-?[0-9]+)'?"
+# Its version, the order of bytes, what it repeats, names and fields, size and place, flags, and of times their unit.
+_KIND_STATE = re.compile(rf"\({_WHOLE}, (?:string )?'[^'\\]', (none|#[0-9]+), (none|#[0-9]+), (none|#[0-9]+), {_WHOLE}, {_WHOLE}, {_WHOLE}(?:, #[0-9]+)?\)")
 # Most calls are made again and again.
 _IN_ROWS = frozenset({'call', 'new', 'inst'})
 # What may be the number of an object, beside texts.
@@ -333,6 +341,50 @@ def storage_of(line: str) -> Optional[ShownStorage]:
     """
     match = _STORAGE.fullmatch(line)
     return None if match is None else ShownStorage(match[1], match[2], match[3], int(match[4]))
+
+
+class ItemKind(NamedTuple):
+    """A kind of numpy's items is made: the number of the object, and its code; '' where that is not known."""
+
+    number: int
+    code: str
+
+
+class KindState(NamedTuple):
+    """Something is given a state: its number, whether the state is that of a kind of items, whether it has parts, and its flags."""
+
+    number: int
+    is_whole: bool
+    has_parts: bool
+    flags: int
+
+
+class NumberOfKind(NamedTuple):
+    """A number of a kind of items is made: the number of that kind, if it is one object of the pickle."""
+
+    kind: Optional[int]
+
+
+def kinds_in(text: str, start: int, end: int) -> Iterator[Tuple[int, str, Union[ItemKind, KindState, NumberOfKind]]]:
+    """What lines say of numpy's kinds of items and of states, each with its offset and its text.
+
+    >>> lines = "9: call 'numpy' 'dtype' ('O8', false, true) as #5\\n46: state (int 3, '|', none, none, none, int -1, int -1, int 63) to #5\\n"
+    >>> [what for _, _, what in kinds_in(lines, 0, len(lines))]
+    [ItemKind(number=5, code='O8'), KindState(number=5, is_whole=True, has_parts=False, flags=63)]
+    """
+    for match in _KIND.finditer(text, start, end):
+        offset, said, code, named, made, other, of_other, kind, state, given = match.groups()
+        what: Union[ItemKind, KindState, NumberOfKind]
+        if made is not None:
+            what = ItemKind(int(made), code or ('V' if named else ''))
+        elif of_other is not None:
+            what = ItemKind(int(of_other), 'O' if other == 'ObjectDType' else 'V')
+        elif given is None:
+            what = NumberOfKind(None if kind is None else int(kind))
+        else:
+            found = _KIND_STATE.fullmatch(state)
+            what = KindState(int(given), found is not None, found is not None and (found[2], found[3], found[4]) != ('none',) * 3, int(found[7]) if found else 0)
+        yield int(offset), said, what
 
 
 def offset_of(match: 're.Match[str]') -> int:

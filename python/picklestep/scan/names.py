@@ -15,8 +15,8 @@ class Names:
     A `*` does not go over a dot, since a pickle can reach from a module into what that has imported: `torch._utils.*` has
     `torch._utils._rebuild_tensor_v2` and not `torch._utils.sys.modules`.
 
-    Behind a name and a colon stand words for what may be done with what is imported: `call`, `state` (it is given a state) and `fill` (items
-    are put into it). Without a colon that may be anything, and with a colon alone nothing.
+    Behind a name and a colon stand words for what may be done with what is imported: `call`, `new` (NEWOBJ alone), `state` (it is given a
+    state) and `fill` (items are put into it). Without a colon that may be anything, and with a colon alone nothing.
 
     >>> names = Names(['collections.OrderedDict: call', 'torch.*Storage:  # raw numbers', 'os.path'])
     >>> [names.note(name) for name in ('collections.OrderedDict', 'torch.FloatStorage', 'torch.os.Storage')]
@@ -81,8 +81,8 @@ class Names:
 
 
 # What may be done with what is imported, by the first words of the program's lines.
-_WORDS = {'call': 'call', 'new': 'call', 'inst': 'call', 'state': 'state', 'append': 'fill', 'set': 'fill', 'add': 'fill'}
-_ENTRY = re.compile(r'([^:]+):((?: +(?:call|state|fill))*)')
+_WORDS = {'call': 'call', 'new': 'new', 'inst': 'call', 'state': 'state', 'append': 'fill', 'set': 'fill', 'add': 'fill'}
+_ENTRY = re.compile(r'([^:]+):((?: +(?:call|new|state|fill))*)')
 
 
 def _parts(line: str) -> Tuple[str, FrozenSet[str], str]:
@@ -91,7 +91,8 @@ def _parts(line: str) -> Tuple[str, FrozenSet[str], str]:
     found = _ENTRY.fullmatch(entry.strip())
     if found is None:
         return entry.strip(), frozenset(_WORDS.values()), note.strip()
-    return found[1], frozenset(found[2].split()), note.strip()
+    words = found[2].split()
+    return found[1], frozenset([*words, 'new'] if 'call' in words else words), note.strip()
 
 
 def _pattern(text: str) -> Pattern[str]:

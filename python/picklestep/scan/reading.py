@@ -20,7 +20,9 @@ from ..texts import IN_FORM, offset_of_item
 from .begins import is_dotted
 from .blobs import CHUNK, Blob, Budget, FileBlob, Spooled, spooled
 from .canonical.formed import content_of
+from .canonical.items import kinds_fit
 from .canonical.joblib import SIGN
+from .item_kinds import ItemKinds
 from .results import Call, Import, Pickle, Place
 
 __all__ = ['Asked', 'Enough', 'Summary', 'WAITING', 'calls_in_form', 'calls_words', 'is_plain_name', 'is_worked_out', 'shown_name', 'why_unread']
@@ -64,6 +66,9 @@ _MOST_NAMES = 4096
 _PLAIN = re.compile(r"'?[^\W\d]\w*(\.[^\W\d]\w*)*('? #[0-9]+)?")
 _WORKED_OUT = re.compile(r'^#| #[0-9]+$|^ext ')
 
+# What a state is counted under that no pickler of numpy gives.
+_ITEM_KIND = 'numpy.dtype'
+
 _LEGACY_TORCH = b'\x80\x02\x8a\x0al\xfc\x9cF\xf9 j\xa8P\x19.'
 
 
@@ -95,6 +100,13 @@ class Summary:
         self._begun = 0
         self._part = ''
         self._leads_nowhere = False
+        self._kinds = ItemKinds()
+        self.kinds_fit = False
+
+    @property
+    def may_have_odd_kinds(self) -> bool:
+        """Whether lines do not show if numpy's kinds of items fit (`kinds_fit`)."""
+        return self._kinds.unsure is not None
 
     @property
     def is_empty(self) -> bool:
@@ -129,6 +141,7 @@ class Summary:
     def _take_lines(self, text: str, start: int, end: int, tail: str) -> str:
         """Counts lines, and answers the last ones. A pickle may have a hundred thousand lines and few names."""
         again, left = self._again, self._budget.lines
+        self._kinds.read(text, start, end, self._part)
         for key, count, match in reached_lines(text, start, end, each=self._lines is not None):
             self._count += count
             left -= count
@@ -231,6 +244,10 @@ class Summary:
             if found.what != 'import':
                 first, count = done.get((found.what, name, part), (found, 0))
                 done[found.what, name, part] = first, count + found.count
+        odd = self._kinds.odd or (None if self.kinds_fit else self._kinds.unsure)
+        if odd is not None:
+            offset, text, part = odd
+            done.setdefault(('state', _ITEM_KIND, part), (_Found('state', _ITEM_KIND, self._place(offset), text, part, 1), 1))
         return Pickle(where, size, tuple(Import(first.name, count, first.offset, first.part) for first, count in imports.values()),
                       tuple(Call(first.what, first.name, count, first.offset, first.text, first.part) for first, count in done.values()),
                       self.end, tuple(self._lines or ()))
@@ -326,11 +343,13 @@ class Asked:
         text = self._in_process(words, budget, seconds) if calls is None or full else calls
         if text is None:
             self._ask_program(words, summary, budget)
-            return summary
-        try:
-            summary.take(text[at:at + CHUNK] for at in range(0, len(text), CHUNK))
-        except Enough as limit:
-            summary.trouble = f'{limit}: the rest of it is not looked at'
+        else:
+            try:
+                summary.take(text[at:at + CHUNK] for at in range(0, len(text), CHUNK))
+            except Enough as limit:
+                summary.trouble = f'{limit}: the rest of it is not looked at'
+        if summary.may_have_odd_kinds:
+            summary.kinds_fit = kinds_fit(self._blob, budget)
         return summary
 
     def offset_of_item(self, item: int, budget: Budget) -> Optional[int]:

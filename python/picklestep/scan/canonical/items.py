@@ -6,12 +6,13 @@ Sources: numpy/lib/format.py (descr), numpy/core/src/multiarray/descriptor.c (dt
 from __future__ import annotations
 
 import re
-from typing import Any, Tuple
+from typing import Any, Optional, Tuple
 
-from .forms import require, wrong
-from .pickles import Global, Made, OldText, PDict
+from ..blobs import Blob, Budget
+from .forms import NotCanonical, require, wrong
+from .pickles import Global, Made, OldText, PDict, read_pickle
 
-__all__ = ['Item', 'count_of_shape', 'item_of_description', 'item_of_pickled']
+__all__ = ['Item', 'count_of_shape', 'item_of_description', 'item_of_pickled', 'kinds_fit']
 
 _WRONG_FLAGS = 'flags of a numpy.dtype that do not fit its fields'
 # Bytes of an item, and whether it holds objects.
@@ -104,7 +105,9 @@ def _of_state(value: Any, depth: int) -> Item:
     require(depth < 20, 'items of items of items')
     if not isinstance(value, Made) or value.function != Global('numpy', 'dtype') or not isinstance(value.arguments, tuple):
         wrong('items that are no numpy.dtype')
-    code = value.arguments[0] if value.arguments else None
+    code, *others = value.arguments or (None,)
+    # (not aligned, and a copy: a state changes nothing of numpy's own one)
+    require(others == [False, True] and all(type(other) in (bool, int) for other in others), 'a numpy.dtype with other arguments')
     found = re.fullmatch(r'([biufcSUVmMO])([0-9]{1,9})', _as_text(code))
     require(found is not None, 'items of an unknown kind')
     assert found is not None
@@ -113,11 +116,11 @@ def _of_state(value: Any, depth: int) -> Item:
         wrong('a numpy.dtype with another state')
     require(type(state[0]) is int and (state[0], len(state)) in _STATES, 'a numpy.dtype whose state has another version')
     _, _, subarray, names, fields, size = state[:6]
+    require(kind == 'V' or names is None and subarray is None and fields is None, 'parts of items that have none')
     if kind == 'O':
         return 8, True
     if kind not in 'SUV':
-        is_plain = number in _SIZES[kind] and size in (-1, number) and names is None and subarray is None and fields is None
-        require(is_plain, 'items of an odd size')
+        require(number in _SIZES[kind] and size in (-1, number), 'items of an odd size')
         return number, False
     require(type(size) is int and 0 <= size < 2 ** 31, 'items of an odd size')
     if kind != 'V':
@@ -153,3 +156,43 @@ def _have_objects(names: Any, fields: Any, size: int, depth: int) -> bool:
         require(0 <= field[1] and field[1] + length <= size, 'a field that is not within its item')
         has_objects = has_objects or has
     return has_objects
+
+
+def kinds_fit(blob: Blob, budget: Optional[Budget] = None) -> bool:
+    """Whether in pickles in a row no kind of items has parts that are objects, and says that it holds none."""
+    at = 0
+    try:
+        while at < blob.size:
+            pickle = read_pickle(blob, at, None, budget)
+            if any(_may_hold_objects(kind) and not _says_so(kind.state) for kind in pickle.kinds):
+                return False
+            at = pickle.end
+    except NotCanonical:
+        return False
+    return True
+
+
+def _says_so(state: Any) -> bool:
+    return isinstance(state, tuple) and len(state) > 7 and type(state[7]) is int and state[7] & _HAS_OBJECT != 0
+
+
+def _may_hold_objects(value: Any, depth: int = 0) -> bool:
+    """Whether items may be objects or have some, as far as they are described as picklers do."""
+    if depth == 20 or not isinstance(value, Made) or value.function != Global('numpy', 'dtype') or not isinstance(value.arguments, tuple) or not value.arguments:
+        return True
+    code = value.arguments[0]
+    kind = 'V' if code in _RECORDS else _as_text(code)[:1]
+    if kind != 'V':
+        return kind not in _SIZES and kind not in ('S', 'U')
+    if not isinstance(value.state, tuple) or len(value.state) < 5:
+        return value.state is not None
+    subarray, _, fields = value.state[2:5]
+    if subarray is not None:
+        return not isinstance(subarray, tuple) or not subarray or _may_hold_objects(subarray[0], depth + 1)
+    if fields is None:
+        return False
+    return not isinstance(fields, PDict) or not fields.is_whole or any(
+        not isinstance(described, tuple) or not described or _may_hold_objects(described[0], depth + 1) for described in fields[1::2])
+
+
+_RECORDS = (Global('numpy', 'record'), Global('numpy', 'void'))

@@ -107,7 +107,8 @@ class Pickle:
     """A pickle, from its first byte to behind its STOP.
 
     `raw` are the ranges within it that are no opcodes, as offset and end; of these `inner` are pickles with a memo of their own. `counts`
-    is set where it takes things from the memo that stand there in the order in which they came: another memo gives it other things.
+    is set where it takes things from the memo that stand there in the order in which they came: another memo gives it other things. `kinds`
+    are numpy's kinds of items that it makes.
     """
 
     offset: int
@@ -118,6 +119,7 @@ class Pickle:
     inner: List['Pickle'] = field(default_factory=list)
     counts: bool = False
     value: Any = None
+    kinds: List['Made'] = field(default_factory=list)
 
 
 _MOST_DIGITS = 4000
@@ -416,6 +418,8 @@ class Reader:
         is_kept = isinstance(function, Global) and function.is_kept
         self._unfilled += is_kept and _is_wrapper(function)
         self._top.append(Made(function, arguments) if is_kept else _DATA)
+        if is_kept and not _is_wrapper(function):
+            self.pickle.kinds.append(self._top[-1])
 
     def newobj(self) -> None:
         arguments = self.pop()
@@ -437,9 +441,9 @@ class Reader:
     def build(self) -> None:
         state, target = self.pop(), self.peek()
         if isinstance(target, Made):
+            if target.state is not None:
+                self.fail("an object of joblib's class of arrays, or a kind of items, that gets a second state")
             if _is_wrapper(target.function):
-                if target.state is not None:
-                    self.fail("an object of joblib's class of arrays that gets a second state")
                 self._unfilled -= 1
             target.state = state
             if self.on_build is not None:
