@@ -31,8 +31,8 @@ pub enum Text {
 
 /// Writes a text of the pickle that the bytes are, or where `many` holds of several pickles that follow one another, and answers its
 /// status: 1 where an item is refused or the bytes have a fault, else 0. Where `loose` holds frames are not looked at. What is imported and
-/// called has a reading of its own and does not depend on `many` or `loose`; its status is 0 where the reading ends with the bytes, right behind a STOP, else 1. Nor does the form, whose status
-/// is 0 where the pickle is in it, else 1.
+/// called has a reading of its own and does not depend on `many` or `loose`; its status is 0 where the reading ends with the bytes, right
+/// behind a STOP, else 1. Nor does the form, whose status is 0 where the pickle is in it, else 1.
 /// `Stop::TooLarge` where there are more bytes than `LIMIT`: nothing was written then. `Stop::Memory` where memory runs out,
 /// `Stop::Write` where the sink fails: what was written then is a beginning of the text, and of a report nothing where memory ran out.
 /// The sink may still hold a part of what was written: the caller flushes it.
