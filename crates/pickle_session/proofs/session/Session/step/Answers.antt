@@ -6,4 +6,4 @@ use Rattle.pickle_session.proofs.session.Session.step.Goals as goal
 pub returns-then-eq-clause-answers : goal.returns-then-eq-clause-answers
 returns-then-eq-clause-answers g c =
     let memory : c.in-Err.refusal ≡ Memory = search rules in
-    step_lacks _ _ c.self.view_is (omega (arith, c.if-place-len.false, c.len.ensures.value)) (c.in-Err.ensures.refused.memory memory) (λ free. c.in-Err.ensures.free free memory)
+    rw c.in-Err.ensures.err (step_lacks _ _ c.self.view_is (omega (arith, c.if-place-len.false, c.len.ensures.value)) (c.in-Err.ensures.refused.memory memory) (λ free. c.in-Err.ensures.free free memory))
