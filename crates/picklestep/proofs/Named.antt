@@ -4,7 +4,7 @@ use Rattle.std.specs.Prelude.{Bool, IsTrue, false, IfSome, IfErr, IsErrAnd, opti
 use Rattle.std.specs.Str.Parse.{IsNumeral, digits_value, without_leading_plus}
 use Rattle.std.specs.Option.{unwrap_or}
 use Rattle.std.proofs.lemmas.Slice.Eq.{bytes_eq-Decides}
-use Rattle.clap.specs.Words.{App, HasMatchesOf, Row, Text, TriesOne, all_of, first_of, is_simple, one_of, kind_of, subcommand_of, subcommand_rows_of, takes}
+use Rattle.clap.specs.Words.{App, HasMatchesOf, Row, Text, TriesOne, all_of, first_of, is_simple, kind_of, subcommand_of, subcommand_rows_of, takes}
 use Rattle.clap.specs.declared.parser.matches.ArgMatches.{ArgMatches}
 use Rattle.pickle_holes.specs.declared.hole.Hole.{Hole}
 use Rattle.pickle_holes.specs.Text.{holes_of}
@@ -18,7 +18,7 @@ use Rattle.pickle_further.specs.declared.way.Pickles.{Pickles}
 use Rattle.pickle_further.specs.declared.way.Pickles.TheVariants as pickles
 use Rattle.pickle_show.specs.declared.naming.Detail.{Detail}
 use Rattle.pickle_show.specs.declared.naming.Detail.TheVariants as detail
-use Rattle.picklestep.specs.CommandLine.{Matches, FitsCalls, FitsMemo, GivesReading, HasCallsOptions, HasDetail, HasHoles, HasReading, IsCommand, IsMemory, IsWindow, NamesTask, most_records, program, skips_of}
+use Rattle.picklestep.specs.CommandLine.{Matches, FitsCalls, FitsMemo, GivesReading, HasCallsOptions, HasDetail, HasHoles, HasReading, IsMemory, IsWindow, NamesTask, most_records, program, skips_of}
 
 -- ---- a subcommand
 
@@ -39,31 +39,12 @@ same_rows : (matches : Matches) (name want : Text) (rows found : List Row) → m
 unfolding behind
 same_rows matches name want rows found p q = sym (ap behind q) ∙ ap behind p
 
-called : Matches → Text
-called None = []
-called (Some p) = p.0
-
-same_name : (matches : Matches) (name want : Text) (rows found : List Row) → matches ≡ Some (name, rows) → matches ≡ Some (want, found) → want ≡ name
-unfolding called
-same_name matches name want rows found p q = sym (ap called q) ∙ ap called p
-
 -- ---- why there is no task
-
-pub no_command : (matches : Matches) → matches ≡ None → NamesTask matches → ⊥
-no_command matches none t = let bad : None ≡ Some (t.name, t.rows) = sym none ∙ t.used in absurd cc
 
 pub no_file : (matches : Matches) (name : Text) (rows : List Row) → matches ≡ Some (name, rows) → None ≡ first_of (codes "FILE") rows → NamesTask matches → ⊥
 no_file matches name rows p none t =
     let bad : None ≡ Some t.file = none ∙ ap (first_of (codes "FILE")) (sym (same_rows matches name t.name rows t.rows p t.used)) ∙ t.file_is in
     absurd cc
-
-pub no_window : (matches : Matches) (name : Text) (rows : List Row) → matches ≡ Some (name, rows) → ((w : Option ℕ)
-    → IsWindow (one_of (codes "window") rows) w → ⊥) → NamesTask matches → ⊥
-no_window matches name rows p none t =
-    none t.window (subst (λ (r : List Row). IsWindow (one_of (codes "window") r) t.window) (same_rows matches name t.name rows t.rows p t.used) t.window_is)
-
-pub no_other : (matches : Matches) (name : Text) (rows : List Row) → matches ≡ Some (name, rows) → (IsCommand name → ⊥) → NamesTask matches → ⊥
-no_other matches name rows p none t = none (subst IsCommand (same_name matches name t.name rows t.rows p t.used) t.command)
 
 -- ---- a window
 
@@ -139,9 +120,6 @@ skips_are texts rows e = sym (ap (λ (o : Option (List Text)). unwrap_or o []) e
 
 pub no_skips : (rows : List Row) → None ≡ all_of (codes "skip") rows → skips_of rows ≡ []
 no_skips rows e = sym (ap (λ (o : Option (List Text)). unwrap_or o []) e)
-
-pub no_holes : (rows : List Row) (o : Option (List Hole)) (options : CallsOptions) → o ≡ holes_of (skips_of rows) → o ≡ None → HasCallsOptions rows options → ⊥
-no_holes rows o options e none h = let bad : ◌≡◌ {A = Option (List Hole)} None (Some options.holes) = sym none ∙ e ∙ h.holes_is in absurd cc
 
 -- ---- the options of `calls`
 
