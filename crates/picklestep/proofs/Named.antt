@@ -1,8 +1,9 @@
 -- What clap's matches name.
-use Rattle.std.proofs.Common.{◌≡◌, true, ℕ, ◌<◌, ◌≤◌, ◌^◌, List, [], ◌∷◌, Option, Some, None, Result, Ok, Err, refl, sym, ap, subst, ◌∙◌, arith, codes}
+use Rattle.std.proofs.Common.{◌≡◌, ◌≢◌, ◌⊎◌, inl, inr, bytes_eq, true, ℕ, ◌<◌, ◌≤◌, ◌^◌, List, [], Option, Some, None, Result, Ok, Err, refl, sym, ap, subst, ◌∙◌, arith, codes}
 use Rattle.std.specs.Prelude.{Bool, IsTrue, false, IfSome, IfErr, IsErrAnd, option_map}
 use Rattle.std.specs.Str.Parse.{IsNumeral, digits_value, without_leading_plus}
 use Rattle.std.specs.Option.{unwrap_or}
+use Rattle.std.proofs.lemmas.Slice.Eq.{bytes_eq-Decides}
 use Rattle.clap.specs.Words.{App, HasMatchesOf, Row, Text, TriesOne, all_of, first_of, is_simple, kind_of, subcommand_of, subcommand_rows_of, takes}
 use Rattle.clap.specs.declared.parser.matches.ArgMatches.{ArgMatches}
 use Rattle.pickle_holes.specs.declared.hole.Hole.{Hole}
@@ -10,12 +11,14 @@ use Rattle.pickle_holes.specs.Text.{holes_of}
 use Rattle.clap.specs.declared.error.Error.{Error}
 use Rattle.clap.specs.declared.error.kind.ErrorKind.TheVariants as kind
 use Rattle.picklestep.specs.declared.task.Task.{Task}
-use Rattle.picklestep.specs.declared.task.Task.TheVariants as task
 use Rattle.picklestep.specs.declared.task.CallsOptions.{CallsOptions}
 use Rattle.picklestep.specs.declared.task.Usage.{Usage}
 use Rattle.picklestep.specs.declared.task.Usage.TheVariants as usage
 use Rattle.pickle_further.specs.declared.way.Pickles.{Pickles}
-use Rattle.picklestep.specs.CommandLine.{Matches, GivesReading, HasReading, skips_of, HasCallsOptions, IsMemory, IsNamed, IsWindow, most_records, program}
+use Rattle.pickle_further.specs.declared.way.Pickles.TheVariants as pickles
+use Rattle.pickle_show.specs.declared.naming.Detail.{Detail}
+use Rattle.pickle_show.specs.declared.naming.Detail.TheVariants as detail
+use Rattle.picklestep.specs.CommandLine.{Matches, FitsCalls, FitsMemo, GivesReading, HasCallsOptions, HasDetail, HasHoles, HasReading, IsMemory, IsWindow, NamesTask, most_records, program, skips_of}
 
 -- ---- a subcommand
 
@@ -32,23 +35,16 @@ behind : Matches → List Row
 behind None = []
 behind (Some p) = p.1
 
-not_used : (matches : Matches) (name want : Text) (rows : List Row) (found : List Row) → matches ≡ Some (name, rows) → matches ≡ Some (want, found) → rows ≡ found
+same_rows : (matches : Matches) (name want : Text) (rows found : List Row) → matches ≡ Some (name, rows) → matches ≡ Some (want, found) → found ≡ rows
 unfolding behind
-not_used matches name want rows found p q = sym (ap behind p) ∙ ap behind q
+same_rows matches name want rows found p q = sym (ap behind q) ∙ ap behind p
 
--- without its file there is no task
-no_file : (matches : Matches) (name : Text) (rows found : List Row) (want file : Text) → matches ≡ Some (name, rows) → None ≡ first_of (codes "FILE") rows
-    → matches ≡ Some (want, found) → first_of (codes "FILE") found ≡ Some file → ⊥
-no_file matches name rows found want file p n q f =
-    let e : None ≡ Some file = n ∙ ap (first_of (codes "FILE")) (not_used matches name want rows found p q) ∙ f in
+-- ---- why there is no task
+
+pub no_file : (matches : Matches) (name : Text) (rows : List Row) → matches ≡ Some (name, rows) → None ≡ first_of (codes "FILE") rows → NamesTask matches → ⊥
+no_file matches name rows p none t =
+    let bad : None ≡ Some t.file = none ∙ ap (first_of (codes "FILE")) (sym (same_rows matches name t.name rows t.rows p t.used)) ∙ t.file_is in
     absurd cc
-
-pub no_task : (matches : Matches) (name : Text) (rows : List Row) (t : Task) → matches ≡ Some (name, rows) → None ≡ first_of (codes "FILE") rows → IsNamed matches t → ⊥
-no_task matches name rows (task.List input) p n u = no_file matches name rows u.rows _ _ p n u.used u.file_is
-no_task matches name rows (task.Objects input) p n u = no_file matches name rows u.rows _ _ p n u.used u.file_is
-no_task matches name rows (task.Calls input options) p n u = no_file matches name rows u.0.rows _ _ p n u.0.used u.0.file_is
-no_task matches name rows (task.Form input) p n u = no_file matches name rows u.rows _ _ p n u.used u.file_is
-no_task matches name rows (task.Debug input options) p n u = no_file matches name rows u.0.rows _ _ p n u.0.used u.0.file_is
 
 -- ---- a window
 
@@ -88,7 +84,8 @@ no_count o t n (Some m) e value out h =
     let same : m ≡ n = c.value ∙ sym value in
     out (subst (λ x. 1 ≤ x) same c.least) (subst (λ x. x ≤ most_records) same c.most)
 
-pub no_number : (o : Option Text) (t : Text) (w : Option ℕ) → o ≡ Some t → (IsNumeral 10 (without_leading_plus t) × (digits_value 10 (without_leading_plus t) < 2 ^ 64) → ⊥) → IsWindow o w → ⊥
+pub no_number : (o : Option Text) (t : Text) (w : Option ℕ) → o ≡ Some t
+    → (IsNumeral 10 (without_leading_plus t) × (digits_value 10 (without_leading_plus t) < 2 ^ 64) → ⊥) → IsWindow o w → ⊥
 no_number o t None e not h = window_at o t None e h
 no_number o t (Some m) e not h =
     let c = window_at o t (Some m) e h in
@@ -103,12 +100,14 @@ same_answer true false f g h k = let bad : false ≡ true = k (f refl) in absurd
 same_answer false true f g h k = let bad : false ≡ true = g (h refl) in absurd cc
 
 pub reads : (first : Bool) (memo : Option Text) (rows : List Row) (r : Option Pickles) → (IsTrue first → first_of (codes "first") rows ≡ Some (codes "true"))
-    → (first_of (codes "first") rows ≡ Some (codes "true") → IsTrue first) → memo ≡ first_of (codes "memo") rows → IfSome r (GivesReading first memo) → IfSome r (HasReading rows)
+    → (first_of (codes "first") rows ≡ Some (codes "true") → IsTrue first) → memo ≡ first_of (codes "memo") rows
+    → IfSome r (GivesReading first memo) → IfSome r (HasReading rows)
 reads first memo rows None is is_not e g = tt
 reads first memo rows (Some p) is is_not e g = record { first = first; first_is = is; all_is = is_not; gives = subst (λ m. GivesReading first m p) e g }
 
 pub reads_none : (first : Bool) (memo : Option Text) (rows : List Row) (p : Pickles) → (IsTrue first → first_of (codes "first") rows ≡ Some (codes "true"))
-    → (first_of (codes "first") rows ≡ Some (codes "true") → IsTrue first) → memo ≡ first_of (codes "memo") rows → ((q : Pickles) → GivesReading first memo q → ⊥)
+    → (first_of (codes "first") rows ≡ Some (codes "true") → IsTrue first) → memo ≡ first_of (codes "memo") rows → ((q : Pickles)
+    → GivesReading first memo q → ⊥)
     → HasReading rows p → ⊥
 reads_none first memo rows p is is_not e out h =
     let same : h.first ≡ first = same_answer h.first first h.first_is h.all_is is is_not in
@@ -122,25 +121,55 @@ skips_are texts rows e = sym (ap (λ (o : Option (List Text)). unwrap_or o []) e
 pub no_skips : (rows : List Row) → None ≡ all_of (codes "skip") rows → skips_of rows ≡ []
 no_skips rows e = sym (ap (λ (o : Option (List Text)). unwrap_or o []) e)
 
-pub no_holes : (rows : List Row) (o : Option (List Hole)) (options : CallsOptions) → o ≡ holes_of (skips_of rows) → o ≡ None → HasCallsOptions rows options → ⊥
-no_holes rows o options e none h = let bad : ◌≡◌ {A = Option (List Hole)} None (Some options.holes) = sym none ∙ e ∙ h.holes_is in absurd cc
+-- ---- the options of `calls`
 
--- ---- a task of `calls`
+is_or_not : (o : Option Text) (t : Text) → (o ≡ Some t) ⊎ (o ≢ Some t)
+is_or_not None t = inr (λ e. absurd cc)
+is_or_not (Some x) t = go (bytes_eq x t) refl
+  where
+    other : bytes_eq x t ≡ false → Some x ≡ Some t → ⊥
+    other e s =
+        let same : x ≡ t = cc in
+        let hit : bytes_eq x t ≡ true = (bytes_eq-Decides x t).1 same in
+        let bad : false ≡ true = sym e ∙ hit in
+        absurd cc
 
--- the first letter of the subcommand
-letter : Matches → ℕ
-letter None = 0
-letter (Some ([], rows)) = 0
-letter (Some (c ∷ more, rows)) = c
+    go : (b : Bool) → bytes_eq x t ≡ b → (Some x ≡ Some t) ⊎ (Some x ≢ Some t)
+    go true e = inl (ap Some ((bytes_eq-Decides x t).0 e))
+    go false e = inr (λ s. other e s)
+
+has_reading : (rows : List Row) → FitsMemo rows → (p : Pickles) × HasReading rows p
+has_reading rows fits = go (is_or_not (first_of (codes "first") rows) (codes "true")) fits
+  where
+    go : (first_of (codes "first") rows ≡ Some (codes "true")) ⊎ (first_of (codes "first") rows ≢ Some (codes "true")) → FitsMemo rows
+        → (p : Pickles) × HasReading rows p
+    go (inl given) (inl none) = (pickles.First, record { first = true; first_is = λ _. given; all_is = λ _. refl; gives = (refl, none) })
+    go (inl given) (inr kept) = absurd (kept.1 given)
+    go (inr out) (inl none) = (pickles.All, record { first = false; first_is = λ t. absurd cc; all_is = λ e. absurd (out e); gives = (refl, none) })
+    go (inr out) (inr kept) = (pickles.OneMemo, record { first = false; first_is = λ t. absurd cc; all_is = λ e. absurd (out e); gives = (refl, kept.0) })
+
+has_detail : (rows : List Row) → (d : Detail) × HasDetail rows d
+has_detail rows = go (is_or_not (first_of (codes "full") rows) (codes "true"))
+  where
+    go : (first_of (codes "full") rows ≡ Some (codes "true")) ⊎ (first_of (codes "full") rows ≢ Some (codes "true")) → (d : Detail) × HasDetail rows d
+    go (inl given) = (detail.Full, given)
+    go (inr out) = (detail.Cut, out)
+
+has_holes : (rows : List Row) (o : Option (List Hole)) → holes_of (skips_of rows) ≡ o → o ≢ None → (holes : List Hole) × HasHoles rows holes
+has_holes rows None is some = absurd (some refl)
+has_holes rows (Some holes) is some = (holes, is)
+
+fits_has : (rows : List Row) → FitsCalls rows → (o : CallsOptions) × HasCallsOptions rows o
+fits_has rows fits =
+    let p = has_reading rows fits.memo in
+    let d = has_detail rows in
+    let h = has_holes rows (holes_of (skips_of rows)) refl fits.skips in
+    (record { pickles = p.0; detail = d.0; holes = h.0 }, record { pickles_is = p.1; detail_is = d.1; holes_is = h.1 })
 
 -- without its options there is no task of `calls`
-pub no_reading : (matches : Matches) (rows : List Row) (t : Task) → matches ≡ Some (codes "calls", rows) → ((o : CallsOptions) → HasCallsOptions rows o → ⊥) → IsNamed matches t → ⊥
-unfolding letter
-no_reading matches rows (task.List input) e out u = let bad : 99 ≡ 108 = ap letter (sym e ∙ u.used) in omega (arith, bad)
-no_reading matches rows (task.Objects input) e out u = let bad : 99 ≡ 111 = ap letter (sym e ∙ u.used) in omega (arith, bad)
-no_reading matches rows (task.Calls input options) e out u = out options (subst (λ r. HasCallsOptions r options) (sym (not_used matches _ _ rows u.0.rows e u.0.used)) u.1)
-no_reading matches rows (task.Form input) e out u = let bad : 99 ≡ 102 = ap letter (sym e ∙ u.used) in omega (arith, bad)
-no_reading matches rows (task.Debug input options) e out u = let bad : 99 ≡ 100 = ap letter (sym e ∙ u.0.used) in omega (arith, bad)
+pub no_reading : (matches : Matches) (rows : List Row) → matches ≡ Some (codes "calls", rows) → ((o : CallsOptions) → HasCallsOptions rows o → ⊥)
+    → NamesTask matches → ⊥
+no_reading matches rows p none t = let has = fits_has rows (t.fits rows p) in none has.0 has.1
 
 -- ---- the matches of the program's words
 

@@ -1,6 +1,6 @@
 -- The command line, as clap's words say it, and the task that clap's matches of the words name.
 -- Source: own; what clap's words mean is said by clap's crate.
-use Rattle.std.specs.Prelude.{◌≡◌, ◌≢◌, ◌≤◌, Bool, IsTrue, ℕ, List, [], Option, None, Some, IfSome, option_map, true, false, pos, codes, ⊤}
+use Rattle.std.specs.Prelude.{◌≡◌, ◌≢◌, ◌⊎◌, ◌≤◌, Bool, IsTrue, ℕ, List, [], Option, None, Some, IfSome, option_map, true, false, pos, codes, ⊤}
 use Rattle.std.specs.Option.{unwrap_or}
 use Rattle.std.specs.String.{string_bytes}
 use Rattle.std.specs.Str.Parse.{IsNumeral, digits_value, without_leading_plus}
@@ -153,6 +153,37 @@ IsNamed matches (task.Objects input) = IsUsed (codes "objects") matches input
 IsNamed matches (task.Calls input options) = (u : IsUsed (codes "calls") matches input) × HasCallsOptions u.rows options
 IsNamed matches (task.Form input) = IsUsed (codes "form") matches input
 IsNamed matches (task.Debug input options) = (u : IsUsed (codes "debug") matches input) × HasOptions u.rows options
+
+-- ---- the matches that name a task
+
+-- `--memo` is left out, or has its word and no `--first` beside it
+abbrev pub FitsMemo : List Row → Type 0
+FitsMemo rows = (first_of (codes "memo") rows ≡ None)
+    ⊎ ((first_of (codes "memo") rows ≡ Some (codes "kept")) × (first_of (codes "first") rows ≢ Some (codes "true")))
+
+-- and the texts behind each `--skip` are holes in order
+pub record FitsCalls (rows : List Row) : Type 0 where
+  pub memo : FitsMemo rows
+  pub skips : holes_of (skips_of rows) ≢ None
+
+-- where the matches are those of `calls`, its options fit
+abbrev pub FitsOptions : Matches → Type 0
+FitsOptions matches = (rows : List Row) → matches ≡ Some (codes "calls", rows) → FitsCalls rows
+
+abbrev pub IsCommand : Text → Type 0
+IsCommand name = (name ≡ codes "list") ⊎ ((name ≡ codes "objects") ⊎ ((name ≡ codes "calls") ⊎ ((name ≡ codes "debug") ⊎ (name ≡ codes "form"))))
+
+-- one of the commands was used, with a FILE, a window that is none or within the bounds, and options of `calls` that fit
+pub record NamesTask (matches : Matches) : Type 0 where
+  pub name : Text
+  pub rows : List Row
+  pub used : matches ≡ Some (name, rows)
+  pub command : IsCommand name
+  pub file : Text
+  pub file_is : first_of (codes "FILE") rows ≡ Some file
+  pub window : Option ℕ
+  pub window_is : IsWindow (one_of (codes "window") rows) window
+  pub fits : FitsOptions matches
 
 -- a number of step records is within the bounds
 abbrev pub IsBounded : Task → Type 0

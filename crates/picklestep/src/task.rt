@@ -4,7 +4,7 @@ ghost use Rattle.std.specs.Prelude.{◌≡◌, ◌≤◌, IsTrue, ℕ, Option, S
 ghost use Rattle.std.specs.String.{string_bytes};
 ghost use Rattle.clap.specs.Words.{found_of, first_of, one_of, rows_of, subcommand_of, subcommand_rows_of, takes};
 ghost use Rattle.pickle_holes.specs.Text.{holes_of};
-ghost use Rattle.picklestep.specs.CommandLine.{program, most_records, GivesReading, HasReading, HasDetail, HasCallsOptions, skips_of, HasOptions, IsWindow, IsNamed, IsBounded, IsMemory};
+ghost use Rattle.picklestep.specs.CommandLine.{program, most_records, GivesReading, HasReading, HasDetail, HasCallsOptions, skips_of, HasOptions, IsWindow, IsNamed, FitsOptions, NamesTask, IsBounded, IsMemory};
 
 use crate::command_line::{MOST_RECORDS, command_line};
 use clap::error::ErrorKind;
@@ -130,7 +130,7 @@ fn bounded(count: usize) -> Option<Option<usize>>
 /// The options of a conversation; no answer where the window is none.
 fn options_of(alloc: Global, found: &ArgMatches<'_>) -> Result<Option<Options>, AllocError>
     ensures some { IfOk result (λ r. IfSome r (HasOptions (rows_of (found_of found.now)))) }
-    ensures none { result ≡ Ok None → (options : Options) → HasOptions (rows_of (found_of found.now)) options → ⊥ }
+    ensures none { result ≡ Ok None → (window : Option ℕ) → IsWindow (one_of (codes "window") (rows_of (found_of found.now))) window → ⊥ }
 {
     let save = owned(alloc, found.get_str("save"))?;
     match window_of(found) {
@@ -242,7 +242,7 @@ fn why_none(alloc: Global, matches: &ArgMatches<'_>) -> Result<String, AllocErro
 /// The task that matches name, if they name one.
 fn named(alloc: Global, matches: &ArgMatches<'_>) -> Result<Option<Task>, AllocError>
     ensures some { IfOk result (λ r. IfSome r (IsNamed (subcommand_rows_of matches.now))) }
-    ensures none { result ≡ Ok None → (task : Task) → IsNamed (subcommand_rows_of matches.now) task → ⊥ }
+    ensures none { result ≡ Ok None → NamesTask (subcommand_rows_of matches.now) → ⊥ }
 {
     let Some((name, found)) = matches.subcommand() else {
         return Ok(None);
@@ -313,9 +313,9 @@ pub fn task_of(alloc: Global, words: &[&str]) -> Result<Task, Usage>
     ensures named { IfOk result (IsNamed (subcommand_of program (map (λ w. w.now) words.now))) }
     ensures bounded { IfOk result IsBounded }
 
-    // Words that clap's definition takes, and whose matches name a task, are refused only where memory runs out.
-    ensures refuses { (task : Task) → takes program (map (λ w. w.now) words.now) ≡ true
-        → IsNamed (subcommand_of program (map (λ w. w.now) words.now)) task → IfErr result IsMemory }
+    // Words that clap's definition takes are refused only where the options of `calls` do not fit, or memory runs out.
+    ensures refuses { takes program (map (λ w. w.now) words.now) ≡ true → FitsOptions (subcommand_of program (map (λ w. w.now) words.now))
+        → IfErr result IsMemory }
 {
     let mut command = command_line(alloc)?;
     let matches = command.try_get_matches_from_mut(words)?;

@@ -1,12 +1,12 @@
 use Rattle.std.proofs.Common.{rules, ◌≡◌, sym, ◌∙◌, ap, Some, Ok, codes}
 use Rattle.clap.proofs.WalkLemmas.{first_value-rows}
 use Rattle.clap.specs.Words.{Text, found_of, rows_of}
-use Rattle.picklestep.proofs.Named.{used_is, no_task, no_reading}
+use Rattle.picklestep.proofs.Named.{used_is, no_file, no_reading}
 use Rattle.picklestep.proofs.task.named.Goals as goal
 
 pub returns-in_default-get_str-clause-none : goal.returns-in_default-get_str-clause-none
 returns-in_default-get_str-clause-none c =
-    λ is task. no_task _ _ _ task (used_is _ _ _ _ _ c.in-Some.ensures.name c.in-Some.ensures.rows) (c.in_default-get_str.ensures ∙ first_value-rows (found_of c.in-Some.found.now) (codes "FILE"))
+    λ is. no_file _ _ _ (used_is _ _ _ _ _ c.in-Some.ensures.name c.in-Some.ensures.rows) (c.in_default-get_str.ensures ∙ first_value-rows (found_of c.in-Some.found.now) (codes "FILE"))
 
 pub returns-in_ok-file-clause-some : goal.returns-in_ok-file-clause-some
 returns-in_ok-file-clause-some c =
@@ -38,7 +38,7 @@ pub returns-in_default-2-clause-none : goal.returns-in_default-2-clause-none
 returns-in_default-2-clause-none c =
     let name : c.in-Some.name.now ≡ codes "calls" = search rules in
     let rows = rows_of (found_of c.in-Some.found.now) in
-    λ is task. no_reading _ rows task (used_is _ _ _ _ _ c.in-Some.ensures.name c.in-Some.ensures.rows ∙ ap (λ (n : Text). Some (n, rows)) name) (c.in_ok-options.ensures.none (ap Ok c.in_default-2.is))
+    λ is. no_reading _ rows (used_is _ _ _ _ _ c.in-Some.ensures.name c.in-Some.ensures.rows ∙ ap (λ (n : Text). Some (n, rows)) name) (c.in_ok-options.ensures.none (ap Ok c.in_default-2.is))
 
 pub returns-in_ok-file-3-clause-some : goal.returns-in_ok-file-3-clause-some
 returns-in_ok-file-3-clause-some c =

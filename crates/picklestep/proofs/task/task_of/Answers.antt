@@ -1,14 +1,15 @@
 use Rattle.std.proofs.Common.{◌≡◌, Ok, ap, map, subst, sym}
 use Rattle.std.specs.Prelude.{IfSome}
 use Rattle.clap.specs.Words.{app_of, subcommand_rows_of}
-use Rattle.picklestep.specs.CommandLine.{IsNamed, program}
+use Rattle.picklestep.specs.CommandLine.{IsNamed, NamesTask, program}
 use Rattle.picklestep.proofs.Named.{matched, refused_memory, taken_by}
+use Rattle.picklestep.proofs.Taken.{taken_name}
 use Rattle.picklestep.proofs.task.task_of.Goals as goal
 
 pub returns-in_err-matches-clause-refuses : goal.returns-in_err-matches-clause-refuses
 returns-in_err-matches-clause-refuses c =
     let same : app_of c.in_ok-command.command ≡ program = c.in_ok-command.ensures in
-    λ task taken named. refused_memory c.from_residual-in_err-matches.result _ c.from_residual-in_err-matches.ensures.1
+    λ taken fits. refused_memory c.from_residual-in_err-matches.result _ c.from_residual-in_err-matches.ensures.1
     (c.in_err-matches.ensures.passes (taken_by (app_of c.in_ok-command.command) program (map (λ w. w.now) c.args.words.now) same taken))
 
 pub returns-in-Some-clause-named : goal.returns-in-Some-clause-named
@@ -18,5 +19,5 @@ returns-in-Some-clause-named c =
 
 pub returns-clause-refuses : goal.returns-clause-refuses
 returns-clause-refuses c =
-    λ task taken named. absurd (c.in_ok-task.ensures.none (ap Ok c.in-None.is) task
-    (subst (λ found. IsNamed found task) (sym (matched _ _ _ c.in_ok-command.ensures c.in_ok-matches.ensures.ok.2)) named))
+    λ taken fits. absurd (c.in_ok-task.ensures.none (ap Ok c.in-None.is)
+    (subst NamesTask (sym (matched _ _ _ c.in_ok-command.ensures c.in_ok-matches.ensures.ok.2)) (taken_name (map (λ w. w.now) c.args.words.now) taken fits)))
