@@ -198,7 +198,7 @@ class Maker:
         """The library with what a C compiler needs of it. It names no C library: what it calls of one, the process has."""
         for part in PARTS:
             (to / part).parent.mkdir(parents=True, exist_ok=True)
-        # (A section for each function would be a fifth of the archive: relocations and headers. Nearly all of them are needed.)
+        # (With a section for each function the archive would be a fifth larger, and a program that links one function 110 KB smaller.)
         objects = [self.compile(self.library, target, '-fPIC', '-fno-function-sections', '-fno-data-sections'),
                    self.compile_c(target, 'limited', *self.headers(target), '-fPIC', '-ffunction-sections')]
         script = self.folder / f'{target}.exports'
