@@ -65,7 +65,7 @@ AT_ONCE = 4
 # (a static program of Debian's glibc or musl needs no other file: it names neither a loader nor a library)
 NEEDS_OTHERS = ("INTERP", "NEEDED")
 LIMITS = (8, 16, 32, 64)  # MiB
-MOST_BYTES = 8 << 20
+MOST_BYTES = 8_000_000
 
 
 class Answer(NamedTuple):

@@ -27,10 +27,8 @@ MOST_BYTES = 1 << 16
 _MOST_MEMORY = 16 << 20
 # So much of a limit of memory the program needs for itself.
 _OF_PROGRAM = 8 << 20
-# Most texts have room in so much: a text that is a few times as long as its input. (The library clears the room first.)
+# Most texts have room in so much.
 _ROOM = 1 << 16
-_LEAST_ROOM = 1 << 12
-_TIMES = 3
 
 _DONE, _NO_ROOM = 0, 3
 
@@ -66,14 +64,12 @@ class _Library:
         """The text, where it can be had in so much memory."""
         function = self._functions[asked.function]
         given: List[Any] = [*asked.options]
-        room = _LEAST_ROOM
         for content, size in asked.inputs:
             given += _aligned(content, size), len(content) // size
-            room += _TIMES * len(content)
         out: Any = _room.out
         written = _room.written
         self._limit(memory)
-        answer = function(*given, out, min(room, _ROOM), written)
+        answer = function(*given, out, _ROOM, written)
         if answer == _NO_ROOM and written.size <= memory:
             out = ctypes.create_string_buffer(written.size)
             answer = function(*given, out, len(out), written)

@@ -9,7 +9,7 @@ ghost use Rattle.picklestep_library.specs.Asked.{is_many, is_loose, pickles_of, 
 ghost use Rattle.picklestep_library.specs.Answer.{took, IsTextAfter, Fills, FillsIn, FillsOf};
 
 use crate::asked;
-use crate::fill::{NO_TASK, Written, number_of, put};
+use crate::fill::{NO_TASK, ROOM, Written, number_of, put};
 use crate::talk::{answers_to, open};
 use pickle_doc::LIMIT;
 use pickle_io::{Buffered, Sink, ToWrite};
@@ -22,7 +22,7 @@ fn text_of<P: Past>(alloc: Global, text: Text, session: &Session<P>) -> Result<(
     ensures { IfOk result (λ r. CompletesText text session.now.session.document.many session.now.session.document.loose
         (document_bytes session.now.session.document) (took []) (took r.0.items) r.1) }
 {
-    let mut page = Buffered::new(alloc, ToWrite::new(Vec::new(alloc)))?;
+    let mut page = Buffered::with_room(alloc, ToWrite::new(Vec::new(alloc)), ROOM)?;
     let status = write_session_text(alloc, text, session, &mut page)?;
     page.flush()?;
     Ok((page.into_inner().into_inner(), status))

@@ -17,6 +17,9 @@ const NO_ROOM: u8 = 3;
 /// The options, or the holes, are none of the function.
 pub const NO_TASK: u8 = 4;
 
+/// The room for what a text is gathered in on its way. It is cleared first: where the input is small, more would take a good part of the time.
+pub const ROOM: usize = 8_192;
+
 /// How long a text is, and its status, which is that of the program: 1 where an opcode or a line is refused, the bytes have a fault, or lines
 /// of `calls` end in `unsure:` or `kept:`, else 0.
 #[repr(C)]

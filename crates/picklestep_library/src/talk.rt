@@ -9,7 +9,7 @@ ghost use Rattle.picklestep_library.specs.Asked.{is_many, is_loose};
 ghost use Rattle.picklestep_library.specs.Answer.{took, IsTalkOf, Fills, FillsIn};
 
 use crate::asked;
-use crate::fill::{NO_TASK, Written, number_of, put};
+use crate::fill::{NO_TASK, ROOM, Written, number_of, put};
 use pickle_doc::LIMIT;
 use pickle_io::{Buffered, FromRead, Sink, Source, ToWrite};
 use pickle_script::{Stop, converse};
@@ -24,7 +24,7 @@ fn answers<P: Past, S: Source>(
 ) -> Result<(Vec<u8>, u8), Stop>
     ensures { IfOk result (λ r. Finishes session.old session.new r.1 (S.remaining source.old) (S.remaining source.new) (took []) (took r.0.items)) }
 {
-    let mut page = Buffered::new(alloc, ToWrite::new(Vec::new(alloc)))?;
+    let mut page = Buffered::with_room(alloc, ToWrite::new(Vec::new(alloc)), ROOM)?;
     let status = converse(alloc, session, source, &mut page)?;
     page.flush()?;
     Ok((page.into_inner().into_inner(), status))

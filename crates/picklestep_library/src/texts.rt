@@ -9,7 +9,7 @@ ghost use Rattle.picklestep_library.specs.Asked.{is_many, is_loose, detail_of, s
 ghost use Rattle.picklestep_library.specs.Answer.{IsTextOf, IsCallsOf, Fills, FillsIn, FillsOf};
 
 use crate::asked::{self, GivenHole};
-use crate::fill::{NO_TASK, Written, number_of, put};
+use crate::fill::{NO_TASK, ROOM, Written, number_of, put};
 use pickle_doc::LIMIT;
 use pickle_holes::Holes;
 use pickle_io::{Buffered, Page, Sink, ToWrite};
@@ -30,7 +30,7 @@ fn text_of(
     if bytes.len() > LIMIT {
         return Err(Stop::TooLarge);
     }
-    let mut page = Buffered::new(alloc, ToWrite::new(Vec::new(alloc)))?;
+    let mut page = Buffered::with_room(alloc, ToWrite::new(Vec::new(alloc)), ROOM)?;
     let status = write_text(alloc, text, many, loose, bytes, &mut page)?;
     page.flush()?;
     Ok((page.into_inner().into_inner(), status))
@@ -119,7 +119,7 @@ fn calls_of(
     ensures { IfOk result (λ r. IsCallsOf detail (holes_of given.now) pickles bytes.now r.0.items r.1) }
 {
     let holes = asked::holes_of(alloc, given)?;
-    let mut page = Buffered::new(alloc, ToWrite::new(Vec::new(alloc)))?;
+    let mut page = Buffered::with_room(alloc, ToWrite::new(Vec::new(alloc)), ROOM)?;
     let status = write_left(alloc, pickles, detail, &holes, bytes, &mut page)?;
     page.flush()?;
     Ok((page.into_inner().into_inner(), status))

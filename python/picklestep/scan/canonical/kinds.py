@@ -20,7 +20,11 @@ _PACKED_TARS = frozenset(each.tar_ending for each in PACKED if each.tar_ending)
 _PACKED_ENDINGS = [*_PACKED_TARS, *(ending for each in PACKED for ending in (*each.endings, *each.other_endings))]
 _PACKED_ENDING = re.compile(rf'\.({"|".join(_PACKED_ENDINGS)})$', re.IGNORECASE)
 _BY_MORE = tuple((each, each.takes) for each in CONTAINERS if each.takes is not None)
-_STREAMS = tuple((each, each.stream.takes) for each in PACKED if each.stream is not None and each.stream.takes is not None)
+_STREAMS = tuple((each, each.stream, each.stream.takes) for each in PACKED if each.stream is not None and each.stream.takes is not None)
+# Which of them a first byte may begin: most begin none. Then without those that only unpacking shows.
+_BY_FIRST = tuple(tuple((each, takes) for each, stream, takes in _STREAMS if first in stream.firsts) for first in range(256))
+_SURE_BY_FIRST = tuple(tuple((each, takes) for each, stream, takes in _STREAMS if first in stream.firsts and not stream.is_weak)
+                       for first in range(256))
 _BEGUN = tuple(each for each in CONTAINERS if each.begun)
 _BEGINNINGS = tuple(each.begun for each in _BEGUN)
 
@@ -38,9 +42,8 @@ def kinds_of(blob: Blob, head: bytes, tries: bool = True) -> List[Container]:
     unread = kind_of_file(blob, head) if tries else kind_of_short(head)
     if unread is not None:
         kinds.append(named(unread))
-    start = head[:HEAD]
-    for each, takes_stream in _STREAMS if tries else _NOT_WEAK:
-        if takes_stream(blob, start):
+    for each, takes_stream in (_BY_FIRST if tries else _SURE_BY_FIRST)[head[0]] if head else ():
+        if takes_stream(blob, head[:HEAD]):
             kinds.append(each)
             break
     store = store_of(head)
@@ -54,9 +57,6 @@ def _is_by_sign(kind: Container) -> bool:
 
 def _is_weak(kind: Container) -> bool:
     return kind.stream is not None and kind.stream.is_weak
-
-
-_NOT_WEAK = tuple((each, takes) for each, takes in _STREAMS if not _is_weak(each))
 
 
 def begun_form(head: bytes) -> Optional[Container]:

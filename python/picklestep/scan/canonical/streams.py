@@ -11,7 +11,7 @@ import lzma
 import re
 import zlib
 from dataclasses import dataclass
-from typing import Callable, Optional
+from typing import Callable, FrozenSet, Optional
 
 from ..begins import HEAD
 from ..blobs import Blob
@@ -27,8 +27,10 @@ _FIRST_PART = 1 << 12
 _DICTIONARY = 1 << 20
 _MOST_STREAMS = 4096
 _LZMA_HEADER = 13
-# The first bytes of what liblzma takes: properties with lc + lp of at most 4, or that of lzip. (XZ has a kind of its own.)
+# The first bytes of what liblzma takes: properties with lc + lp of at most 4 (zeros too), or that of lzip. (XZ has a kind of its own.)
 _BEGINS_LZMA = frozenset(byte for byte in range(225) if byte % 9 + byte // 9 % 5 <= 4) | {0x4C}
+# That of zlib: the method, in its lower half.
+_BEGINS_ZLIB = frozenset(byte for byte in range(256) if byte & 15 == 8)
 # Names in a gzip header are Latin-1 without control characters.
 _NAME = re.compile(rb'[\x20-\x7e\xa0-\xff]{1,255}\0')
 _BZ2 = re.compile(rb'BZh[1-9](1AY&SY|\x17rE8P\x90)')
@@ -51,8 +53,9 @@ class Stream:
     tells_size: Optional[Callable[[Blob], int]] = None
     # Whether several may follow one another in a file.
     has_several: bool = True
-    # What some reader takes for it, where that is not what begins so; it is tried.
+    # What some reader takes for it, where that is not what begins so; it is tried where one of these bytes is the first.
     takes: Optional[Callable[[Blob, bytes], bool]] = None
+    firsts: FrozenSet[int] = frozenset()
     # Whether two or three bytes are all that shows it, so that it is none where nothing is unpacked; and whether any bytes may be one, so that
     # `takes` has unpacked some.
     is_weak: bool = False
@@ -190,10 +193,12 @@ def _size_of_lzma(packed: Blob) -> int:
     return int.from_bytes(packed.read(5, 8), 'little')
 
 
-BZ2 = Stream(bz2.BZ2Decompressor, _bz2, takes=lambda blob, head: _BZ2.match(head) is not None, behind_few=rb'BZh[1-9](?:1AY|\x17rE)')
-GZIP = Stream(inflate_gzip, _gzip, takes=lambda blob, head: head[:3] == b'\x1f\x8b\x08', behind_few=rb'\x1f\x8b\x08')
-XZ = Stream(unpack_xz, _xz, takes=lambda blob, head: head[:6] == b'\xfd7zXZ\0', behind_few=rb'\xfd7zXZ\0')
-LZMA = Stream(unpack_lzma, _lzma, tells_size=_size_of_lzma, has_several=False, takes=lambda blob, head: _is_lzma(blob), is_weak=True, is_any=True)
-ZLIB = Stream(inflate_zlib, _zlib, takes=lambda blob, head: _is_zlib(head), is_weak=True, behind_few=rb'\x78[\x01\x5e\x9c\xda]')
+BZ2 = Stream(bz2.BZ2Decompressor, _bz2, takes=lambda blob, head: _BZ2.match(head) is not None, firsts=frozenset(b'B'),
+             behind_few=rb'BZh[1-9](?:1AY|\x17rE)')
+GZIP = Stream(inflate_gzip, _gzip, takes=lambda blob, head: head[:3] == b'\x1f\x8b\x08', firsts=frozenset(b'\x1f'), behind_few=rb'\x1f\x8b\x08')
+XZ = Stream(unpack_xz, _xz, takes=lambda blob, head: head[:6] == b'\xfd7zXZ\0', firsts=frozenset(b'\xfd'), behind_few=rb'\xfd7zXZ\0')
+LZMA = Stream(unpack_lzma, _lzma, tells_size=_size_of_lzma, has_several=False, takes=lambda blob, head: _is_lzma(blob), firsts=_BEGINS_LZMA,
+              is_weak=True, is_any=True)
+ZLIB = Stream(inflate_zlib, _zlib, takes=lambda blob, head: _is_zlib(head), firsts=_BEGINS_ZLIB, is_weak=True, behind_few=rb'\x78[\x01\x5e\x9c\xda]')
 ZSTD = Stream(Zstd, _zstd, behind_few=rb'\x28\xb5\x2f\xfd')
 ZFILE = Stream(inflate_zlib, _zfile, _start_of_zfile, _size_of_zfile, is_weak=True)
