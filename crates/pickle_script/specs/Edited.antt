@@ -8,7 +8,11 @@ use Rattle.pickle_script.specs.declared.stop.Stop.TheVariants as stop
 use Rattle.pickle_script.specs.declared.texts.Text.{Text}
 use Rattle.pickle_script.specs.Output.{AnswersText}
 
--- the text of the document's bytes, in its mode; or there was no memory for these bytes, and nothing was written
+-- the text of the document's bytes, in its mode
+abbrev pub AnswersDocument : Text → Contents → {S : Type 0} → (S → Told) → S → S → Result ℕ Stop → Type 0
+AnswersDocument text d told old new answer = AnswersText text d.many d.loose (document_bytes d) told old new answer
+
+-- the same; or there was no memory for these bytes, and nothing was written
 abbrev pub AnswersSession : Text → Contents → {S : Type 0} → (S → Told) → S → S → Result ℕ Stop → Type 0
 AnswersSession text d told old new answer =
-    ((answer ≡ Err stop.Memory) × (new ≡ old)) ⊎ AnswersText text d.many d.loose (document_bytes d) told old new answer
+    ((answer ≡ Err stop.Memory) × (new ≡ old)) ⊎ AnswersDocument text d told old new answer
