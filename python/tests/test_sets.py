@@ -13,6 +13,7 @@ from typing import Dict, Tuple
 from picklestep.scan import Judge, look
 from picklestep.scan.allow import SETS, read_names
 from picklestep.scan.known import known_names
+from evasions import NO_PARTS, kind, long
 from real_files import KEPT, MODULES
 from scan_support import ScanCase, python_with
 
@@ -46,6 +47,38 @@ class Names(unittest.TestCase):
 
     def test_each_set_is_tried(self) -> None:
         self.assertEqual({word for words in [*NEEDED.values(), *BY_NAMES.values()] for word in words}, set(SETS))
+
+
+class Kinds(ScanCase):
+    """What a pickle says of numpy's kinds of items, which numpy believes."""
+
+    def test_states_that_no_pickler_gives(self) -> None:
+        objects = kind(b'O8', long(b'|') + NO_PARTS + b'?')
+        scalar = b'cnumpy.core.multiarray\nscalar\n'
+
+        def parts(of: bytes, flags: bytes) -> bytes:
+            return kind(b'V8', long(b'|') + b'N' + long(b'a') + b'\x85}' + long(b'a') + of + b'K\0\x86sK\x08K\1K' + flags)
+
+        raw = kind(b'i8', long(b'<') + NO_PARTS + b'\0')
+        for name, content, is_marked in (
+                ('objects as raw bytes', kind(b'O8', long(b'|') + NO_PARTS + b'\0'), True),
+                ('raw bytes as objects', kind(b'V8', long(b'|') + NO_PARTS + b'?'), True),
+                ('parts that are objects', scalar + parts(objects, b'\0') + b'C\x08AAAAAAAA\x86R', True), ('parts of raw bytes', parts(raw, b'\x1b'), True),
+                ('an object as a number', scalar + objects + b'N\x86R', True), ('a number of an unknown kind', scalar + b'NN\x86R', True),
+                ('parts of a text', kind(b'S8', long(b'|') + raw + b'K\1\x85\x86NNK\x08K\1K\0'), True),
+                ('a state of something else', b'cnumpy\ndtype\ncnumpy\nint64\n)\x81' + raw[raw.index(b'('):], True),
+                ('objects', objects, False), ('numbers', scalar + raw + b'C\x08AAAAAAAA\x86R', False), ('parts', parts(raw, b'\x10'), False),
+                ('parts with objects', parts(objects, b'\x1b'), False), ('objects, and parts without', objects + parts(raw, b'\x10') + b'\x86', False)):
+            with self.subTest(name):
+                looks = list(Judge(read_names(['numpy', 'plain'])).looks(look(str(self.file('model.pkl', b'\x80\3' + content + b'.')))))
+                self.assertEqual(any('numpy.dtype' in line for each in looks for line in each.lines), is_marked, looks)
+
+    def test_arrays_are_not_called(self) -> None:
+        judge = Judge(read_names(['numpy', 'plain']))
+        for content, is_marked in ((b'cnumpy\nndarray\n)\x81', True), (b'cnumpy.ma\nMaskedArray\nN\x85R', True), (b'cnumpy\npoly1d\n)\x81', False),
+                                   (b'cnumpy\npoly1d\n)R', True), (b'cnumpy\nndarray\n', False)):
+            looks = list(judge.looks(look(str(self.file('model.pkl', b'\x80\3' + content + b'.')))))
+            self.assertEqual(bool(looks), is_marked, content)
 
 
 class RealFiles(ScanCase):
