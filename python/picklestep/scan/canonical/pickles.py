@@ -88,6 +88,8 @@ class _Opaque:
 
 
 _DATA = _Opaque()
+# What a call made that was given a kind of items: it may be that itself, as of `numpy.dtype(kind)`.
+_MAY_BE_KIND = _Opaque()
 # What the memo has where there is nothing.
 _NOTHING = _Opaque()
 
@@ -128,6 +130,18 @@ _STOP = 0x2E
 _BINGET, _BINPUT, _MEMOIZE, _BININT1, _BINFLOAT, _SHORT_BINUNICODE = 0x68, 0x71, 0x94, 0x4B, 0x47, 0x8C
 
 Hook = Callable[['Reader', Made], None]
+
+
+def _has_kind(values: Any, depth: int = 0) -> bool:
+    """Whether a kind of items is among arguments, or in a container among them."""
+    if isinstance(values, Made):
+        return not _is_wrapper(values.function)
+    return depth < 3 and isinstance(values, (tuple, PList)) and any(_has_kind(value, depth + 1) for value in values)
+
+
+def _may_be_of_kind(state: Any) -> bool:
+    """Whether numpy.dtype takes such a state: a version, an order of bytes, and so on."""
+    return isinstance(state, tuple) and 5 <= len(state) <= 9 and type(state[0]) is int and not isinstance(state[1], (tuple, Global))
 
 
 def _is_wrapper(value: Any) -> bool:
@@ -417,7 +431,7 @@ class Reader:
     def called(self, function: Any, arguments: Any) -> None:
         is_kept = isinstance(function, Global) and function.is_kept
         self._unfilled += is_kept and _is_wrapper(function)
-        self._top.append(Made(function, arguments) if is_kept else _DATA)
+        self._top.append(Made(function, arguments) if is_kept else _MAY_BE_KIND if _has_kind(arguments) else _DATA)
         if is_kept and not _is_wrapper(function):
             self.pickle.kinds.append(self._top[-1])
 
@@ -440,7 +454,7 @@ class Reader:
 
     def build(self) -> None:
         state, target = self.pop(), self.peek()
-        if isinstance(target, Made):
+        if isinstance(target, Made) and not _has_kind(target.arguments):
             if target.state is not None:
                 self.fail("an object of joblib's class of arrays, or a kind of items, that gets a second state")
             if _is_wrapper(target.function):
@@ -448,6 +462,8 @@ class Reader:
             target.state = state
             if self.on_build is not None:
                 self.on_build(self, target)
+        elif isinstance(target, Made) or target is _MAY_BE_KIND or _may_be_of_kind(state):
+            self.fail('a state of what may be a kind of items')
 
     def persistent(self, key: Any) -> None:
         self.pickle.persistent.append(key)
