@@ -14,7 +14,7 @@ use Rattle.pickle_loader.specs.CLoad.{seen_loaded, c_load_way}
 use Rattle.pickle_loader.specs.Text.{way_of}
 
 -- in every environment, be frames ignored, or in a buffer that STOP ends or leaves: however long it runs over the pickles, one after another,
--- all that is told of what it does is a beginning of what the lines tell, of the values that it holds
+-- all that is listed of what it does is a beginning of what the lines list, of the values that it holds
 abbrev pub NothingElseWithOneMemo : Type 0
 NothingElseWithOneMemo = (how : Manner) (w : World) (f : Frames) (bytes : List ℕ) (o : Output) → IsCallsText how pickles.OneMemo bytes o → o.status ≡ 0
     → (V : ℕ → Value)
