@@ -351,12 +351,14 @@ class ItemKind(NamedTuple):
 
 
 class KindState(NamedTuple):
-    """Something is given a state: its number, whether the state is that of a kind of items, whether it has parts, and its flags."""
+    """Something is given a state: its number, whether the state is that of a kind of items, whether it has parts, and its flags; and whether it
+    may set attributes, which the line does not show."""
 
     number: int
     is_whole: bool
     has_parts: bool
     flags: int
+    is_of_attributes: bool
 
 
 class NumberOfKind(NamedTuple):
@@ -370,7 +372,7 @@ def kinds_in(text: str, start: int, end: int) -> Iterator[Tuple[int, str, Union[
 
     >>> lines = "9: call 'numpy' 'dtype' ('O8', false, true) as #5\\n46: state (int 3, '|', none, none, none, int -1, int -1, int 63) to #5\\n"
     >>> [what for _, _, what in kinds_in(lines, 0, len(lines))]
-    [ItemKind(number=5, code='O8'), KindState(number=5, is_whole=True, has_parts=False, flags=63)]
+    [ItemKind(number=5, code='O8'), KindState(number=5, is_whole=True, has_parts=False, flags=63, is_of_attributes=False)]
     """
     for match in _KIND.finditer(text, start, end):
         offset, said, code, named, made, other, of_other, kind, state, given = match.groups()
@@ -383,7 +385,8 @@ def kinds_in(text: str, start: int, end: int) -> Iterator[Tuple[int, str, Union[
             what = NumberOfKind(None if kind is None else int(kind))
         else:
             found = _KIND_STATE.fullmatch(state)
-            what = KindState(int(given), found is not None, found is not None and (found[2], found[3], found[4]) != ('none',) * 3, int(found[7]) if found else 0)
+            what = KindState(int(given), found is not None, found is not None and (found[2], found[3], found[4]) != ('none',) * 3, int(found[7]) if found else 0,
+                             state[0] == '#' or state.count(',') == 1)
         yield int(offset), said, what
 
 

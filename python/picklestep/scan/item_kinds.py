@@ -13,7 +13,8 @@ from ..reaches import ItemKind, KindState, NumberOfKind, kinds_in
 __all__ = ['ItemKinds']
 
 # What shows that a pickle has kinds of items.
-_SIGNS = ("'numpy' 'dtype'", "'numpy.dtypes'", ".multiarray' 'scalar'")
+_NUMPY = "import 'numpy"
+_SIGNS = ("'numpy' 'dtype'", "'numpy.dtypes'", ".multiarray' 'scalar'", ': state #')
 # Flag of a kind whose items hold objects (NPY_ITEM_REFCOUNT).
 _HOLDS_OBJECTS = 1
 _PLAIN_CODES = frozenset('?bBhHiIlLqQeufdgFDGcSaUVMm')
@@ -21,20 +22,28 @@ _PLAIN_CODES = frozenset('?bBhHiIlLqQeufdgFDGcSaUVMm')
 
 class ItemKinds:
     """The kinds of items in a pickle. `odd` is the first line, with its offset and part, that no pickler of numpy has written, and `unsure`
-    the first state that says that there are no objects in the parts of a kind, which the lines do not show."""
+    the first state of which the lines do not show whether it is odd: that there are no objects in the parts of a kind, or which attributes it sets
+    beside numpy."""
 
     def __init__(self) -> None:
         self.odd: Optional[Tuple[int, str, str]] = None
         self._codes: Dict[int, str] = {}
         self._may_hold_objects = False
         self._raw: Optional[Tuple[int, str, str]] = None
+        self._attributes: Optional[Tuple[int, str, str]] = None
+        self._has_numpy = False
 
     @property
     def unsure(self) -> Optional[Tuple[int, str, str]]:
-        return self._raw if self._may_hold_objects else None
+        return self._raw if self._may_hold_objects and self._raw is not None else self._attributes if self._has_numpy else None
+
+    def name(self) -> str:
+        """What the state is counted under: what numpy makes of it."""
+        return 'numpy.ndarray' if self.odd is None and self.unsure is self._attributes else 'numpy.dtype'
 
     def read(self, text: str, start: int, end: int, part: str) -> None:
         """Reads lines, which stand in this part of an answer."""
+        self._has_numpy = self._has_numpy or _NUMPY in text
         if not self._codes and not any(sign in text for sign in _SIGNS):
             return
         if '_DType_reconstruct' in text:
@@ -56,6 +65,8 @@ class ItemKinds:
             return self._codes.get(-1 if what.kind is None else what.kind, 'O') == 'O'
         code = self._codes.get(what.number)
         if code is None:
+            if self._attributes is None and what.is_of_attributes:
+                self._attributes = line
             return what.is_whole
         if not what.is_whole:
             return True

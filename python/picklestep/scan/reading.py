@@ -20,7 +20,7 @@ from ..texts import IN_FORM, offset_of_item
 from .begins import is_dotted
 from .blobs import CHUNK, Blob, Budget, FileBlob, Spooled, spooled
 from .canonical.formed import content_of
-from .canonical.items import kinds_fit
+from .canonical.items import arrays_fit
 from .canonical.joblib import SIGN
 from .item_kinds import ItemKinds
 from .results import Call, Import, Pickle, Place
@@ -66,9 +66,6 @@ _MOST_NAMES = 4096
 _PLAIN = re.compile(r"'?[^\W\d]\w*(\.[^\W\d]\w*)*('? #[0-9]+)?")
 _WORKED_OUT = re.compile(r'^#| #[0-9]+$|^ext ')
 
-# What a state is counted under that no pickler of numpy gives.
-_ITEM_KIND = 'numpy.dtype'
-
 _LEGACY_TORCH = b'\x80\x02\x8a\x0al\xfc\x9cF\xf9 j\xa8P\x19.'
 
 
@@ -101,11 +98,11 @@ class Summary:
         self._part = ''
         self._leads_nowhere = False
         self._kinds = ItemKinds()
-        self.kinds_fit = False
+        self.arrays_fit = False
 
     @property
     def may_have_odd_kinds(self) -> bool:
-        """Whether lines do not show if numpy's kinds of items fit (`kinds_fit`)."""
+        """Whether lines do not show if what numpy gets fits (`arrays_fit`)."""
         return self._kinds.unsure is not None
 
     @property
@@ -244,10 +241,11 @@ class Summary:
             if found.what != 'import':
                 first, count = done.get((found.what, name, part), (found, 0))
                 done[found.what, name, part] = first, count + found.count
-        odd = self._kinds.odd or (None if self.kinds_fit else self._kinds.unsure)
+        odd = self._kinds.odd or (None if self.arrays_fit else self._kinds.unsure)
         if odd is not None:
             offset, text, part = odd
-            done.setdefault(('state', _ITEM_KIND, part), (_Found('state', _ITEM_KIND, self._place(offset), text, part, 1), 1))
+            name = self._kinds.name()
+            done.setdefault(('state', name, part), (_Found('state', name, self._place(offset), text, part, 1), 1))
         return Pickle(where, size, tuple(Import(first.name, count, first.offset, first.part) for first, count in imports.values()),
                       tuple(Call(first.what, first.name, count, first.offset, first.text, first.part) for first, count in done.values()),
                       self.end, tuple(self._lines or ()))
@@ -349,7 +347,7 @@ class Asked:
             except Enough as limit:
                 summary.trouble = f'{limit}: the rest of it is not looked at'
         if summary.may_have_odd_kinds:
-            summary.kinds_fit = kinds_fit(self._blob, budget)
+            summary.arrays_fit = arrays_fit(self._blob, budget)
         return summary
 
     def offset_of_item(self, item: int, budget: Budget) -> Optional[int]:

@@ -12,7 +12,7 @@ from ..blobs import Blob, Budget
 from .forms import NotCanonical, require, wrong
 from .pickles import Global, Made, OldText, PDict, read_pickle
 
-__all__ = ['Item', 'count_of_shape', 'item_of_description', 'item_of_pickled', 'kinds_fit']
+__all__ = ['Item', 'arrays_fit', 'count_of_shape', 'item_of_description', 'item_of_pickled']
 
 _WRONG_FLAGS = 'flags of a numpy.dtype that do not fit its fields'
 # Bytes of an item, and whether it holds objects.
@@ -158,13 +158,14 @@ def _have_objects(names: Any, fields: Any, size: int, depth: int) -> bool:
     return has_objects
 
 
-def kinds_fit(blob: Blob, budget: Optional[Budget] = None) -> bool:
-    """Whether in pickles in a row no kind of items has parts that are objects, and says that it holds none."""
+def arrays_fit(blob: Blob, budget: Optional[Budget] = None) -> bool:
+    """Whether in pickles in a row no kind of items has parts that are objects, and says that it holds none, and no state makes an array of an
+    object."""
     at = 0
     try:
         while at < blob.size:
             pickle = read_pickle(blob, at, None, budget)
-            if any(_may_hold_objects(kind) and not _says_so(kind.state) for kind in pickle.kinds):
+            if pickle.has_odd_states or any(_may_hold_objects(kind) and not _says_so(kind.state) for kind in pickle.kinds):
                 return False
             at = pickle.end
     except NotCanonical:

@@ -39,6 +39,8 @@ def on_build(reader: Reader, target: Made) -> None:
         count = count_of_shape(told['shape'])
     except NotCanonical as reason:
         reader.fail(reason.reason)
+    if reader.gives_kinds:
+        reader.fail('a kind of items that a call may have changed')
     if has_objects and told['allow_mmap']:  # (joblib maps it, and reads on behind as many bytes)
         reader.fail('an array of objects that may be mapped')
     reader.frame_end = None

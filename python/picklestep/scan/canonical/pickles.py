@@ -90,6 +90,10 @@ class _Opaque:
 _DATA = _Opaque()
 # What a call made that was given a kind of items: it may be that itself, as of `numpy.dtype(kind)`.
 _MAY_BE_KIND = _Opaque()
+# What any other call made.
+_MADE = _Opaque()
+# The attributes by which numpy takes an object for an array.
+_OF_ARRAYS = ('__array_interface__', '__array_struct__', '__array__')
 # What the memo has where there is nothing.
 _NOTHING = _Opaque()
 
@@ -102,6 +106,9 @@ _MADE_AT_ONCE = re.compile(rb'(\x94|q.|r.{4}|p[0-9]{1,10}\n)?(\x95.{8})?\)\x81',
 _LONGEST_MAKING = 24
 
 _KEPT = _WRAPPERS | {('numpy', 'dtype')}
+# What picklers call with a kind of items, and what leaves it as it is.
+_TAKE_KINDS = frozenset(Global(f'numpy.{core}.{name}', function) for core in ('core', '_core') for name, function in (
+    ('multiarray', 'scalar'), ('numeric', '_frombuffer'), ('multiarray', '_reconstruct')))
 
 
 @dataclass
@@ -110,7 +117,8 @@ class Pickle:
 
     `raw` are the ranges within it that are no opcodes, as offset and end; of these `inner` are pickles with a memo of their own. `counts`
     is set where it takes things from the memo that stand there in the order in which they came: another memo gives it other things. `kinds`
-    are numpy's kinds of items that it makes.
+    are numpy's kinds of items that it makes. `has_odd_states` says that a state has a key by which numpy takes an object for an array, or
+    one that is worked out.
     """
 
     offset: int
@@ -122,6 +130,7 @@ class Pickle:
     counts: bool = False
     value: Any = None
     kinds: List['Made'] = field(default_factory=list)
+    has_odd_states: bool = False
 
 
 _MOST_DIGITS = 4000
@@ -142,6 +151,14 @@ def _has_kind(values: Any, depth: int = 0) -> bool:
 def _may_be_of_kind(state: Any) -> bool:
     """Whether numpy.dtype takes such a state: a version, an order of bytes, and so on."""
     return isinstance(state, tuple) and 5 <= len(state) <= 9 and type(state[0]) is int and not isinstance(state[1], (tuple, Global))
+
+
+def _has_odd_key(state: Any) -> bool:
+    """Whether a state sets an attribute by which numpy takes an object for an array, or one that nobody sees."""
+    if isinstance(state, PDict):
+        keys = (key.decode('latin-1') if isinstance(key, OldText) else key for key in state[::2])
+        return not state.is_whole or any(key in _OF_ARRAYS if isinstance(key, str) else isinstance(key, _Opaque) for key in keys)
+    return state is _MADE or isinstance(state, tuple) and len(state) == 2 and any(map(_has_odd_key, state))
 
 
 def _is_wrapper(value: Any) -> bool:
@@ -178,6 +195,8 @@ class Reader:
         self._has_gets = False
         self._left = _MOST_VALUES
         self._unfilled = 0
+        # Whether a kind of items was given to something that may have changed it.
+        self.gives_kinds = False
 
     # --- Bytes ---
 
@@ -431,7 +450,9 @@ class Reader:
     def called(self, function: Any, arguments: Any) -> None:
         is_kept = isinstance(function, Global) and function.is_kept
         self._unfilled += is_kept and _is_wrapper(function)
-        self._top.append(Made(function, arguments) if is_kept else _MAY_BE_KIND if _has_kind(arguments) else _DATA)
+        has_kind = _has_kind(arguments)
+        self.gives_kinds = self.gives_kinds or has_kind and function not in _TAKE_KINDS
+        self._top.append(Made(function, arguments) if is_kept else _MAY_BE_KIND if has_kind else _MADE)
         if is_kept and not _is_wrapper(function):
             self.pickle.kinds.append(self._top[-1])
 
@@ -464,6 +485,8 @@ class Reader:
                 self.on_build(self, target)
         elif isinstance(target, Made) or target is _MAY_BE_KIND or _may_be_of_kind(state):
             self.fail('a state of what may be a kind of items')
+        else:
+            self.pickle.has_odd_states = self.pickle.has_odd_states or _has_odd_key(state)
 
     def persistent(self, key: Any) -> None:
         self.pickle.persistent.append(key)
