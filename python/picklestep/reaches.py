@@ -325,19 +325,19 @@ def persistent_lines(text: str) -> Iterator[str]:
 
 
 class ShownStorage(NamedTuple):
-    """A storage of torch: its kind as a module and a name in it, its key, and how many items it has."""
+    """A storage of torch: its kind as a module and a name in it, its key, and how many items it has (`items`)."""
 
     module: str
     kind: str
     key: str
-    count: int
+    items: int
 
 
 def storage_of(line: str) -> Optional[ShownStorage]:
     """The storage that such a line shows; None where it shows another id.
 
     >>> storage_of("('storage', global 'torch' 'FloatStorage', '0', 'cpu', int 6) as #5")
-    ShownStorage(module='torch', kind='FloatStorage', key='0', count=6)
+    ShownStorage(module='torch', kind='FloatStorage', key='0', items=6)
     """
     match = _STORAGE.fullmatch(line)
     return None if match is None else ShownStorage(match[1], match[2], match[3], int(match[4]))

@@ -196,7 +196,8 @@ def key_in(line: str) -> str:
     >>> key_in('    2: q    BINPUT     17'), key_in('    2: \\\\x94 MEMOIZE    (as 0)')
     ('17', '0')
     """
-    return _DIGITS.findall(line)[-1]
+    keys: List[str] = _DIGITS.findall(line)
+    return keys[-1]
 
 
 def _item_at(match: 're.Match[str]') -> Item:

@@ -87,9 +87,9 @@ def storages_in(calls: str) -> Optional[Storages]:
     found: Storages = {}
     for line in persistent_lines(calls):
         shown = storage_of(line)
-        if shown is None or not _MODULES.fullmatch(shown.module) or shown.kind not in _ITEMS or shown.count >= 2 ** 48:
+        if shown is None or not _MODULES.fullmatch(shown.module) or shown.kind not in _ITEMS or shown.items >= 2 ** 48:
             return None
-        size = (shown.count * _ITEMS[shown.kind], _ITEMS[shown.kind])
+        size = (shown.items * _ITEMS[shown.kind], _ITEMS[shown.kind])
         if found.setdefault(shown.key, size) != size:
             return None
     return found
