@@ -193,10 +193,10 @@ fn list_part<'a, I: ItemSource<'a>, S: Page>(
         mut opened,
         mut highest,
         mut offset,
-        place: first,
+        mut place,
     } = from;
-    let end = first + ITEMS_OF_A_PART;
-    'items: for place in first..end {
+    let end = place + ITEMS_OF_A_PART;
+    'items: loop {
         match reader.next() {
             NextRef::Tail(fault) => {
                 let at = offset.number();
@@ -220,26 +220,30 @@ fn list_part<'a, I: ItemSource<'a>, S: Page>(
                 highest.raise(op.opcode().protocol());
                 let class = Class::of(op.opcode());
                 perform(&mut lean, &mut opened, row, class, place, &offset)?;
-                offset.advance(op.size() as u64);
-                if !is_stop(op.opcode()) {
+                place += 1;
+                if is_stop(op.opcode()) {
+                    offset.advance(op.size() as u64);
+                    end_pickle(&mut lean, &mut opened, page)?;
+                    let kept = reader.unread_len();
+                    if is_last(many, kept) {
+                        return answer(write_last_end(kept, highest.get(), page), 0);
+                    }
                     continue;
                 }
-                end_pickle(&mut lean, &mut opened, page)?;
-                let kept = reader.unread_len();
-                if is_last(many, kept) {
-                    return answer(write_last_end(kept, highest.get(), page), 0);
+                // A part ends where the hundreds of the offset change, so that most items need not be counted against its end.
+                if offset.advance(op.size() as u64) && place >= end {
+                    return Ok(Part::More(SoFar {
+                        reader,
+                        lean,
+                        opened,
+                        highest,
+                        offset,
+                        place,
+                    }));
                 }
             }
         }
     }
-    Ok(Part::More(SoFar {
-        reader,
-        lean,
-        opened,
-        highest,
-        offset,
-        place: end,
-    }))
 }
 
 /// Writes the listing of the items that a source gives from the first on, as many pickles or as one, and answers its status: 1 where an

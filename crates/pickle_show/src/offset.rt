@@ -74,18 +74,19 @@ impl Offset {
         self.hundreds * 100 + self.rest
     }
 
-    /// Counts this many bytes.
+    /// Counts this many bytes, and answers whether the hundreds are others then.
     #[inline(always)]
-    pub fn advance(&mut self, size: u64)
+    pub fn advance(&mut self, size: u64) -> bool
         requires { self.old + size < 2 ^ 40 }
         ensures { self.new ≡ self.old + size }
     {
         let rest = self.rest + size;
         if rest < 100 {
             self.rest = rest;
-        } else {
-            self.jump(self.hundreds * 100 + rest);
+            return false;
         }
+        self.jump(self.hundreds * 100 + rest);
+        true
     }
 
     /// Goes on to another offset.

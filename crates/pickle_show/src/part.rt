@@ -1,6 +1,6 @@
 //! The parts in which items are gone over.
 
-/// How many items a part has at most. Each part is a call of its own: an engine that compiles functions while they run, as those of
+/// About how many items a part has. Each part is a call of its own: an engine that compiles functions while they run, as those of
 /// browsers do, uses its better code from a later call on, and one call over all items would run in its first code to the end.
 pub const ITEMS_OF_A_PART: usize = 4096;
 
