@@ -17,7 +17,9 @@ BLOCKS = [block for page in ("conversations.txt", "texts.txt") for block in conv
 
 def answered(pickled: bytes, script: str) -> tuple[bytes, str, str, int]:
     """The bytes, the lines that are given, and what the pages say that they are answered, with the status."""
-    block = next(block for block in BLOCKS if block.pickle == pickled and block.script == script.splitlines())
+    block = next((block for block in BLOCKS if block.pickle == pickled and block.script == script.splitlines()), None)
+    if block is None:
+        raise LookupError(f"no conversation of these bytes has this script alone: {script!r}")
     told = "".join(answer + "\n" for answer in block.answers)
     return pickled, script, told, int(any(answer.startswith("refused: ") for answer in block.answers))
 

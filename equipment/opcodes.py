@@ -184,7 +184,7 @@ def fault_of_page(root: Path) -> str:
 def fault_of_fuzzer(root: Path) -> str:
     """The fuzzer can make the argument of each opcode."""
     lacking = [record.name for record in records(root) if record.form != "Empty" and record.name not in fuzz.KEYED
-               and fuzz.OPCODES[record.name].arg.name not in fuzz.ARGUMENTS]
+               and (record.name not in fuzz.OPCODES or fuzz.OPCODES[record.name].arg.name not in fuzz.ARGUMENTS)]
     return difference(lacking, [])
 
 

@@ -40,8 +40,9 @@ CHECKLISTS = [
     ),
     (
         "To add a question of the debugger",
-        r"(?m)\b(write_where|where_text|def where_of)\b|\bQuery::Where\b|\b(plain|query)\.Where\b|^debug> where$|Ic where\b|(?<!obey\()(?<!type\()[\"']where(\\n)?[\"']|`where`: where",
-        ["crates/pickle*/src/**/*.rt", "crates/pickle*/specs/**/*.antt", "crates/pickle*/proofs/**/*.antt", "share/**/*", "equipment/*.txt", "equipment/*.py", "python/picklestep/*.py", "python/tests/test_sessions.py"],
+        r"(?m)\b(write_where|where_text|def where_of)\b|\bQuery::Where\b|\b(plain|query)\.Where\b|^debug> where$|^  where items|Ic where\b|(?<!obey\()(?<!type\()[\"']where(\\n)?[\"']|`where`: where",
+        ["crates/pickle*/src/**/*.rt", "crates/pickle*/specs/**/*.antt", "crates/pickle*/proofs/**/*.antt", "share/**/*", "equipment/*.txt", "equipment/*.py", "python/picklestep/*.py",
+         "python/picklestep/help/*", "python/tests/test_sessions.py"],
     ),
     (
         "To add a text or a command",
