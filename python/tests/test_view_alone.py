@@ -650,24 +650,47 @@ class Alone(Driven):
         self.browser.js(f"""(async () => {{ worker.program.module = await WebAssembly.compile(latin(atob('{module}')));
             endThread(worker.thread); worker.thread = newThread(); }})()""")
 
+    def insert_bytes(self, count: int) -> str:
+        """Inserts an opcode with so many bytes at the cursor, and answers what the page says."""
+        self.browser.js("document.querySelector('#said').textContent = ''")
+        self.browser.key('e')
+        self.browser.wait("document.querySelector('#edit-dialog').open")
+        for field, value in (('what', 'insert'), ('place', '1'), ('name', 'BINBYTES'), ('argument', f"b'{'x' * count}'")):
+            self.browser.js(f"(() => {{ const field = document.querySelector('#edit-{field}'); field.value = {json.dumps(value)};"
+                            "field.dispatchEvent(new Event('change')); })()")
+        self.browser.click('#edit-form button[type=submit]')
+        answer = "/^(edited|not done|refused).*/.exec(document.querySelector('#said').textContent || document.querySelector('#edit-error').textContent)"
+        self.browser.wait(f'{answer} !== null')
+        said: str = self.browser.js(f'{answer}[0]')
+        if self.browser.js("document.querySelector('#edit-dialog').open"):
+            self.browser.click('#edit-dialog .close')
+        return said
+
     def test_out_of_memory(self) -> None:
         """It is said, and the page goes on: where nothing was opened, in a step, in an edit, and while the rest is read."""
         self.load()
         self.limit_memory(600)
         large = b'(' + b'K\x01' * 200_000 + b't.'
-        self.choose(self.file('largest.pickle', b'(' + b'K\x01' * 5_000_000 + b't.'))
+        self.choose(self.file('largest.pickle', b'(' + b'K\x01' * 10_000_000 + b't.'))
         self.said('not done: out of memory')
         self.give(self.file('large.pickle', large))
         self.browser.key('Delete')
         self.said('edited 0')
-        self.limit_memory(360)
+        self.limit_memory(345)
         self.give(self.file('large.pickle', large))
-        for key, said in (('End', 'refused: M out of memory'), ('Delete', 'not done: out of memory'), ('ArrowRight', 'at 1')):
+        for key, said in (('End', 'refused: M out of memory'), ('ArrowRight', 'at 1')):
             self.browser.key(key)
             self.said(said)
             self.assertRegex(self.texts('#where')[0], '^at [01] of 200003, ')
         self.assertEqual(self.browser.js("document.querySelector('#undo').disabled"), True)
-        self.limit_memory(1200)
+        # The pickle grows until an edit has no memory, which then is not made.
+        made, said = 0, self.insert_bytes(30_000)
+        while said.startswith('edited '):
+            made, said = made + 1, self.insert_bytes(30_000)
+            self.assertLess(made, 60)
+        self.assertIn(said, ('refused: M out of memory', 'not done: out of memory'))
+        self.assertIn(f' of {200_003 + made}, ', self.texts('#where')[0])
+        self.limit_memory(600)
         self.choose(self.file('largest.pickle', b'(' + b'K\x01' * 5_000_000 + b't.'))
         self.browser.wait("document.querySelector('#rest').textContent === 'The first part is shown alone: out of memory'")
         self.browser.wait(f"document.querySelector('#reached').textContent === 'imports 0 of 0, calls 0 of 0 in this part: {UNKNOWN}: out of memory'")
