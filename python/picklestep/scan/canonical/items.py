@@ -6,9 +6,9 @@ Sources: numpy/lib/format.py (descr), numpy/core/src/multiarray/descriptor.c (dt
 from __future__ import annotations
 
 import re
-from typing import Any, Optional, Tuple
+from typing import Any, Tuple
 
-from ..blobs import Blob, Budget
+from ..blobs import Blob, Budget, LimitMet
 from .forms import NotCanonical, require, wrong
 from .pickles import Global, Made, OldText, PDict, read_pickle
 
@@ -158,17 +158,18 @@ def _have_objects(names: Any, fields: Any, size: int, depth: int) -> bool:
     return has_objects
 
 
-def arrays_fit(blob: Blob, budget: Optional[Budget] = None) -> bool:
+def arrays_fit(blob: Blob, budget: Budget) -> bool:
     """Whether in pickles in a row no kind of items has parts that are objects, and says that it holds none, and no state makes an array of an
-    object."""
+    object. Where half of the time that is left does not suffice, nobody knows it."""
     at = 0
     try:
-        while at < blob.size:
-            pickle = read_pickle(blob, at, None, budget)
-            if pickle.has_odd_states or any(_may_hold_objects(kind) and not _says_so(kind.state) for kind in pickle.kinds):
-                return False
-            at = pickle.end
-    except NotCanonical:
+        with budget.half():
+            while at < blob.size:
+                pickle = read_pickle(blob, at, None, budget)
+                if pickle.has_odd_states or any(_may_hold_objects(kind) and not _says_so(kind.state) for kind in pickle.kinds):
+                    return False
+                at = pickle.end
+    except (NotCanonical, LimitMet):
         return False
     return True
 
