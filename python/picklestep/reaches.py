@@ -9,8 +9,9 @@ from typing import Callable, Dict, Iterator, List, NamedTuple, Optional, Tuple, 
 from .records import Brief, Briefs, End, Extension, Global, Name, Reach, Ref, Value
 from .texts import NUMBER, QUOTED, LineReader, LinesError, number_of, unquoted
 
-__all__ = ['Heading', 'ItemKind', 'KindState', 'LineKey', 'NumberOfKind', 'REACHES', 'before_headings', 'counts_in', 'headings_in', 'kinds_in', 'line_of', 'lowered', 'made_by', 'number_in', 'offset_of',
-           'persistent_lines', 'reach_of', 'reached_lines', 'storage_of', 'text_of', 'unnumbered', 'with_offset']
+__all__ = ['Heading', 'ItemKind', 'KindState', 'LineKey', 'NumberOfKind', 'REACHES', 'before_headings', 'counts_in', 'headings_in', 'kinds_in',
+           'line_of', 'lowered', 'made_by', 'number_in', 'offset_of', 'persistent_lines', 'reach_of', 'reached_lines', 'storage_of', 'text_of',
+           'unnumbered', 'with_offset']
 
 # What is under these headings the strict reading does not reach. Each has the words of the second, and hardly any other line.
 _HEADING = re.compile(r'^(a loader(?: that buffers frames| that keeps its buffer)? may go on):$', re.MULTILINE)
@@ -30,7 +31,8 @@ _KIND = re.compile(
     r"|state (.*) to #([0-9]+))$", re.MULTILINE)
 _WHOLE = r"int(?:-line)? '?(-?[0-9]+)'?"
 # Its version, the order of bytes, what it repeats, names and fields, size and place, flags, and of times their unit.
-_KIND_STATE = re.compile(rf"\({_WHOLE}, (?:string )?'[^'\\]', (none|#[0-9]+), (none|#[0-9]+), (none|#[0-9]+), {_WHOLE}, {_WHOLE}, {_WHOLE}(?:, #[0-9]+)?\)")
+_KIND_STATE = re.compile(rf"\({_WHOLE}, (?:string )?'[^'\\]', (none|#[0-9]+), (none|#[0-9]+), (none|#[0-9]+), {_WHOLE}, {_WHOLE}, {_WHOLE}"
+                         r'(?:, #[0-9]+)?\)')
 # Most calls are made again and again.
 _IN_ROWS = frozenset({'call', 'new', 'inst'})
 # What may be the number of an object, beside texts.
@@ -385,8 +387,8 @@ def kinds_in(text: str, start: int, end: int) -> Iterator[Tuple[int, str, Union[
             what = NumberOfKind(None if kind is None else int(kind))
         else:
             found = _KIND_STATE.fullmatch(state)
-            what = KindState(int(given), found is not None, found is not None and (found[2], found[3], found[4]) != ('none',) * 3, int(found[7]) if found else 0,
-                             state[0] == '#' or state.count(',') == 1)
+            has_parts = found is not None and (found[2], found[3], found[4]) != ('none',) * 3
+            what = KindState(int(given), found is not None, has_parts, int(found[7]) if found else 0, state[0] == '#' or state.count(',') == 1)
         yield int(offset), said, what
 
 

@@ -180,7 +180,9 @@ def _says_so(state: Any) -> bool:
 
 def _may_hold_objects(value: Any, depth: int = 0) -> bool:
     """Whether items may be objects or have some, as far as they are described as picklers do."""
-    if depth == 20 or not isinstance(value, Made) or value.function != Global('numpy', 'dtype') or not isinstance(value.arguments, tuple) or not value.arguments:
+    if depth == 20 or not isinstance(value, Made) or value.function != Global('numpy', 'dtype'):
+        return True
+    if not isinstance(value.arguments, tuple) or not value.arguments:
         return True
     code = value.arguments[0]
     kind = 'V' if code in _RECORDS else _as_text(code)[:1]

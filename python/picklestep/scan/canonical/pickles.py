@@ -451,7 +451,7 @@ class Reader:
         is_kept = isinstance(function, Global) and function.is_kept
         self._unfilled += is_kept and _is_wrapper(function)
         has_kind = _has_kind(arguments)
-        self.gives_kinds = self.gives_kinds or has_kind and function not in _TAKE_KINDS
+        self.gives_kinds = self.gives_kinds or has_kind and not (isinstance(function, Global) and function in _TAKE_KINDS)
         self._top.append(Made(function, arguments) if is_kept else _MAY_BE_KIND if has_kind else _MADE)
         if is_kept and not _is_wrapper(function):
             self.pickle.kinds.append(self._top[-1])
