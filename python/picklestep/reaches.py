@@ -5,7 +5,7 @@ from __future__ import annotations
 from typing import Callable, Dict, Iterator, List, Match, Optional, Pattern, Tuple, Union
 
 from .records import Brief, Briefs, Extension, Global, Name, Reach, Ref, Value
-from .texts import BYTES_CUT, REACH, REACH_BEGINS, TEXT_NEXT, UNIT, VALUES_CUT, LineReader, LinesError, number_of, unquoted
+from .texts import BYTES_CUT, REACH, REACH_BEGINS, REACH_WORD, TEXT_NEXT, UNIT, VALUES_CUT, LineReader, LinesError, number_of, unquoted
 
 __all__ = ['LineKey', 'REACHES', 'line_of', 'number_in', 'offset_of', 'reach_of', 'reached_lines', 'text_of']
 
@@ -151,11 +151,11 @@ def reach_of(line: str) -> Reach:
     >>> reach_of("    0: import 'builtins' 'eval' for '__builtin__' 'eval' as #0").said
     Global(module=b'__builtin__', name=b'eval')
     """
-    match = REACH_BEGINS.match(line)
+    match = REACH_WORD.match(line)
     if match is None:
         raise LinesError(line)
     what, text = match[2], line[match.start(2):]
-    return _REACHES[what](int(match[1]), what, text, _Units(line, match.end(2)))
+    return _REACHES[what](int(match[1]), what, text, _Units(line, match.end()))
 
 
 def _named(offset: int, what: str, text: str, units: _Units) -> Reach:

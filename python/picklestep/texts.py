@@ -16,7 +16,7 @@ from .records import Argument, Change, End, Item, Mark, Object, Opcode, OtherFor
 
 __all__ = ['BYTES_CUT', 'Closing', 'FRAME_SIZE', 'HELD', 'Heading', 'HeldObject', 'IN_FORM', 'ITEMS', 'ITEM_IN_BYTES', 'ItemKind', 'KindState',
            'Line', 'LineReader', 'LinesError', 'MARK', 'MOST_OFFSET', 'NAMED_BY_TEXTS', 'NumberOfKind', 'OBJECTS', 'OFFSET_IN_BYTES',
-           'OPCODES', 'REACH', 'REACH_BEGINS', 'SHOWN', 'ShownStorage', 'TEXT_NEXT', 'UNIT', 'VALUES_CUT', 'argument_at', 'as_made',
+           'OPCODES', 'REACH', 'REACH_BEGINS', 'REACH_WORD', 'SHOWN', 'ShownStorage', 'TEXT_NEXT', 'UNIT', 'VALUES_CUT', 'argument_at', 'as_made',
            'before_headings', 'begins_with_offset', 'broken_places', 'closing_of', 'container_in', 'counts_in', 'end_of', 'frames_in', 'headings_in',
            'held_in', 'holding', 'key_in', 'kinds_in', 'left_in', 'line_of', 'lines_with_offsets', 'lowered', 'made_by', 'memo_of', 'number_of',
            'object_of', 'offset_of_item', 'opcode_of', 'other_form', 'pattern_of_line', 'persistent_lines', 'readonly_count', 'results_in',
@@ -498,10 +498,12 @@ def as_made(text: str) -> str:
 
 # --- Lines of `calls` ---
 
-# A line: its offset, its text and first word, and the name in it where the module is in quotes. Then its beginning, without the text.
+# A line: its offset, its text and first word, and the name in it where the module is in quotes. Then its beginning, without the text, and that
+# without the name.
 _NAMED = rf'(?: ((?:raw )?{_QUOTED} (?:(?:raw )?{_QUOTED}|#[0-9]+)))?'
 REACH = re.compile(rf'^ *([0-9]+): ((\w+){_NAMED}.*)$', re.MULTILINE)
 REACH_BEGINS = re.compile(rf' *([0-9]+): (\w+){_NAMED}')
+REACH_WORD = re.compile(r' *([0-9]+): ([a-z]+)')
 # The next word, sign or quoted text behind the first word, and whether that is a text.
 UNIT = re.compile(rf'[ ,]*({_QUOTED}|#[0-9]+|[()]|\+[0-9]+|{_NUMBER}|[a-z-]+)')
 TEXT_NEXT = re.compile(" (?:raw )?'")
