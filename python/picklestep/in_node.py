@@ -12,7 +12,7 @@ from typing import Optional
 
 from .errors import ProgramError
 from .place import node_path
-from .program import Process
+from .program import Process, counted
 from .question import Question
 
 __all__ = ['InNode']
@@ -90,7 +90,8 @@ class InNode:
             return None
         with self._turn:
             try:
-                return self._open().ask(asked)
+                with counted():  # (what a process takes is told after its end)
+                    return self._open().ask(asked)
             except (EOFError, OSError, ValueError, ProgramError):
                 self._close()
                 return None

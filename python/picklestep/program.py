@@ -30,14 +30,19 @@ try:
     import fcntl
 except ImportError:  # (Windows has none)
     fcntl = None  # type: ignore[assignment]
+try:
+    import resource
+except ImportError:  # (nor this)
+    resource = None  # type: ignore[assignment]
 
-__all__ = ['Process', 'find_program', 'run_program']
+__all__ = ['Process', 'counted', 'find_program', 'run_program', 'seconds_of_programs']
 
 _BLOCK = 1 << 20  # (also of a pipe where the system lets it be so large: fewer turns between the program and its reader)
 _HAS_MASKS = hasattr(signal, 'pthread_sigmask')  # (Windows has none)
 _HAS_POLL = hasattr(select, 'poll')  # (nor this)
 _GROUP: int = getattr(subprocess, 'CREATE_NEW_PROCESS_GROUP', 0)  # (Windows has these: Ctrl-C comes to none but the first)
 _HAS_LIFELINES = hasattr(fcntl, 'F_SETSIG')
+_HAS_LIMITS = hasattr(resource, 'prlimit')  # (of another process: only Linux has them)
 _LIMITED = ['/bin/sh', '-c', 'ulimit -v "$1" && shift && exec "$@"', 'sh']
 
 
@@ -79,6 +84,7 @@ class Process:
         self._is_limited = memory is not None
         self._is_open = False
         self._timed_out = False
+        self._left = math.inf
         near, self._lifeline = os.pipe() if _HAS_LIFELINES else (-1, -1)
         # (An interrupt that came while the program starts would leave it without anybody who ends it. The program keeps the mask: a Ctrl-C
         # of the terminal interrupts the interpreter alone, and that ends the program.)
@@ -120,17 +126,22 @@ class Process:
         return _pipe(self._popen.stdout)
 
     def limit_seconds(self, seconds: float) -> None:
-        """Lets the program take this much processor time, rounded up, from its start on. The system then ends it."""
+        """Lets the program take this much processor time, rounded up, from its start on. The system then ends it.
+
+        Where the system cannot, its output is waited for so long: TimedOut where it takes longer.
+        """
         most = max(1, math.ceil(seconds))
-        # (it has ended already, or the limit of this process is lower; and only Linux has limits of another process)
-        with contextlib.suppress(OSError, ValueError, ImportError, AttributeError):
-            import resource
+        if not _HAS_LIMITS:
+            self._left = most
+            return
+        with contextlib.suppress(OSError, ValueError):  # (it has ended already, or the limit of this process is lower)
             resource.prlimit(self._popen.pid, resource.RLIMIT_CPU, (most, most + 1))
 
     def communicate(self, script: Optional[bytes], timeout: Optional[float]) -> bytes:
         """Gives the program its whole input, and answers its whole output. The program has ended then, also after an exception."""
         try:
-            output, errors = self._popen.communicate(script, timeout)
+            with _counted_where_untold():
+                output, errors = self._popen.communicate(script, timeout)
         except subprocess.TimeoutExpired:
             raise TimedOut(f'no answer within {timeout} seconds') from None
         finally:
@@ -144,11 +155,10 @@ class Process:
 
         Raises TimedOut after `timeout` seconds, and ProgramError where the program failed, after what it wrote.
         """
-        deadline = None if timeout is None else time.monotonic() + timeout
+        deadline = math.inf if timeout is None else time.monotonic() + timeout
         try:
             while True:
-                with self.waiting(self.stdout, deadline):
-                    block = os.read(self.stdout, _BLOCK)
+                block = self._read(deadline)
                 if not block:
                     break
                 yield block
@@ -156,11 +166,20 @@ class Process:
             errors = self._popen.stderr.read()
             self._popen.wait()
         except TimedOut:
-            raise TimedOut(f'no answer within {timeout} seconds') from None
+            raise TimedOut('no answer in time' if timeout is None else f'no answer within {timeout} seconds') from None
         finally:
             self.close()
         if self._popen.returncode not in (0, 1):
             _raise_failure(self._popen.returncode, errors, self._is_limited)
+
+    def _read(self, deadline: float) -> bytes:
+        """The next block of the output, or nothing at its end."""
+        begin = time.monotonic()
+        last = min(deadline, begin + self._left)
+        with self.waiting(self.stdout, last if last < math.inf else None):
+            block = os.read(self.stdout, _BLOCK)
+        self._left -= time.monotonic() - begin
+        return block
 
     @contextlib.contextmanager
     def waiting(self, file: int, deadline: Optional[float], writes: bool = False) -> Iterator[None]:
@@ -180,7 +199,8 @@ class Process:
         try:
             if timer is not None:
                 timer.start()
-            yield
+            with _counted_where_untold():
+                yield
         finally:
             if timer is not None:
                 timer.cancel()
@@ -213,6 +233,35 @@ class Process:
                 if stream is not None:
                     stream.close()
             _close(self._lifeline)
+
+
+class _Waited:
+    """For how many seconds answers were waited for of processes whose processor time the system does not tell."""
+
+    seconds = 0.0
+
+
+@contextlib.contextmanager
+def counted() -> Iterator[None]:
+    """Within it another process is waited for, and the system does not tell what that takes: the time by the clock is taken for it."""
+    begin = time.monotonic()
+    try:
+        yield
+    finally:
+        _Waited.seconds += time.monotonic() - begin
+
+
+def _counted_where_untold() -> contextlib.AbstractContextManager[None]:
+    """Within it a program is waited for. (Windows does not tell what one took that has ended.)"""
+    return counted() if resource is None else contextlib.nullcontext()
+
+
+def seconds_of_programs() -> float:
+    """The processor time of all programs that this process waited for."""
+    if resource is None:
+        return _Waited.seconds
+    children = resource.getrusage(resource.RUSAGE_CHILDREN)
+    return children.ru_utime + children.ru_stime + _Waited.seconds
 
 
 def _close(file: int) -> None:
