@@ -36,6 +36,7 @@ NOT_THERE = {
     "test_scan_runs.Runs.test_a_program_that_dies": BY_NAME,
     "test_scan_runs.Runs.test_a_worker_that_dies_costs_a_second_try": BY_NAME,
     "test_scan_runs.Runs.test_ctrl_c": BY_NAME,
+    "test_source_alone": "the page is a browser's; what it is compared with is tried by test_source",
     "test_stores_forms.Hdf5.test_memory_is_bounded": "Windows has no such limit",
     "test_stores_changes": "servers of Linux are started and stopped by signals",
     "test_stores_columns": "servers of Linux are started",
