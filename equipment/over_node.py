@@ -22,7 +22,6 @@ from pathlib import Path
 
 from packages import ROOT, own_environment
 
-BY_NAME = "what stands in for the program knows a file by its name, and gets a copy there"
 # Beginnings of names of tests.
 NOT_THERE = {
     "test_library.InProcess.test_a_small_pickle_takes_microseconds": "the speed is that of the native library",
@@ -32,10 +31,6 @@ NOT_THERE = {
     "test_runs.NothingLeft.test_after_a_kill_of_the_interpreter": "only Linux ends what neither reads nor writes",
     "test_runs.Sources.test_without_files_in_memory": "no file is in memory there",
     "test_scan_hostile.HostileFolders.test_each_ends_in_a_line_of_its_own": "Windows has no FIFOs",
-    "test_scan_runs.Runs.test_a_file_that_kills_each_worker": BY_NAME,
-    "test_scan_runs.Runs.test_a_program_that_dies": BY_NAME,
-    "test_scan_runs.Runs.test_a_worker_that_dies_costs_a_second_try": BY_NAME,
-    "test_scan_runs.Runs.test_ctrl_c": BY_NAME,
     "test_source_alone": "the page is a browser's; what it is compared with is tried by test_source",
     "test_stores_forms.Hdf5.test_memory_is_bounded": "Windows has no such limit",
     "test_stores_changes": "servers of Linux are started and stopped by signals",

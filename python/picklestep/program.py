@@ -35,7 +35,7 @@ try:
 except ImportError:  # (nor this)
     resource = None  # type: ignore[assignment]
 
-__all__ = ['Process', 'counted', 'find_program', 'run_program', 'seconds_of_programs']
+__all__ = ['Process', 'counted', 'find_program', 'run_program', 'seconds_of_programs', 'time_to_wait']
 
 _BLOCK = 1 << 20  # (also of a pipe where the system lets it be so large: fewer turns between the program and its reader)
 _HAS_MASKS = hasattr(signal, 'pthread_sigmask')  # (Windows has none)
@@ -43,6 +43,7 @@ _HAS_POLL = hasattr(select, 'poll')  # (nor this)
 _GROUP: int = getattr(subprocess, 'CREATE_NEW_PROCESS_GROUP', 0)  # (Windows has these: Ctrl-C comes to none but the first)
 _HAS_LIFELINES = hasattr(fcntl, 'F_SETSIG')
 _HAS_LIMITS = hasattr(resource, 'prlimit')  # (of another process: only Linux has them)
+_WAITING, _STARTING = 5, 3
 _LIMITED = ['/bin/sh', '-c', 'ulimit -v "$1" && shift && exec "$@"', 'sh']
 
 
@@ -91,7 +92,6 @@ class Process:
         self._is_limited = memory is not None
         self._is_open = False
         self._timed_out = False
-        self._left = math.inf
         near, self._lifeline = os.pipe() if _HAS_LIFELINES else (-1, -1)
         # (An interrupt that came while the program starts would leave it without anybody who ends it. The program keeps the mask: a Ctrl-C
         # of the terminal interrupts the interpreter alone, and that ends the program.)
@@ -133,16 +133,11 @@ class Process:
         return _pipe(self._popen.stdout)
 
     def limit_seconds(self, seconds: float) -> None:
-        """Lets the program take this much processor time, rounded up, from its start on. The system then ends it.
-
-        Where the system cannot, its output is waited for so long: TimedOut where it takes longer.
-        """
+        """Lets the program take this much processor time, rounded up, from its start on. The system then ends it, where it can (`time_to_wait`)."""
         most = max(1, math.ceil(seconds))
-        if not _HAS_LIMITS:
-            self._left = most
-            return
-        with contextlib.suppress(OSError, ValueError):  # (it has ended already, or the limit of this process is lower)
-            resource.prlimit(self._popen.pid, resource.RLIMIT_CPU, (most, most + 1))
+        if _HAS_LIMITS:
+            with contextlib.suppress(OSError, ValueError):  # (it has ended already, or the limit of this process is lower)
+                resource.prlimit(self._popen.pid, resource.RLIMIT_CPU, (most, most + 1))
 
     def communicate(self, script: Optional[bytes], timeout: Optional[float]) -> bytes:
         """Gives the program its whole input, and answers its whole output. The program has ended then, also after an exception."""
@@ -162,10 +157,11 @@ class Process:
 
         Raises TimedOut after `timeout` seconds, and ProgramError where the program failed, after what it wrote.
         """
-        deadline = math.inf if timeout is None else time.monotonic() + timeout
+        deadline = None if timeout is None else time.monotonic() + timeout
         try:
             while True:
-                block = self._read(deadline)
+                with self.waiting(self.stdout, deadline):
+                    block = os.read(self.stdout, _BLOCK)
                 if not block:
                     break
                 yield block
@@ -173,20 +169,11 @@ class Process:
             errors = self._popen.stderr.read()
             self._popen.wait()
         except TimedOut:
-            raise TimedOut('no answer in time' if timeout is None else f'no answer within {timeout} seconds') from None
+            raise TimedOut(f'no answer within {timeout} seconds') from None
         finally:
             self.close()
         if self._popen.returncode not in (0, 1):
             _raise_failure(self._popen.returncode, errors, self._is_limited)
-
-    def _read(self, deadline: float) -> bytes:
-        """The next block of the output, or nothing at its end."""
-        begin = time.monotonic()
-        last = min(deadline, begin + self._left)
-        with self.waiting(self.stdout, last if last < math.inf else None):
-            block = os.read(self.stdout, _BLOCK)
-        self._left -= time.monotonic() - begin
-        return block
 
     @contextlib.contextmanager
     def waiting(self, file: int, deadline: Optional[float], writes: bool = False) -> Iterator[None]:
@@ -261,6 +248,12 @@ def counted() -> Iterator[None]:
 def _counted_where_untold() -> contextlib.AbstractContextManager[None]:
     """Within it a program is waited for. (Windows does not tell what one took that has ended.)"""
     return counted() if resource is None else contextlib.nullcontext()
+
+
+def time_to_wait(seconds: float) -> float:
+    """How long a program is waited for that may take so many seconds of processor time: the clock may run longer, where other processes have the
+    processor. Where the system does not end a program after that time, it ends by the clock, which also runs while it starts."""
+    return max(0.5, seconds) * _WAITING if _HAS_LIMITS else max(0.0, seconds) + _STARTING
 
 
 def seconds_of_programs() -> float:

@@ -4,6 +4,7 @@ from __future__ import annotations
 
 import json
 import os
+import pickle
 import pty
 import re
 import select
@@ -14,12 +15,13 @@ import sys
 import time
 import unittest
 import unittest.mock
+from collections import OrderedDict
 from pathlib import Path
 from typing import Callable, Dict, List
 
 from picklestep.program import find_program
 from picklestep.scan import Options, cluster, look, pool
-from scan_support import HARMLESS, HOSTILE, MODELS, ScanCase, environment, names_of, python_with
+from scan_support import HOSTILE, MODELS, ScanCase, environment, names_of, python_with
 
 # A number of seconds by which a sleeping process is told from others.
 SLEEP = f'61.{os.getpid()}'
@@ -39,16 +41,18 @@ class RunCase(ScanCase):
         self.program = find_program()
 
     def fill(self, count: int) -> List[str]:
-        """Files of a few bytes; every tenth is hostile."""
+        """Files of a few bytes, each with its name in it; every tenth is hostile."""
         names = [f'{number:04}.pkl' for number in range(count)]
         for number, name in enumerate(names):
-            (self.files / name).write_bytes(HOSTILE if number % 10 == 0 else HARMLESS)
+            argument = f'id {name}'.encode()
+            hostile = HOSTILE.replace(b'\x02\0\0\0id', len(argument).to_bytes(4, 'little') + argument)
+            (self.files / name).write_bytes(hostile if number % 10 == 0 else pickle.dumps((name, OrderedDict), 4))
         return names
 
     def wrapped(self, line: str) -> Dict[str, str]:
-        """An environment whose program first does what a line of shell says; `$file` is the file that it is given."""
+        """An environment whose program first does what a line of shell says; `$file` is the name in what it is given, which may be a copy."""
         script = self.folder / 'program'
-        script.write_text(f'#!/bin/bash\nfile=$(readlink -f -- "$2")\n{line}\nexec {self.program} "$@"\n')
+        script.write_text(f'#!/bin/bash\nfile=$(grep -ao "[0-9]*\\.pkl" -- "$2")\n{line}\nexec {self.program} "$@"\n')
         script.chmod(0o755)
         return {**environment(), 'PICKLESTEP_PROGRAM': str(script)}
 
