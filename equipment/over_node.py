@@ -3,7 +3,8 @@
     python3 -B equipment/over_node.py [--system windows | macos] [CLASS..]
 
 Without classes all of them. Each class is an interpreter of its own, four of them at once; each prints how many of its tests passed, were
-skipped and failed, and its processor time. What cannot run there is in `NOT_THERE`, with its reason. Status 1 where a test failed.
+skipped and failed, and its processor time. What cannot run there is in `NOT_THERE`, with its reason. The gate runs all others but the classes
+in `DEAR`. Status 1 where a test failed.
 """
 
 from __future__ import annotations
@@ -42,6 +43,8 @@ NOT_THERE = {
     "test_view_alone": "the page is a browser's, and asks no program",
     "test_view_browser": "the page is a browser's; what it asks is tried by test_view",
 }
+# Classes that the gate leaves out, with the processor seconds that they take.
+DEAR: dict[str, int] = {}
 AT_ONCE = 4
 SECONDS = 7200
 
@@ -68,11 +71,16 @@ def prepare(interpreter: Path) -> None:
     (interpreter.parent / "node.exe").symlink_to(str(shutil.which("node")))
 
 
+def is_there(name: str) -> bool:
+    """Whether something of a class can run there."""
+    return not any(f"{name}.".startswith(f"{beginning}.") for beginning in NOT_THERE)
+
+
 def classes(interpreter: Path) -> list[str]:
-    """All classes of tests."""
+    """All classes of tests of which something can run there."""
     words = [str(interpreter), "-B", str(ROOT / "equipment/packages.py"), "--names"]
     done = subprocess.run(words, env=environment(interpreter, "windows"), stdin=subprocess.DEVNULL, capture_output=True, text=True, check=True)
-    return sorted({".".join(line.split()[1].split(".")[:2]) for line in done.stdout.splitlines()})
+    return sorted(filter(is_there, {".".join(line.split()[1].split(".")[:2]) for line in done.stdout.splitlines()}))
 
 
 def environment(interpreter: Path, system: str) -> dict[str, str]:
