@@ -84,7 +84,7 @@ class Unread(unittest.TestCase):
             with self.subTest(at), Shell(data, '', **modes) as shell:
                 for _ in range(5):
                     self._edit_and_look(rng, shell, modes, seen)
-        self.assertGreater(seen['before'], len(tried))
+        self.assertGreater(seen['before'], len(tried) * 2 // 3)
         self.assertGreater(seen['after'], len(tried) // 4)
 
     def _edit_and_look(self, rng: random.Random, shell: Shell, modes: 'dict[str, bool]', seen: 'Counter[str]') -> None:
