@@ -35,7 +35,7 @@ try:
 except ImportError:  # (nor this)
     resource = None  # type: ignore[assignment]
 
-__all__ = ['Process', 'counted', 'find_program', 'run_program', 'seconds_of_programs', 'time_to_wait']
+__all__ = ['Process', 'count_ended', 'count_seconds', 'find_program', 'run_program', 'seconds_of_programs', 'time_to_wait']
 
 _BLOCK = 1 << 20  # (also of a pipe where the system lets it be so large: fewer turns between the program and its reader)
 _HAS_MASKS = hasattr(signal, 'pthread_sigmask')  # (Windows has none)
@@ -229,25 +229,32 @@ class Process:
             _close(self._lifeline)
 
 
-class _Waited:
-    """For how many seconds answers were waited for of processes whose processor time the system does not tell."""
+class _Counted:
+    """The seconds of other processes that the system does not tell."""
 
     seconds = 0.0
 
 
+def count_seconds(seconds: float) -> None:
+    """Counts processor time of a process that goes on. (The system tells it after its end.)"""
+    _Counted.seconds += seconds
+
+
+def count_ended(seconds: float) -> None:
+    """Counts it no more, where the system tells it now."""
+    if resource is not None:
+        _Counted.seconds -= seconds
+
+
 @contextlib.contextmanager
-def counted() -> Iterator[None]:
-    """Within it another process is waited for, and the system does not tell what that takes: the time by the clock is taken for it."""
+def _counted_where_untold() -> Iterator[None]:
+    """Within it a program is waited for. Where the system does not tell what it took (Windows), the time by the clock is taken for that."""
     begin = time.monotonic()
     try:
         yield
     finally:
-        _Waited.seconds += time.monotonic() - begin
-
-
-def _counted_where_untold() -> contextlib.AbstractContextManager[None]:
-    """Within it a program is waited for. (Windows does not tell what one took that has ended.)"""
-    return counted() if resource is None else contextlib.nullcontext()
+        if resource is None:
+            count_seconds(time.monotonic() - begin)
 
 
 def time_to_wait(seconds: float) -> float:
@@ -257,11 +264,11 @@ def time_to_wait(seconds: float) -> float:
 
 
 def seconds_of_programs() -> float:
-    """The processor time of all programs that this process waited for."""
+    """The processor time of all programs that this process waited for, and of Node as it goes on."""
     if resource is None:
-        return _Waited.seconds
+        return _Counted.seconds
     children = resource.getrusage(resource.RUSAGE_CHILDREN)
-    return children.ru_utime + children.ru_stime + _Waited.seconds
+    return children.ru_utime + children.ru_stime + _Counted.seconds
 
 
 def _close(file: int) -> None:

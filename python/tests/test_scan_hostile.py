@@ -23,6 +23,7 @@ from dataclasses import replace
 from typing import Sequence
 from unittest import mock
 
+from pickles import chosen
 from picklestep.place import find_program, is_module
 from picklestep.records import End
 from picklestep.scan import Options, blobs, look
@@ -354,10 +355,10 @@ class Bombs(ScanCase):
         self.assertIn('members share bytes', notes_of(result))
 
     def test_honest_files_are_read_once(self) -> None:
-        names = [b'%d.pkl' % number for number in range(30)]
+        names = [b'%d.pkl' % number for number in chosen(range(30), 10)]
         data = zip_of([Made(name, HARMLESS * 3000) for name in names])
         result = self.look('a.zip', data, Options(Limits(unpacked=100_000)))
-        self.assertEqual((len(result.pickles), notes_of(result)), (30, ''))
+        self.assertEqual((len(result.pickles), notes_of(result)), (len(names), ''))
 
 
 class Packed(Made):

@@ -19,6 +19,7 @@ from collections import OrderedDict
 from pathlib import Path
 from typing import Callable, Dict, List
 
+from pickles import chosen
 from picklestep.program import find_program
 from picklestep.scan import Options, cluster, look, pool
 from scan_support import HOSTILE, MODELS, ScanCase, environment, names_of, python_with
@@ -90,13 +91,14 @@ class Runs(RunCase):
         self.assertTrue(os.path.exists(f'{self.folder}/program.seen'))
 
     def test_a_worker_that_dies_at_one_of_many_small_files(self) -> None:
-        names = self.fill(120)
-        env = self.wrapped('case $file in *0091.pkl) kill -9 $PPID; sleep 1;; esac')
+        names = self.fill(len(chosen(range(120), 40)))
+        fatal = names[-29]
+        env = self.wrapped(f'case $file in *{fatal}) kill -9 $PPID; sleep 1;; esac')
         run = subprocess.run([sys.executable, '-m', 'picklestep', 'scan', 'files', '--json', '--jobs', '2'], cwd=self.folder, env=env,
-                             capture_output=True, text=True, timeout=120)
+                             capture_output=True, text=True, timeout=300)
         results = {result['path']: result['error'] for result in map(json.loads, run.stdout.splitlines())}
         self.assertEqual(sorted(results), [f'files/{name}' for name in names])
-        self.assertEqual([path for path, error in results.items() if error is not None], ['files/0091.pkl'])
+        self.assertEqual([path for path, error in results.items() if error is not None], [f'files/{fatal}'])
 
     def test_a_file_that_kills_each_worker(self) -> None:
         self.fill(6)
