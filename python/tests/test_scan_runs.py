@@ -58,9 +58,10 @@ class RunCase(ScanCase):
         return {**environment(), 'PICKLESTEP_PROGRAM': str(script)}
 
     def start(self, words: List[str], env: Dict[str, str], python: str = sys.executable) -> 'subprocess.Popen[str]':
-        """A run that goes on. Ctrl-C reaches it also where this process ignores it (as one that a script starts in the background)."""
+        """A run that goes on, as a group of its own. Ctrl-C reaches it also where this process ignores it (as one that a script starts in the
+        background)."""
         return subprocess.Popen([python, '-m', 'picklestep', 'scan', *words], cwd=self.folder, env=env, stdout=subprocess.PIPE,
-                                stderr=subprocess.PIPE, text=True, preexec_fn=_heed_ctrl_c)
+                                stderr=subprocess.PIPE, text=True, preexec_fn=_heed_ctrl_c, start_new_session=True)
 
     def wait_for(self, test: Callable[[], bool]) -> None:
         """Waits until something holds, twenty seconds at most."""
@@ -128,7 +129,7 @@ class Runs(RunCase):
                 first = run.stdout.readline()
                 self.wait_for(lambda: self.sleeping() > 0)
                 begin = time.monotonic()
-                run.send_signal(signal.SIGINT)
+                os.killpg(run.pid, signal.SIGINT)  # (as a terminal does)
                 rest, errors = run.communicate(timeout=30)
                 self.assertLess(time.monotonic() - begin, 5)
                 self.assertEqual((run.returncode, errors), (130, ''))
