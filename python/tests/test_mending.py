@@ -82,7 +82,7 @@ class Cuts(unittest.TestCase):
         random.seed(1)
         pickles = [pickle.dumps(value, protocol) for value in VALUES for protocol in (0, 1, 2, 4, 5)]
         cuts = [data[:cut] for data in pickles for cut in random.sample(range(1, len(data)), min(4, len(data) - 1))]
-        for data in chosen(cuts, 20):
+        for data in chosen(cuts, 10):
             with self.subTest(data):
                 self.assert_kept(data)
 
@@ -111,7 +111,7 @@ class Cuts(unittest.TestCase):
         """The result reads to its STOP, and imports and calls what the whole one does, up to the cut."""
         random.seed(2)
         pickles = [pickle.dumps(value, protocol) for value in VALUES for protocol in (0, 2, 4)]
-        for data, cut in chosen([(data, cut) for data in pickles for cut in random.sample(range(1, len(data)), 4)], 20):
+        for data, cut in chosen([(data, cut) for data in pickles for cut in random.sample(range(1, len(data)), 4)], 10):
             answer = picklestep.calls(mended(data[:cut]).content)
             self.assertTrue(answer.end.is_stopped)
             found = [reach.text for reach in answer if not reach.text.startswith(_FILLS)]
@@ -125,7 +125,7 @@ class Cuts(unittest.TestCase):
         whole = sorted((name for name in found if len(found[name]) > _SHORT), key=lambda name: len(found[name]))[:50]
         cuts = [(name, cut) for name, data in found.items() for cut in (range(len(data)) if name in whole else cuts_of(name, len(data)))]
         self.assertGreater(len(cuts), 5000)
-        cuts = chosen(cuts, 30)
+        cuts = chosen(cuts, 15)
         with ThreadPoolExecutor(os.cpu_count()) as workers:
             faults = workers.map(lambda each: cut_pickles.fault_of(found[each[0]][:each[1]]), cuts)
             for (name, cut), fault in zip(cuts, faults):
@@ -142,7 +142,7 @@ class Cuts(unittest.TestCase):
                 wanted = [reach.text for reach in whole if not reach.text.startswith(_FILLS)]
                 cuts += [(name, data[:cut], wanted) for cut in random.sample(range(1, len(data)), min(2, len(data) - 1))]
         self.assertGreater(len(cuts), 100)
-        for name, data, wanted in chosen(cuts, 20):
+        for name, data, wanted in chosen(cuts, 10):
             with self.subTest(name, cut=len(data)):
                 answer = picklestep.calls(mended(data).content)
                 found = [reach.text for reach in answer if not reach.text.startswith(_FILLS)]

@@ -300,7 +300,7 @@ class Words(unittest.TestCase):
         self.assertEqual(self.place(shell), 2)
 
     def test_who(self) -> None:
-        for name, data in chosen(real_pickles().items(), 30):
+        for name, data in chosen(real_pickles().items(), 10):
             heap = picklestep.objects(data, many=True)
             with self.subTest(name), Shell(data, '', many=True) as shell:
                 names = [opcode.name for opcode in picklestep.listing(data, many=True)]
@@ -380,7 +380,7 @@ class Words(unittest.TestCase):
     def test_what_is_known_after_edits(self) -> None:
         """The opcodes and the objects that they make are those that a shell finds which reads the edited pickle."""
         rng = random.Random(51)
-        for name, data in chosen(sorted(real_pickles().items(), key=lambda each: len(each[1]))[10:130:6], 3):
+        for name, data in chosen(sorted(real_pickles().items(), key=lambda each: len(each[1]))[10:130:6], 2):
             with Shell(data, '', many=True) as shell:
                 for _ in range(12):
                     place = rng.randrange(len(shell.pickle.lines) + 1)
