@@ -171,7 +171,7 @@ class Renames(unittest.TestCase):
         self.assertGreater(changed, len(seeds) * 2 // 3)
 
     def test_opcodes_at_random(self) -> None:
-        changed, seeds = 0, chosen(range(200), 8)
+        changed, seeds = 0, chosen(range(200), 15)
         for seed in seeds:
             data = opcodes(seed)
             with self.subTest(seed=seed):
@@ -184,7 +184,7 @@ class Renames(unittest.TestCase):
         self.assertGreater(changed, len(seeds) * 3 // 20)
 
     def test_real_pickles(self) -> None:
-        tried, found = 0, chosen(whole_pickles().items(), 8)
+        tried, found = 0, chosen(whole_pickles().items(), 15)
         for name, data in found:
             with Shell(data, '') as shell:
                 modules = sorted({reach.name.module.decode() for reach in shell.pickle.imports()})  # type: ignore[union-attr]
