@@ -12,7 +12,7 @@ from dataclasses import dataclass
 from pathlib import Path
 from typing import Callable
 
-from over_node import prepare, run_classes
+from over_node import DEAR, classes, prepare, run_classes
 from packages import NO_BUILDER, builder, own_environment
 from trials.room import beginning
 from trials.trial import Noted, Skip, Trial
@@ -29,66 +29,6 @@ with picklestep.Session(hostile) as session:
 print(library.answer(['calls'], hostile) is not None, place.find_program().rpartition('/')[2])
 """
 SAID = "[\"import 'posix' 'system' as #0\", \"call 'posix' 'system' ('id') as #3\"] GLOBAL 0\nTrue 1 1\n"
-# Classes that take seconds each though every start of Node takes a third of one. All of them: over_node.py.
-OVER_NODE = (
-    "picklestep.scan",
-    "test_answers.CallLines",
-    "test_answers.Listings",
-    "test_answers.ObjectLines",
-    "test_answers.Parts",
-    "test_compare.Tree",
-    "test_compare.Values",
-    "test_gate.Findings",
-    "test_known.Checked",
-    "test_known.Hostile",
-    "test_known.TheList",
-    "test_library.InProcess",
-    "test_library.Scan",
-    "test_lines.Lines",
-    "test_mending.Words",
-    "test_reaches.Lines",
-    "test_reaches.Rows",
-    "test_runs.Answers",
-    "test_runs.CommandLine",
-    "test_runs.Errors",
-    "test_runs.NothingLeft",
-    "test_runs.Sources",
-    "test_scan.Allowing",
-    "test_scan.Containers",
-    "test_scan.RealFiles",
-    "test_scan.TheCommand",
-    "test_scan.ThroughAnother",
-    "test_scan_docs.Examples",
-    "test_scan_gate.Streams",
-    "test_scan_gate.Tars",
-    "test_scan_gate.Whole",
-    "test_scan_honest.Changes",
-    "test_scan_honest.CommonOpcodes",
-    "test_scan_hostile.HostileFolders",
-    "test_scan_hostile.HostileTar",
-    "test_scan_hostile.HostileZip",
-    "test_scan_runs.AFewWorkers",
-    "test_sessions.Edits",
-    "test_sessions.Notebooks",
-    "test_sessions.Refusals",
-    "test_sessions.Threads",
-    "test_sessions.Walks",
-    "test_sessions.Words",
-    "test_sets.ByNames",
-    "test_sets.Done",
-    "test_sets.Names",
-    "test_sets.RealFiles",
-    "test_source.Words",
-    "test_stores_files.SqliteFiles",
-    "test_stores_forms.DjangoCache",
-    "test_stores_forms.Dumb",
-    "test_stores_forms.Hdf5",
-    "test_stores_forms.Zstd",
-    "test_stores_unread.Unread",
-    "test_view.Asking",
-    "test_view.Cutting",
-    "test_view.Opening",
-)
 SECONDS = 900
 # The released program, and the one of the same sources that the wheel carries.
 RELEASED = "dist/linux-x86_64/picklestep"
@@ -235,7 +175,8 @@ def over_node(wheels: Wheels) -> Noted:
     """The tests of the package, with the wheel for any machine, and without what other systems have not."""
     if shutil.which("node") is None:
         raise Skip("there is no Node")
-    told = list(run_classes(Path(wheels.lesser()), "windows", list(OVER_NODE), wheels.folder))
+    interpreter = Path(wheels.lesser())
+    told = list(run_classes(interpreter, "windows", [name for name in classes(interpreter) if name not in DEAR], wheels.folder))
     faults = [fault for one in told for fault in one.faults]
     return Noted(beginning("; ".join(faults).encode()), f": {sum(one.passed for one in told)} tests of {len(told)} classes")
 

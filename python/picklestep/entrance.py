@@ -67,6 +67,7 @@ def _hand_over(words: 'list[str]') -> int:
     from .place import find_program, program_words
     try:
         program = find_program()
+        os.environ.pop('NODE_EXTRA_CA_CERTS', None)  # (Node would read certificates, which takes longer than all the rest of its start)
         return _become([*program_words(program), *words])
     except OSError as error:
         return _complain(f'cannot start {program}: {error.strerror}')

@@ -1,7 +1,7 @@
 // node in_node.mjs LIBRARY PAGES: answers another process by the library as a module, of at most so many pages of memory. A request on
 // standard input is a line `FUNCTION OPTIONS INPUTS` and the bytes of each input: OPTIONS has the number that comes before them, or -, and INPUTS,
 // with commas between them, how many bytes each has and, behind a slash, of how many of them its length counts one. Its answer is a line `ANSWER
-// SIZE` and SIZE bytes. An instance whose memory grew is left after its answer, since a memory never shrinks. It ends with its input.
+// SIZE USED` and SIZE bytes; USED are microseconds of processor time since it was started. An instance whose memory grew is left after its answer, since a memory never shrinks. It ends with its input.
 import { readFileSync, readSync, writeSync } from 'node:fs';
 import { setFlagsFromString } from 'node:v8';
 
@@ -95,5 +95,6 @@ for (;;) {
     const [name, options, inputs] = readLine().split(' ');
     const { answer, text } = ask(name, numbers(options), inputs.split(',').map(readInput));
     if (answer || library.memory.buffer.byteLength > least + MOST_KEPT) library = null;
-    writeAll(Buffer.concat([Buffer.from(`${answer} ${text.length}\n`), text]));
+    const { user, system } = process.cpuUsage();
+    writeAll(Buffer.concat([Buffer.from(`${answer} ${text.length} ${user + system}\n`), text]));
 }

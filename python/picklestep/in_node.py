@@ -12,7 +12,7 @@ from typing import Optional
 
 from .errors import ProgramError
 from .place import node_path
-from .program import Process
+from .program import Process, count_ended, count_seconds
 from .question import Question
 
 __all__ = ['InNode']
@@ -34,6 +34,8 @@ class _Link:
             raise ProgramError('Node is not on the path')
         self.process = Process([], stdin=True, command=[node, _SCRIPT, module, str((most + _OF_MODULE) // _PAGE)])
         self._held = bytearray()
+        # The processor time that it has taken.
+        self.seconds = 0.0
         self.owner = os.getpid()
 
     def ask(self, asked: Question) -> Optional[bytes]:
@@ -46,7 +48,9 @@ class _Link:
         while b'\n' not in self._held:
             self._read()
         line, _, rest = bytes(self._held).partition(b'\n')
-        answer, size = map(int, line.split())
+        answer, size, used = map(int, line.split())
+        count_seconds(used / 1e6 - self.seconds)
+        self.seconds = used / 1e6
         self._held[:] = rest
         while len(self._held) < size:
             self._read()
@@ -107,4 +111,6 @@ class InNode:
     def _close(self) -> None:
         if self._link is not None:
             _end(self._link.process, self._link.owner)
+            if self._link.owner == os.getpid():
+                count_ended(self._link.seconds)
             self._link = None

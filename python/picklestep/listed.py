@@ -8,6 +8,7 @@ from __future__ import annotations
 
 from typing import AnyStr, Dict, Iterable, Iterator, List, Optional, Sequence, Tuple
 
+from . import library
 from .errors import ProgramError
 from .program import Process
 from .records import End
@@ -49,8 +50,11 @@ class Listed:
     """
 
     def __init__(self, given: Input, words: Sequence[str] = (), timeout: Optional[float] = None, memory: Optional[int] = None) -> None:
-        """Starts a listing; `words` say how the input is read."""
-        self._blocks = bounded(Process(['list', given.path, *words], given.files, memory).blocks(timeout), given.size())
+        """Starts a listing, or has that of a small input in this process; `words` say how the input is read."""
+        content = given.small_content(library.MOST_BYTES) if timeout is None else None
+        text = None if content is None else library.answer(['list', *words], content, memory)
+        self._blocks = iter([text]) if text is not None else bounded(
+            Process(['list', given.path, *words], given.files, memory).blocks(timeout), given.size())
         self._many = '--many' in words
         self._closing: Dict[str, str] = {}
         self._is_whole = False

@@ -30,14 +30,20 @@ try:
     import fcntl
 except ImportError:  # (Windows has none)
     fcntl = None  # type: ignore[assignment]
+try:
+    import resource
+except ImportError:  # (nor this)
+    resource = None  # type: ignore[assignment]
 
-__all__ = ['Process', 'find_program', 'run_program']
+__all__ = ['Process', 'count_ended', 'count_seconds', 'find_program', 'run_program', 'seconds_of_programs', 'time_to_wait']
 
 _BLOCK = 1 << 20  # (also of a pipe where the system lets it be so large: fewer turns between the program and its reader)
 _HAS_MASKS = hasattr(signal, 'pthread_sigmask')  # (Windows has none)
 _HAS_POLL = hasattr(select, 'poll')  # (nor this)
 _GROUP: int = getattr(subprocess, 'CREATE_NEW_PROCESS_GROUP', 0)  # (Windows has these: Ctrl-C comes to none but the first)
 _HAS_LIFELINES = hasattr(fcntl, 'F_SETSIG')
+_HAS_LIMITS = hasattr(resource, 'prlimit')  # (of another process: only Linux has them)
+_WAITING, _STARTING = 5, 3
 _LIMITED = ['/bin/sh', '-c', 'ulimit -v "$1" && shift && exec "$@"', 'sh']
 
 
@@ -50,19 +56,26 @@ _WORDS = 'out of memory'
 _TUNABLES = 'GLIBC_TUNABLES'
 _LARGE_PAGES = 'glibc.malloc.hugetlb=1'
 
+# What names certificates for Node. It would read them at its start, which takes longer than all the rest of that; the module asks no server.
+_CERTIFICATES = 'NODE_EXTRA_CA_CERTS'
+
 
 def _command(words: Sequence[str], memory: Optional[int], is_large: bool = False) -> Tuple[List[str], Optional[Dict[str, str]]]:
     """The command that runs the program on these words, with at most this many bytes of memory, or in large pages, and its environment if that
     is another."""
     program = find_program()
     command = [*program_words(program), *words]
-    if memory is None:
-        return command, {_TUNABLES: _LARGE_PAGES, **os.environ} if is_large else None
-    if memory <= _OF_PROGRAM:
+    if memory is not None and memory <= _OF_PROGRAM:
         raise OutOfMemory(_WORDS)
     if is_module(program):
-        return command, {**os.environ, 'PICKLESTEP_MEMORY': str(memory)}
+        return command, {**_environment_of_node(), **({} if memory is None else {'PICKLESTEP_MEMORY': str(memory)})}
+    if memory is None:
+        return command, {_TUNABLES: _LARGE_PAGES, **os.environ} if is_large else None
     return [*_LIMITED, str(max(1, memory // 1024)), *command], None
+
+
+def _environment_of_node() -> Dict[str, str]:
+    return {name: value for name, value in os.environ.items() if name != _CERTIFICATES}
 
 
 # What the loader of programs says where the memory limit is too small for the program itself.
@@ -74,8 +87,8 @@ class Process:
 
     def __init__(self, words: Sequence[str], files: Sequence[int] = (), memory: Optional[int] = None, stdin: bool = False,
                  command: Optional[List[str]] = None, is_large: bool = False) -> None:
-        """`command` starts something else than the program on these words. `is_large`: much memory will be used."""
-        command, environment = _command(words, memory, is_large) if command is None else (command, None)
+        """`command` starts a script of Node instead of the program on these words. `is_large`: much memory will be used."""
+        command, environment = _command(words, memory, is_large) if command is None else (command, _environment_of_node())
         self._is_limited = memory is not None
         self._is_open = False
         self._timed_out = False
@@ -120,17 +133,17 @@ class Process:
         return _pipe(self._popen.stdout)
 
     def limit_seconds(self, seconds: float) -> None:
-        """Lets the program take this much processor time, rounded up, from its start on. The system then ends it."""
+        """Lets the program take this much processor time, rounded up, from its start on. The system then ends it, where it can (`time_to_wait`)."""
         most = max(1, math.ceil(seconds))
-        # (it has ended already, or the limit of this process is lower; and only Linux has limits of another process)
-        with contextlib.suppress(OSError, ValueError, ImportError, AttributeError):
-            import resource
-            resource.prlimit(self._popen.pid, resource.RLIMIT_CPU, (most, most + 1))
+        if _HAS_LIMITS:
+            with contextlib.suppress(OSError, ValueError):  # (it has ended already, or the limit of this process is lower)
+                resource.prlimit(self._popen.pid, resource.RLIMIT_CPU, (most, most + 1))
 
     def communicate(self, script: Optional[bytes], timeout: Optional[float]) -> bytes:
         """Gives the program its whole input, and answers its whole output. The program has ended then, also after an exception."""
         try:
-            output, errors = self._popen.communicate(script, timeout)
+            with _counted_where_untold():
+                output, errors = self._popen.communicate(script, timeout)
         except subprocess.TimeoutExpired:
             raise TimedOut(f'no answer within {timeout} seconds') from None
         finally:
@@ -180,7 +193,8 @@ class Process:
         try:
             if timer is not None:
                 timer.start()
-            yield
+            with _counted_where_untold():
+                yield
         finally:
             if timer is not None:
                 timer.cancel()
@@ -213,6 +227,48 @@ class Process:
                 if stream is not None:
                     stream.close()
             _close(self._lifeline)
+
+
+class _Counted:
+    """The seconds of other processes that the system does not tell."""
+
+    seconds = 0.0
+
+
+def count_seconds(seconds: float) -> None:
+    """Counts processor time of a process that goes on. (The system tells it after its end.)"""
+    _Counted.seconds += seconds
+
+
+def count_ended(seconds: float) -> None:
+    """Counts it no more, where the system tells it now."""
+    if resource is not None:
+        _Counted.seconds -= seconds
+
+
+@contextlib.contextmanager
+def _counted_where_untold() -> Iterator[None]:
+    """Within it a program is waited for. Where the system does not tell what it took (Windows), the time by the clock is taken for that."""
+    begin = time.monotonic()
+    try:
+        yield
+    finally:
+        if resource is None:
+            count_seconds(time.monotonic() - begin)
+
+
+def time_to_wait(seconds: float) -> float:
+    """How long a program is waited for that may take so many seconds of processor time: the clock may run longer, where other processes have the
+    processor. Where the system does not end a program after that time, it ends by the clock, which also runs while it starts."""
+    return max(0.5, seconds) * _WAITING if _HAS_LIMITS else max(0.0, seconds) + _STARTING
+
+
+def seconds_of_programs() -> float:
+    """The processor time of all programs that this process waited for, and of Node as it goes on."""
+    if resource is None:
+        return _Counted.seconds
+    children = resource.getrusage(resource.RUSAGE_CHILDREN)
+    return children.ru_utime + children.ru_stime + _Counted.seconds
 
 
 def _close(file: int) -> None:

@@ -72,9 +72,9 @@ class Input:
 
     def small_content(self, most: int) -> Optional[bytes]:
         """The bytes of a file of our own that has at most so many of them."""
-        if self._own is None or not hasattr(os, 'pread'):  # (Windows has none)
+        if self._own is None:
             return None
-        content = os.pread(self._own.descriptor, most + 1, 0)
+        content = self._own.beginning(most + 1)
         return content if len(content) <= most else None
 
     def size(self) -> int:
@@ -157,6 +157,13 @@ class OwnFile:
         else:
             self.descriptor, self._name = tempfile.mkstemp(prefix='picklestep-')
             self.path, self.files = self._name, []
+
+    def beginning(self, most: int) -> bytes:
+        """What is there, up to so many bytes."""
+        if hasattr(os, 'pread'):
+            return os.pread(self.descriptor, most, 0)
+        with open(self._name, 'rb', buffering=0) as file:  # (Windows has no pread)
+            return file.read(most)
 
     def content(self) -> bytes:
         """What the program has put there. (With a name it may be another file by now.)"""

@@ -4,10 +4,15 @@ from __future__ import annotations
 
 import io
 import pickletools
+import random
 import re
 from dataclasses import dataclass
 from pathlib import Path
-from typing import Dict, Iterator, List, Optional
+from typing import Dict, Iterable, Iterator, List, Optional, TypeVar
+
+from picklestep.place import find_program, is_module
+
+T = TypeVar('T')
 
 ROOT = Path(__file__).resolve().parent.parent.parent
 REAL = sorted((ROOT / 'crates' / 'real_pickles' / 'data').glob('*.pickle'))
@@ -68,6 +73,14 @@ def disassembled(data: bytes) -> Optional[List[Shown]]:
         note = re.search(r' \((MARK at [0-9]+|as [0-9]+)\)$', match[4])
         shown.append(Shown(int(match[1]), match[3], (match.start(3) - match.end(1) - 7) // 4, note[1] if note else ''))
     return shown
+
+
+def chosen(items: Iterable[T], most: int) -> List[T]:
+    """All of them; where the program is the module, whose every start takes a tenth of a second, at most so many of them."""
+    found = list(items)
+    if len(found) <= most or not is_module(find_program()):
+        return found
+    return [found[at] for at in sorted(random.Random(most).sample(range(len(found)), most))]
 
 
 def real_pickles() -> Dict[str, bytes]:

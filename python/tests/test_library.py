@@ -1,5 +1,6 @@
 """The library in this process: its answers are those of the program, and it keeps to its limits."""
 
+import itertools
 import os
 import random
 import sys
@@ -12,6 +13,7 @@ from typing import Any, List, Optional
 from unittest import mock
 
 import picklestep
+from pickles import chosen
 from picklestep import library, place
 from picklestep.program import Process, run_program
 from picklestep.scan.blobs import Budget, BytesBlob, Limits
@@ -45,15 +47,14 @@ class Answers(unittest.TestCase):
 
     def test_real_pickles(self) -> None:
         self.assertGreater(len(PICKLES), 150)
-        for path in PICKLES:
-            for words in WORDS:
-                with self.subTest(path.name, words=words):
-                    wanted = run_program([words[0], str(path), *words[1:]])
-                    self.assertEqual(library.answer(words, path.read_bytes()), wanted)
+        for path, words in chosen(itertools.product(PICKLES, WORDS), 80):
+            with self.subTest(path.name, words=words):
+                wanted = run_program([words[0], str(path), *words[1:]])
+                self.assertEqual(library.answer(words, path.read_bytes()), wanted)
 
     def test_random_changes(self) -> None:
         chance = random.Random(7)
-        for _ in range(300):
+        for _ in chosen(range(300), 40):
             content = bytearray(chance.choice(PICKLES).read_bytes()[:chance.randrange(2, 400)])
             for _ in range(chance.randrange(4)):
                 content[chance.randrange(len(content))] = chance.randrange(256)
@@ -63,13 +64,12 @@ class Answers(unittest.TestCase):
     def test_what_edits_leave(self) -> None:
         """As the program answers of the bytes that it saves after the same lines."""
         script = b'insert 0 GLOBAL 6f730a6765746377640a\ngoto 1\nstep\ninsert 2 NONE\nundo\nnonsense\ndelete 3\nframe 2 2\nrun\n'
-        for path in PICKLES[::5]:
-            for modes in MODES:
-                saved = self.saved(path, modes, script)
-                for words in [['list', *modes], ['objects', *modes], *READINGS]:
-                    with self.subTest(path.name, words=words, modes=modes):
-                        answer = library.edited(words, '--many' in modes, '--unframed' in modes, path.read_bytes(), script)
-                        self.assertEqual(answer, self.wanted(words, saved))
+        for path, modes in chosen(itertools.product(PICKLES[::5], MODES), 5):
+            saved = self.saved(path, modes, script)
+            for words in [['list', *modes], ['objects', *modes], *READINGS]:
+                with self.subTest(path.name, words=words, modes=modes):
+                    answer = library.edited(words, '--many' in modes, '--unframed' in modes, path.read_bytes(), script)
+                    self.assertEqual(answer, self.wanted(words, saved))
 
     def saved(self, path: Path, modes: List[str], script: bytes) -> bytes:
         with tempfile.TemporaryDirectory() as folder:

@@ -20,11 +20,13 @@ from collections import Counter
 from concurrent.futures import ThreadPoolExecutor
 from pathlib import Path
 from typing import Any, Iterator, List
+from unittest import mock
 
 import cut_pickles
 import picklestep
 from examples_of_using import blocks, stories
-from pickles import real_pickles
+from pickles import chosen, real_pickles
+from picklestep import mending
 from picklestep.mending import Mended, TooCrooked, mended
 from scan_support import environment
 
@@ -78,12 +80,11 @@ class Cuts(unittest.TestCase):
     def test_all_is_kept(self) -> None:
         """What was built is in the result, unless the lines say that it was dropped."""
         random.seed(1)
-        for value in VALUES:
-            for protocol in (0, 1, 2, 4, 5):
-                data = pickle.dumps(value, protocol)
-                for cut in sorted(random.sample(range(1, len(data)), min(4, len(data) - 1))):
-                    with self.subTest(value, protocol=protocol, cut=cut):
-                        self.assert_kept(data[:cut])
+        pickles = [pickle.dumps(value, protocol) for value in VALUES for protocol in (0, 1, 2, 4, 5)]
+        cuts = [data[:cut] for data in pickles for cut in random.sample(range(1, len(data)), min(4, len(data) - 1))]
+        for data in chosen(cuts, 10):
+            with self.subTest(data):
+                self.assert_kept(data)
 
     def assert_kept(self, data: bytes) -> None:
         answer = mended(data)
@@ -109,15 +110,12 @@ class Cuts(unittest.TestCase):
     def test_nothing_more_is_done(self) -> None:
         """The result reads to its STOP, and imports and calls what the whole one does, up to the cut."""
         random.seed(2)
-        for value in VALUES:
-            for protocol in (0, 2, 4):
-                data = pickle.dumps(value, protocol)
-                whole = reaches(data)
-                for cut in random.sample(range(1, len(data)), 4):
-                    answer = picklestep.calls(mended(data[:cut]).content)
-                    self.assertTrue(answer.end.is_stopped)
-                    found = [reach.text for reach in answer if not reach.text.startswith(_FILLS)]
-                    self.assertEqual(found, [text for text in whole if not text.startswith(_FILLS)][:len(found)])
+        pickles = [pickle.dumps(value, protocol) for value in VALUES for protocol in (0, 2, 4)]
+        for data, cut in chosen([(data, cut) for data in pickles for cut in random.sample(range(1, len(data)), 4)], 10):
+            answer = picklestep.calls(mended(data[:cut]).content)
+            self.assertTrue(answer.end.is_stopped)
+            found = [reach.text for reach in answer if not reach.text.startswith(_FILLS)]
+            self.assertEqual(found, [text for text in reaches(data) if not text.startswith(_FILLS)][:len(found)])
 
     def test_loaded_is_what_was_built(self) -> None:
         """Real pickles, fifty of them cut at every place, the others at some, are loaded with harmless stand-ins. (`cut_pickles.py` tries every cut
@@ -126,30 +124,30 @@ class Cuts(unittest.TestCase):
         self.assertGreater(len(found), 100)
         whole = sorted((name for name in found if len(found[name]) > _SHORT), key=lambda name: len(found[name]))[:50]
         cuts = [(name, cut) for name, data in found.items() for cut in (range(len(data)) if name in whole else cuts_of(name, len(data)))]
+        self.assertGreater(len(cuts), 5000)
+        cuts = chosen(cuts, 15)
         with ThreadPoolExecutor(os.cpu_count()) as workers:
             faults = workers.map(lambda each: cut_pickles.fault_of(found[each[0]][:each[1]]), cuts)
             for (name, cut), fault in zip(cuts, faults):
                 with self.subTest(name, cut=cut):
                     self.assertEqual(fault, '')
-        self.assertGreater(len(cuts), 5000)
 
     def test_real_pickles(self) -> None:
         """The kept ones, each cut at two places."""
         random.seed(3)
-        tried = 0
+        cuts = []
         for name, data in real_pickles().items():
             whole = picklestep.calls(data, first=True)
-            if not whole.end.is_stopped or whole.kept or len(data) > 100_000:
-                continue
-            wanted = [reach.text for reach in whole if not reach.text.startswith(_FILLS)]
-            for cut in random.sample(range(1, len(data)), min(2, len(data) - 1)):
-                with self.subTest(name, cut=cut):
-                    answer = picklestep.calls(mended(data[:cut]).content)
-                    found = [reach.text for reach in answer if not reach.text.startswith(_FILLS)]
-                    self.assertTrue(answer.end.is_stopped)
-                    self.assertEqual(found, wanted[:len(found)])
-                    tried += 1
-        self.assertGreater(tried, 100)
+            if whole.end.is_stopped and not whole.kept and len(data) <= 100_000:
+                wanted = [reach.text for reach in whole if not reach.text.startswith(_FILLS)]
+                cuts += [(name, data[:cut], wanted) for cut in random.sample(range(1, len(data)), min(2, len(data) - 1))]
+        self.assertGreater(len(cuts), 100)
+        for name, data, wanted in chosen(cuts, 10):
+            with self.subTest(name, cut=len(data)):
+                answer = picklestep.calls(mended(data).content)
+                found = [reach.text for reach in answer if not reach.text.startswith(_FILLS)]
+                self.assertTrue(answer.end.is_stopped)
+                self.assertEqual(found, wanted[:len(found)])
 
 
 class Crooked(unittest.TestCase):
@@ -189,12 +187,11 @@ class Crooked(unittest.TestCase):
             self.assertEqual(mended(joined, True), Mended(joined, ()))
             for damage in (b'\xff', b'\xffabc', b'h\x07.'):
                 self.assertEqual(mended(joined + damage, True).content, joined)
-            for data in whole:
-                for cut in range(1, len(data), 3):
-                    alone, answer = mended(data[:cut]), mended(joined + data[:cut], True)
-                    self.assertEqual(answer.content[:len(joined)], joined)
-                    self.assertEqual(answer.content[len(joined):] or b'N.', alone.content, data[:cut])
-                    self.assertEqual(answer.kept, 0)
+            for cut in chosen([data[:cut] for data in whole for cut in range(1, len(data), 3)], 8):
+                alone, answer = mended(cut), mended(joined + cut, True)
+                self.assertEqual(answer.content[:len(joined)], joined)
+                self.assertEqual(answer.content[len(joined):] or b'N.', alone.content, cut)
+                self.assertEqual(answer.kept, 0)
 
     def test_protocols_that_are_none(self) -> None:
         for data, content, step in ((b'\x80\x41N.', b'\x80\x02N.', '0: PROTO 65 replaced by PROTO 2: S6 bad protocol 65'),
@@ -211,7 +208,8 @@ class Crooked(unittest.TestCase):
         self.assertEqual((answer.content, answer.steps[0]), (b'N.', '0: 3 bytes cut off: refused, S2 stack underflow'))
 
     def test_too_crooked(self) -> None:
-        with self.assertRaises(TooCrooked):
+        most = len(chosen(range(mending._MOST_ROUNDS), 20))
+        with mock.patch.object(mending, '_MOST_ROUNDS', most), self.assertRaises(TooCrooked):
             mended(b'N' + b'\x95\xff\xff\0\0\0\0\0\0' * 300)
 
 

@@ -4,6 +4,7 @@ from __future__ import annotations
 
 import collections
 import io
+import itertools
 import pickle
 import pickletools
 import random
@@ -15,6 +16,7 @@ from unittest import mock
 import harmless
 import picklestep
 from cut_pickles import Loader, fault_of, shape, whole_pickles
+from pickles import chosen
 from picklestep import Global
 from picklestep.shell import shell as shell_module
 from picklestep.shell.opened import Opened
@@ -148,29 +150,29 @@ class Renames(unittest.TestCase):
         return made
 
     def test_texts_that_are_modules_and_data(self) -> None:
-        for protocol in range(6):
-            for made in (['collections', collections.OrderedDict()], [collections.OrderedDict(), 'collections'], {'OrderedDict': collections.OrderedDict},
-                         [collections.OrderedDict, 'collections', collections.deque([1]), collections.OrderedDict()], ('collections',) * 3):
-                data = pickle.dumps(made, protocol)
-                with self.subTest(made, protocol=protocol):
-                    self.assert_renamed(data, 'collections', 'coll')
-                    self.assert_renamed(data, 'collections:OrderedDict', 'collections:Kept')
+        values = (['collections', collections.OrderedDict()], [collections.OrderedDict(), 'collections'], {'OrderedDict': collections.OrderedDict},
+                  [collections.OrderedDict, 'collections', collections.deque([1]), collections.OrderedDict()], ('collections',) * 3)
+        for protocol, made in chosen(itertools.product(range(6), values), 6):
+            data = pickle.dumps(made, protocol)
+            with self.subTest(made, protocol=protocol):
+                self.assert_renamed(data, 'collections', 'coll')
+                self.assert_renamed(data, 'collections:OrderedDict', 'collections:Kept')
         self.assertEqual(pickle.loads(renamed(pickle.dumps(['copyreg', collections.OrderedDict()], 4), 'collections', 'typing')), ['copyreg', {}])
 
     def test_pickles_of_picklers(self) -> None:
-        changed = 0
-        for seed in range(120):
+        changed, seeds = 0, chosen(range(120), 6)
+        for seed in seeds:
             data = dumped(seed)
             with self.subTest(seed=seed):
                 changed += self.assert_renamed(data, 'harmless', 'a.b') != data
                 changed += self.assert_renamed(data, *random.Random(seed).choice((
                     ('harmless:Plain', 'harmless:Plainer'), ('harmless:Outer.Inner', 'c:D'), ('collections', 'x' * 300),
                     ('collections:OrderedDict', 'b:O')))) != data
-        self.assertGreater(changed, 80)
+        self.assertGreater(changed, len(seeds) * 2 // 3)
 
     def test_opcodes_at_random(self) -> None:
-        changed = 0
-        for seed in range(200):
+        changed, seeds = 0, chosen(range(200), 15)
+        for seed in seeds:
             data = opcodes(seed)
             with self.subTest(seed=seed):
                 try:
@@ -179,11 +181,11 @@ class Renames(unittest.TestCase):
                     continue
                 names = random.Random(seed).choice((('old', 'fresh'), ('old:A', 'new:A'), ('old:A', 'old:B'), ('old.sub', 'old')))
                 changed += self.assert_renamed(data, *names) != data
-        self.assertGreater(changed, 30)
+        self.assertGreater(changed, len(seeds) * 3 // 20)
 
     def test_real_pickles(self) -> None:
-        tried = 0
-        for name, data in whole_pickles().items():
+        tried, found = 0, chosen(whole_pickles().items(), 15)
+        for name, data in found:
             with Shell(data, '') as shell:
                 modules = sorted({reach.name.module.decode() for reach in shell.pickle.imports()})  # type: ignore[union-attr]
             for module in modules[:2]:
@@ -192,7 +194,7 @@ class Renames(unittest.TestCase):
                     with Shell(made, '') as shell:
                         self.assertNotIn(module, {reach.name.module.decode() for reach in shell.pickle.imports()})  # type: ignore[union-attr]
                     tried += 1
-        self.assertGreater(tried, 50)
+        self.assertGreater(tried, len(found) // 4)
 
     def test_inst_and_names_of_python_2(self) -> None:
         self.assertEqual(renamed(b'(iold\nA\n.', 'old', 'new'), b'(inew\nA\n.')

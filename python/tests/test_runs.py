@@ -23,7 +23,8 @@ from unittest import mock
 
 import picklestep
 from picklestep import OutOfMemory, ProgramError, Session, TimedOut, TooLarge, library
-from picklestep.program import find_program
+from picklestep import program as running
+from picklestep.program import Process, find_program, seconds_of_programs, time_to_wait
 from picklestep.sources import Input
 from pickles import LIST
 
@@ -362,6 +363,37 @@ def memory_of() -> int:
     """How many bytes of this process lie in memory."""
     gc.collect()
     return int(Path('/proc/self/statm').read_text().split()[1]) * resource.getpagesize()
+
+
+class Untold(unittest.TestCase):
+    """Where the system neither tells nor limits what processor time a program takes."""
+
+    def setUp(self) -> None:
+        for name in ('resource', '_HAS_POLL', '_HAS_LIMITS'):
+            patch = mock.patch.object(running, name, None)
+            patch.start()
+            self.addCleanup(patch.stop)
+
+    def test_the_time_counts_that_it_is_waited_for(self) -> None:
+        before = seconds_of_programs()
+        with program('sleep 0.3\necho answer\n'):
+            self.assertEqual(b''.join(Process(['list']).blocks()), b'answer\n')
+            self.assertEqual(Process(['list']).communicate(None, None), b'answer\n')
+        self.assertGreater(seconds_of_programs() - before, 0.5)
+
+    def test_the_clock_ends_it(self) -> None:
+        self.assertEqual([time_to_wait(seconds) - time_to_wait(0) for seconds in (-1, 1, 60)], [0, 1, 60])
+
+
+class OverNode(unittest.TestCase):
+    def test_no_certificates_are_read(self) -> None:
+        environment = {'PICKLESTEP_PROGRAM': '/nowhere/picklestep.mjs', 'NODE_EXTRA_CA_CERTS': '/nowhere/some.pem'}
+        for memory in (None, 64 * MB):
+            with mock.patch.dict(os.environ, environment), mock.patch('picklestep.program.subprocess.Popen', side_effect=OSError) as started:
+                with self.assertRaises(ProgramError):
+                    picklestep.calls(b'N.', timeout=5, memory=memory)
+                self.assertNotIn('NODE_EXTRA_CA_CERTS', started.call_args[1]['env'])
+                self.assertEqual('PICKLESTEP_MEMORY' in started.call_args[1]['env'], memory is not None)
 
 
 class Answers(unittest.TestCase):

@@ -23,6 +23,8 @@ from dataclasses import replace
 from typing import Sequence
 from unittest import mock
 
+from pickles import chosen
+from picklestep.place import find_program, is_module
 from picklestep.records import End
 from picklestep.scan import Options, blobs, look
 from picklestep.scan.blobs import Budget, Limits
@@ -318,7 +320,7 @@ class Bombs(ScanCase):
             self.assertTrue(self.look('a.pkl', long).pickles[0].end.is_stopped)
 
     def test_an_answer_that_takes_long(self) -> None:
-        program = self.file('program', b"#!/bin/sh\necho '    0: import '\"'os' 'x'\"' as #0'\nexec sleep 300\n")
+        program = self.file('program', b"#!/bin/sh\n[ $1 != form ] || exit 2\necho '    0: import '\"'os' 'x'\"' as #0'\nexec sleep 300\n")
         program.chmod(0o755)
         begin = time.monotonic()
         with mock.patch.dict(os.environ, PICKLESTEP_PROGRAM=str(program)):
@@ -333,10 +335,11 @@ class Bombs(ScanCase):
         with mock.patch('picklestep.scan.reading._MOST_ANSWERED', 8 << 20):
             result = self.look('a.pkl', content)
         self.assertIn('the answers about the file have more than 8,388,608 bytes', notes_of(result))
+        seconds = 5 if is_module(find_program()) else 1  # (of which Node takes one to start where the machine has much else to do)
         begin = time.process_time()
-        result = self.look('b.pkl', content, Options(Limits(seconds=1)))
-        self.assertLess(time.process_time() - begin, 5)
-        self.assertRegex(notes_of(result), '(took more than|it took) 1 seconds')
+        result = self.look('b.pkl', content, Options(Limits(seconds=seconds)))
+        self.assertLess(time.process_time() - begin, 5 * seconds)
+        self.assertRegex(notes_of(result), f'(took more than|it took) {seconds} seconds')
         self.assertEqual([len(name) for name in names_of(result)], [len('posix.') + 500_000])
 
     def test_stored_members_that_share_their_bytes(self) -> None:
@@ -352,10 +355,10 @@ class Bombs(ScanCase):
         self.assertIn('members share bytes', notes_of(result))
 
     def test_honest_files_are_read_once(self) -> None:
-        names = [b'%d.pkl' % number for number in range(30)]
+        names = [b'%d.pkl' % number for number in chosen(range(30), 10)]
         data = zip_of([Made(name, HARMLESS * 3000) for name in names])
         result = self.look('a.zip', data, Options(Limits(unpacked=100_000)))
-        self.assertEqual((len(result.pickles), notes_of(result)), (30, ''))
+        self.assertEqual((len(result.pickles), notes_of(result)), (len(names), ''))
 
 
 class Packed(Made):

@@ -4,6 +4,7 @@ from __future__ import annotations
 
 import json
 import os
+import pickle
 import pty
 import re
 import select
@@ -14,12 +15,14 @@ import sys
 import time
 import unittest
 import unittest.mock
+from collections import OrderedDict
 from pathlib import Path
 from typing import Callable, Dict, List
 
+from pickles import chosen
 from picklestep.program import find_program
 from picklestep.scan import Options, cluster, look, pool
-from scan_support import HARMLESS, HOSTILE, MODELS, ScanCase, environment, names_of, python_with
+from scan_support import HOSTILE, MODELS, ScanCase, environment, names_of, python_with
 
 # A number of seconds by which a sleeping process is told from others.
 SLEEP = f'61.{os.getpid()}'
@@ -39,23 +42,26 @@ class RunCase(ScanCase):
         self.program = find_program()
 
     def fill(self, count: int) -> List[str]:
-        """Files of a few bytes; every tenth is hostile."""
+        """Files of a few bytes, each with its name in it; every tenth is hostile."""
         names = [f'{number:04}.pkl' for number in range(count)]
         for number, name in enumerate(names):
-            (self.files / name).write_bytes(HOSTILE if number % 10 == 0 else HARMLESS)
+            argument = f'id {name}'.encode()
+            hostile = HOSTILE.replace(b'\x02\0\0\0id', len(argument).to_bytes(4, 'little') + argument)
+            (self.files / name).write_bytes(hostile if number % 10 == 0 else pickle.dumps((name, OrderedDict), 4))
         return names
 
     def wrapped(self, line: str) -> Dict[str, str]:
-        """An environment whose program first does what a line of shell says; `$file` is the file that it is given."""
+        """An environment whose program first does what a line of shell says; `$file` is the name in what it is given, which may be a copy."""
         script = self.folder / 'program'
-        script.write_text(f'#!/bin/bash\nfile=$(readlink -f -- "$2")\n{line}\nexec {self.program} "$@"\n')
+        script.write_text(f'#!/bin/bash\nfile=$(grep -ao "[0-9]*\\.pkl" -- "$2")\n{line}\nexec {self.program} "$@"\n')
         script.chmod(0o755)
         return {**environment(), 'PICKLESTEP_PROGRAM': str(script)}
 
     def start(self, words: List[str], env: Dict[str, str], python: str = sys.executable) -> 'subprocess.Popen[str]':
-        """A run that goes on. Ctrl-C reaches it also where this process ignores it (as one that a script starts in the background)."""
+        """A run that goes on, as a group of its own. Ctrl-C reaches it also where this process ignores it (as one that a script starts in the
+        background)."""
         return subprocess.Popen([python, '-m', 'picklestep', 'scan', *words], cwd=self.folder, env=env, stdout=subprocess.PIPE,
-                                stderr=subprocess.PIPE, text=True, preexec_fn=_heed_ctrl_c)
+                                stderr=subprocess.PIPE, text=True, preexec_fn=_heed_ctrl_c, start_new_session=True)
 
     def wait_for(self, test: Callable[[], bool]) -> None:
         """Waits until something holds, twenty seconds at most."""
@@ -86,13 +92,14 @@ class Runs(RunCase):
         self.assertTrue(os.path.exists(f'{self.folder}/program.seen'))
 
     def test_a_worker_that_dies_at_one_of_many_small_files(self) -> None:
-        names = self.fill(120)
-        env = self.wrapped('case $file in *0091.pkl) kill -9 $PPID; sleep 1;; esac')
+        names = self.fill(len(chosen(range(120), 40)))
+        fatal = names[-29]
+        env = self.wrapped(f'case $file in *{fatal}) kill -9 $PPID; sleep 1;; esac')
         run = subprocess.run([sys.executable, '-m', 'picklestep', 'scan', 'files', '--json', '--jobs', '2'], cwd=self.folder, env=env,
-                             capture_output=True, text=True, timeout=120)
+                             capture_output=True, text=True, timeout=300)
         results = {result['path']: result['error'] for result in map(json.loads, run.stdout.splitlines())}
         self.assertEqual(sorted(results), [f'files/{name}' for name in names])
-        self.assertEqual([path for path, error in results.items() if error is not None], ['files/0091.pkl'])
+        self.assertEqual([path for path, error in results.items() if error is not None], [f'files/{fatal}'])
 
     def test_a_file_that_kills_each_worker(self) -> None:
         self.fill(6)
@@ -122,7 +129,7 @@ class Runs(RunCase):
                 first = run.stdout.readline()
                 self.wait_for(lambda: self.sleeping() > 0)
                 begin = time.monotonic()
-                run.send_signal(signal.SIGINT)
+                os.killpg(run.pid, signal.SIGINT)  # (as a terminal does)
                 rest, errors = run.communicate(timeout=30)
                 self.assertLess(time.monotonic() - begin, 5)
                 self.assertEqual((run.returncode, errors), (130, ''))

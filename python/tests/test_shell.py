@@ -27,7 +27,7 @@ from picklestep.shell.opened import Opened
 from picklestep.shell.shell import Shell, WordError
 from picklestep.shell.words import SAMPLE, WORDS
 from picklestep.view.document import Document
-from pickles import changed_pickles, real_pickles
+from pickles import changed_pickles, chosen, real_pickles
 from terminals import Terminal
 
 _QUESTION = '(yes/no) '
@@ -257,7 +257,7 @@ class Words(unittest.TestCase):
     def test_breaks_come_back_with_their_opcodes(self) -> None:
         """They are where a session of the program has them after the same edits."""
         rng = random.Random(51)
-        for _ in range(20):
+        for _ in chosen(range(20), 2):
             shell = self.shell(SAMPLE)
             with picklestep.Session(SAMPLE) as session:
                 for place in rng.sample(range(10), 4):
@@ -300,7 +300,7 @@ class Words(unittest.TestCase):
         self.assertEqual(self.place(shell), 2)
 
     def test_who(self) -> None:
-        for name, data in real_pickles().items():
+        for name, data in chosen(real_pickles().items(), 10):
             heap = picklestep.objects(data, many=True)
             with self.subTest(name), Shell(data, '', many=True) as shell:
                 names = [opcode.name for opcode in picklestep.listing(data, many=True)]
@@ -380,7 +380,7 @@ class Words(unittest.TestCase):
     def test_what_is_known_after_edits(self) -> None:
         """The opcodes and the objects that they make are those that a shell finds which reads the edited pickle."""
         rng = random.Random(51)
-        for name, data in sorted(real_pickles().items(), key=lambda each: len(each[1]))[10:130:6]:
+        for name, data in chosen(sorted(real_pickles().items(), key=lambda each: len(each[1]))[10:130:6], 2):
             with Shell(data, '', many=True) as shell:
                 for _ in range(12):
                     place = rng.randrange(len(shell.pickle.lines) + 1)

@@ -17,6 +17,7 @@ is_for_program() {
 enter() {
     if is_for_program "$@"; then
         choose_program || exit 2
+        unset NODE_EXTRA_CA_CERTS # (Node would read certificates, which takes longer than all the rest of its start)
         exec "$chosen" "$@"
     elif command -v python3 >/dev/null; then
         exec python3 -I ${PYTHONDONTWRITEBYTECODE:+-B} "$package/entrance.py" "$@"

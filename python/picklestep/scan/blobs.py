@@ -14,6 +14,7 @@ from dataclasses import dataclass
 from functools import lru_cache
 from typing import BinaryIO, Iterable, Iterator, List, Optional, Sequence, Tuple, cast
 
+from ..program import seconds_of_programs
 from ..sources import opens_descriptors
 
 __all__ = ['CHUNK', 'Blob', 'Budget', 'BytesBlob', 'FileBlob', 'JoinedBlob', 'LimitMet', 'Limits', 'OpenedBlob', 'Part',
@@ -191,22 +192,13 @@ class _Used:
         """The seconds of processor time."""
         now = time.monotonic()
         if now >= self._next:
-            self._seconds = time.process_time() + _time_of_children()
+            self._seconds = time.process_time() + seconds_of_programs()
             self.memory = _own_size()
             self._next = now + _WAIT
         return self._seconds
 
 
 _used = _Used()
-
-
-def _time_of_children() -> float:
-    try:
-        import resource
-    except ImportError:  # (Windows has none)
-        return 0.0
-    children = resource.getrusage(resource.RUSAGE_CHILDREN)
-    return children.ru_utime + children.ru_stime
 
 
 class Blob:

@@ -12,7 +12,7 @@ from typing import Callable, Dict, Iterable, List, Optional, Tuple
 from .. import library
 from ..answers import closing_in
 from ..errors import OutOfMemory, PicklestepError, ProgramError, TimedOut
-from ..program import Process
+from ..program import Process, time_to_wait
 from ..reaches import LineKey, line_of, number_in, offset_of, reach_of, reached_lines, text_of
 from ..records import End, Extension, Global, Name, Ref
 from ..session import Session
@@ -25,7 +25,7 @@ from .canonical.joblib import SIGN
 from .item_kinds import ItemKinds
 from .results import Call, Import, Pickle, Place
 
-__all__ = ['Asked', 'Enough', 'Summary', 'WAITING', 'calls_in_form', 'calls_words', 'is_plain_name', 'is_worked_out', 'shown_name', 'why_unread']
+__all__ = ['Asked', 'Enough', 'Summary', 'calls_in_form', 'calls_words', 'is_plain_name', 'is_worked_out', 'shown_name', 'why_unread']
 
 # These lines are about an import.
 _IMPORTS = ('import', 'inst')
@@ -51,9 +51,6 @@ _NOT_KNOWN = End('unknown', text='not known')
 
 # A pickle cannot take more memory than this for each of its bytes, so a small one needs no limit (and starts faster).
 _MEMORY_OF_A_BYTE = 4096
-
-# The clock may run so many times as long as the processor, where other processes have it.
-WAITING = 5
 
 # With less processor time left, in seconds, nothing is asked in this process, which cannot be stopped.
 _LITTLE_TIME = 1
@@ -382,7 +379,7 @@ class Asked:
         try:
             process = Process([*words, self._path()], memory=may_take if self._blob.size * _MEMORY_OF_A_BYTE > may_take else None)
             process.limit_seconds(budget.seconds)
-            with closing(process.blocks(max(0.5, budget.seconds) * WAITING)) as pieces:
+            with closing(process.blocks(time_to_wait(budget.seconds))) as pieces:
                 summary.take(pieces)
         except Enough as limit:
             summary.trouble = f'{limit}: the rest of it is not looked at'

@@ -180,12 +180,13 @@ class Document:
 
     def _read(self) -> None:
         """Reads the listing, the objects, and what is imported and called."""
-        if not (self._edits or self.version):
-            self._read_from(self.session._input)
-        elif not self._read_at_once():
-            self._content = self.version + 1, self.session.bytes()
-            with Input(self._content[1]) as given:
-                self._read_from(given)
+        if not self._read_at_once():
+            if self._edits or self.version:
+                self._content = self.version + 1, self.session.bytes()
+                with Input(self._content[1]) as given:
+                    self._read_from(given)
+            else:
+                self._read_from(self.session._input)
         self.version += 1
         self._heap: Optional[Lines] = None
         self.edited = places_edited(self._edits)
@@ -193,8 +194,8 @@ class Document:
             self.breaks = broken_places(self.session.items().text)
 
     def _read_at_once(self) -> bool:
-        """Reads what the library says of a small pickle as the edits leave it. False where it is to be saved for the program: there is no library,
-        or the listing ends before its last opcode."""
+        """Reads what the library says of a small pickle as the edits leave it. False where the program is to be asked: there is no library, or the
+        listing ends before its last opcode."""
         with self.session._asked() as asked:
             answers = read_answers(asked.in_process, self._options, self._codes)
         if answers is None or len(answers[0]) < self.session.where().places:

@@ -9,7 +9,7 @@ from typing import Optional
 
 from ... import library
 from ...errors import OutOfMemory, PicklestepError, TimedOut
-from ...program import run_program
+from ...program import run_program, time_to_wait
 from ...texts import IN_FORM, LinesError, other_form
 from ..blobs import Blob, Budget, FileBlob, JoinedBlob, PartMet, spooled
 from .forms import NotCanonical
@@ -21,8 +21,6 @@ _WORDS = ('form',)
 BEHIND = 'bytes behind STOP'
 # The program takes at most so many bytes of memory for each byte: a small input needs no limit.
 _MEMORY_OF_A_BYTE = 32
-# The clock may run so many times as long as the processor, where other processes have it.
-_WAITING = 5
 
 
 def content_of(blob: Blob) -> Optional[bytes]:
@@ -61,7 +59,7 @@ def _run(path: str, size: int, budget: Optional[Budget]) -> bytes:
     memory = timeout = None
     if budget is not None:
         memory = budget.memory() if size * _MEMORY_OF_A_BYTE > budget.memory() else None
-        timeout = max(0.5, budget.seconds) * _WAITING
+        timeout = time_to_wait(budget.seconds)
     try:
         return run_program([*_WORDS, path], memory=memory, timeout=timeout)
     except (OutOfMemory, TimedOut) as error:

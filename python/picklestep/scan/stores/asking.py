@@ -13,10 +13,10 @@ from dataclasses import replace
 from typing import Iterator, List, Optional, Sequence
 
 from ...errors import PicklestepError
-from ...program import Process
+from ...program import Process, time_to_wait
 from ...texts import before_headings, lines_with_offsets, lowered
 from ..blobs import Budget, BytesBlob, Limits, spooled
-from ..reading import WAITING, Asked, Enough, Summary, calls_words
+from ..reading import Asked, Enough, Summary, calls_words
 from .walk import stops_at_end
 
 __all__ = ['MOST_BYTES', 'MOST_PICKLES', 'NOTHING', 'answers']
@@ -74,7 +74,7 @@ def _together(contents: Sequence[bytes], budget: Budget, keep_lines: bool, full:
         try:
             process = Process([*calls_words(full), copy.path()], memory=may_take if copy.size * _MEMORY_OF_A_BYTE > may_take else None)
             process.limit_seconds(budget.seconds)
-            with closing(process.blocks(max(0.5, budget.seconds) * WAITING)) as pieces:
+            with closing(process.blocks(time_to_wait(budget.seconds))) as pieces:
                 for piece in pieces:
                     text += piece
                     if len(text) > _MOST_ANSWER:
