@@ -96,9 +96,9 @@ fn status_of(script: &Script) -> u8 {
 fn standing<P: Past>(alloc: Global, session: &mut Session<P>) -> Result<Vec<u8>, Stop> {
     let lines: &[u8] = b"where\nitems\nstack\nmemo\nobjects\nback\nstack\n";
     let mut source = FromRead::new(lines);
-    let mut sink = paper(alloc)?;
-    converse(alloc, session, &mut source, &mut sink)?;
-    Ok(taken(sink)?)
+    let mut page = paper(alloc)?;
+    converse(alloc, session, &mut source, &mut page)?;
+    Ok(taken(page)?)
 }
 
 /// A script with all its lines and all its answers, and what is shown of a session that has obeyed none of the lines, one of them, and
@@ -118,8 +118,8 @@ fn course_of(alloc: Global, script: &Script) -> Result<Course, Fail> {
         let (lines, _) = first(alloc, script, count)?;
         let mut session = opened(alloc, script)?;
         let mut source = FromRead::new(lines.as_slice());
-        let mut sink = paper(alloc)?;
-        converse(alloc, &mut session, &mut source, &mut sink)?;
+        let mut page = paper(alloc)?;
+        converse(alloc, &mut session, &mut source, &mut page)?;
         stands.push(standing(alloc, &mut session)?)?;
     }
     let (lines, text) = first(alloc, script, script.lines.len())?;
@@ -180,13 +180,13 @@ fn run(
     let (block, room, most) = devices;
     let mut session = opened(alloc, &course.script)?;
     let mut source = Drip::new(&course.lines, block.max(1), reads);
-    let mut sink = Buffered::with_room(alloc, Sip::new(alloc, most.max(1), writes), room)?;
-    let answer = converse(alloc, &mut session, &mut source, &mut sink);
-    let answer = written_out(&mut sink, answer);
+    let mut page = Buffered::with_room(alloc, Sip::new(alloc, most.max(1), writes), room)?;
+    let answer = converse(alloc, &mut session, &mut source, &mut page);
+    let answer = written_out(&mut page, answer);
     let mut written = Vec::new(alloc);
-    written.extend_from_slice(sink.get_ref().taken())?;
+    written.extend_from_slice(page.get_ref().taken())?;
     Ok(Ran {
-        ending: (answer, source.failures(), sink.get_ref().failures()),
+        ending: (answer, source.failures(), page.get_ref().failures()),
         written,
         stands: standing(alloc, &mut session)?,
     })
@@ -332,12 +332,12 @@ fn insist_on_line<P: Past>(
     let mut is_lacking = false;
     for _ in 0..2 {
         let mut source = Drip::new(line.as_bytes(), 7, u64::MAX);
-        let Ok(mut sink) = page_over(alloc, Sip::new(alloc, 7, u64::MAX)) else {
+        let Ok(mut page) = page_over(alloc, Sip::new(alloc, 7, u64::MAX)) else {
             continue;
         };
-        let answer = converse(alloc, session, &mut source, &mut sink);
-        let answer = written_out(&mut sink, answer);
-        let written = sink.get_ref().taken();
+        let answer = converse(alloc, session, &mut source, &mut page);
+        let answer = written_out(&mut page, answer);
+        let written = page.get_ref().taken();
         if written == wanted.as_bytes() {
             let status = u8::from(wanted.starts_with("refused: "));
             let may_lack = may_lack(line, wanted, before.0, session.cursor(), kept);
@@ -413,10 +413,10 @@ fn refused_memory_of_many(rt: HostRuntime) -> Result<(), Fail> {
 /// An answer that only a document has of more items than a test can make.
 #[test]
 fn too_many_items(rt: HostRuntime) -> Result<(), Fail> {
-    let mut sink = paper(rt.alloc())?;
+    let mut page = paper(rt.alloc())?;
     let reply = Reply::Refused(Fault::Edit(EditFault::TooManyItems));
-    write_reply(End::Stopped, reply, &mut sink)?;
+    write_reply(End::Stopped, reply, &mut page)?;
     let text: &[u8] = b"refused: C9 E7 too many items\n";
-    assert_eq!(rt; taken(sink)?.as_slice(), text);
+    assert_eq!(rt; taken(page)?.as_slice(), text);
     Ok(())
 }

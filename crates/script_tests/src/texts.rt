@@ -198,17 +198,17 @@ fn status_of(text: &str) -> u8 {
 /// it where it did not fail, and was not called again.
 fn breaks_right(alloc: Global, row: &Row, most: usize, calls: u64) -> Result<bool, AllocError> {
     let (text, many, bytes, wanted) = *row;
-    let mut sink = page_over(alloc, Sip::new(alloc, most.max(1), calls))?;
-    let answer = write_text(alloc, text, many, false, bytes, &mut sink);
-    let answer = written_out(&mut sink, answer);
-    let taken = sink.get_ref().taken();
+    let mut page = page_over(alloc, Sip::new(alloc, most.max(1), calls))?;
+    let answer = write_text(alloc, text, many, false, bytes, &mut page);
+    let answer = written_out(&mut page, answer);
+    let taken = page.get_ref().taken();
     let ending = if taken.len() == wanted.len() {
         (Ok(status_of(wanted)), 0)
     } else {
         (Err(Stop::Write), 1)
     };
     Ok(
-        (answer, sink.get_ref().failures()) == ending
+        (answer, page.get_ref().failures()) == ending
             && wanted.as_bytes().starts_with(taken)
             && (most > 1 || taken.len() as u64 == calls),
     )
@@ -230,19 +230,19 @@ fn failing_sinks(rt: HostRuntime) -> Result<(), Fail> {
 /// Whether a text is written with ample memory.
 fn is_written(alloc: Global, row: &Row) -> Result<bool, Stop> {
     let (text, many, bytes, wanted) = *row;
-    let mut sink = paper(alloc)?;
-    let status = write_text(alloc, text, many, false, bytes, &mut sink)?;
-    Ok(taken(sink)?.as_slice() == wanted.as_bytes() && status == status_of(wanted))
+    let mut page = paper(alloc)?;
+    let status = write_text(alloc, text, many, false, bytes, &mut page)?;
+    Ok(taken(page)?.as_slice() == wanted.as_bytes() && status == status_of(wanted))
 }
 
 /// Whether a text is written where one request for memory may be refused: all of it, or a beginning, and all once it is asked for
 /// again. A report is not begun without memory for all of it.
 fn insists(alloc: Global, row: &Row) -> Result<bool, Stop> {
     let (text, many, bytes, wanted) = *row;
-    let mut sink = insist_on_paper(alloc)?;
-    let answer = write_text(alloc, text, many, false, bytes, &mut sink);
-    let answer = written_out(&mut sink, answer);
-    let written = sink.into_inner().into_inner();
+    let mut page = insist_on_paper(alloc)?;
+    let answer = write_text(alloc, text, many, false, bytes, &mut page);
+    let answer = written_out(&mut page, answer);
+    let written = page.into_inner().into_inner();
     let is_whole = written.as_slice() == wanted.as_bytes();
     let is_begun = wanted.as_bytes().starts_with(written.as_slice());
     let is_free = text != Text::Objects || written.is_empty();
