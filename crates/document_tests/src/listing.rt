@@ -50,12 +50,12 @@ fn listed(alloc: Global, document: &Document, bytes: &[u8]) -> Result<Option<Vec
     if bytes.len() > LIMIT {
         return Ok(None);
     }
-    let mut sink = paper(alloc)?;
-    let first = list_bytes(alloc, document.is_many(), false, bytes, &mut sink)?;
-    let text = taken(sink)?;
-    let mut sink = paper(alloc)?;
-    let second = write_listing(alloc, document, &mut sink)?;
-    let is_so = taken(sink)?.as_slice() == text.as_slice() && first == second;
+    let mut page = paper(alloc)?;
+    let first = list_bytes(alloc, document.is_many(), false, bytes, &mut page)?;
+    let text = taken(page)?;
+    let mut page = paper(alloc)?;
+    let second = write_listing(alloc, document, &mut page)?;
+    let is_so = taken(page)?.as_slice() == text.as_slice() && first == second;
     Ok(is_so.then_some(text))
 }
 
@@ -64,12 +64,12 @@ fn reported(alloc: Global, document: &Document, bytes: &[u8]) -> Result<Option<V
     if bytes.len() > LIMIT {
         return Ok(None);
     }
-    let mut sink = paper(alloc)?;
-    let first = report_of_bytes(alloc, document.is_many(), false, bytes, &mut sink)?;
-    let text = taken(sink)?;
-    let mut sink = paper(alloc)?;
-    let second = write_document_report(alloc, document, &mut sink)?;
-    let is_so = taken(sink)?.as_slice() == text.as_slice() && first == second;
+    let mut page = paper(alloc)?;
+    let first = report_of_bytes(alloc, document.is_many(), false, bytes, &mut page)?;
+    let text = taken(page)?;
+    let mut page = paper(alloc)?;
+    let second = write_document_report(alloc, document, &mut page)?;
+    let is_so = taken(page)?.as_slice() == text.as_slice() && first == second;
     Ok(is_so.then_some(text))
 }
 

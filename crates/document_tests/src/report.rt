@@ -107,9 +107,9 @@ pub fn opened(alloc: Global, many: bool, bytes: &[u8]) -> Result<Document, DocFa
 /// The text and the status of a report, or nothing where memory is refused.
 fn try_report(alloc: Global, many: bool, bytes: &[u8]) -> Option<(Vec<u8>, u8)> {
     let document = opened(alloc, many, bytes).ok()?;
-    let mut sink = paper(alloc).ok()?;
-    let status = write_document_report(alloc, &document, &mut sink).ok()?;
-    let text = taken(sink).ok()?;
+    let mut page = paper(alloc).ok()?;
+    let status = write_document_report(alloc, &document, &mut page).ok()?;
+    let text = taken(page).ok()?;
     Some((text, status))
 }
 
@@ -125,9 +125,9 @@ fn deep_object(rt: HostRuntime) -> Result<(), Fail> {
     bytes.push(b')')?;
     bytes.resize(100_001, 0x85)?;
     let machine = machine_of(rt.alloc(), &bytes, 100_001)?;
-    let mut sink = paper(rt.alloc())?;
-    write_show(rt.alloc(), &machine, 100_000, &mut sink)?;
-    let shown = taken(sink)?;
+    let mut page = paper(rt.alloc())?;
+    write_show(rt.alloc(), &machine, 100_000, &mut page)?;
+    let shown = taken(page)?;
     assert!(rt;
         shown
             .as_slice()
@@ -227,10 +227,10 @@ fn report_with_little(alloc: Global, many: bool, bytes: &[u8]) -> Result<bool, F
         None => reported(alloc, many, bytes)?,
     };
     let document = insist_on_reading(alloc, many, bytes)?;
-    let mut sink = insist_on_paper(alloc)?;
-    let answer = write_document_report(alloc, &document, &mut sink);
-    let answer = written_out(&mut sink, answer);
-    let written = sink.into_inner().into_inner();
+    let mut page = insist_on_paper(alloc)?;
+    let answer = write_document_report(alloc, &document, &mut page);
+    let answer = written_out(&mut page, answer);
+    let written = page.into_inner().into_inner();
     match answer {
         Ok(found) => Ok(found == status && written.as_slice() == text.as_slice()),
         Err(stop) => {
@@ -247,10 +247,10 @@ fn show_with_little(alloc: Global, machine: &Machine, id: u32) -> Result<bool, F
         Ok(text) => text,
         Err(_) => text_of(alloc, machine, Text::Show(id))?,
     };
-    let mut sink = insist_on_paper(alloc)?;
-    let answer = write_show(alloc, machine, id, &mut sink);
-    let answer = written_out(&mut sink, answer);
-    let written = sink.into_inner().into_inner();
+    let mut page = insist_on_paper(alloc)?;
+    let answer = write_show(alloc, machine, id, &mut page);
+    let answer = written_out(&mut page, answer);
+    let written = page.into_inner().into_inner();
     if !is_answer(&written, &text, answer) {
         return Ok(false);
     }
@@ -297,9 +297,9 @@ fn forty_doublings(rt: HostRuntime) -> Result<(), Fail> {
         bytes.extend_from_slice(b"2\x86")?;
     }
     let machine = machine_of(rt.alloc(), &bytes, bytes.len())?;
-    let mut sink = paper(rt.alloc())?;
-    write_show(rt.alloc(), &machine, 40, &mut sink)?;
-    let shown = taken(sink)?;
+    let mut page = paper(rt.alloc())?;
+    write_show(rt.alloc(), &machine, 40, &mut page)?;
+    let shown = taken(page)?;
     let lines = shown.iter().filter(|byte| **byte == b'\n').count();
     assert_eq!(rt; lines, 81);
     assert!(rt;

@@ -65,7 +65,8 @@ state_left (b ∷ bytes) s = s
 -- that the lines of a reading tell it, and which values it holds as long as bytes are left
 abbrev pub TellsWay : World → (ℕ → Value) → Pickles → List ℕ → Way → Standing → Type 0
 TellsWay w V p bytes way q =
-    AreListed w V (acts_before V way q) (λ n. state_left (all_left (load_framed w p bytes n).reader) (state_behind way q n)) (λ n. (load_framed w p bytes n).now)
+    AreListed w V (acts_before V way q) (λ n. state_left (all_left (load_framed w p bytes n).reader) (state_behind way q n))
+    (λ n. (load_framed w p bytes n).now)
 
 abbrev pub TellsFrames : World → (ℕ → Value) → Pickles → Frames → List ℕ → Type 0
 TellsFrames w V p f bytes = TellsWay w V p bytes (way_of p f) (standing_first detail.Cut p bytes)

@@ -1,6 +1,7 @@
-//! Conversations over devices that fail, and with requests for memory refused.
+//! Conversations over devices that fail, and with requests for memory refused. They are compared with a run over good devices with
+//! ample memory, whose answers are tried from outside.
 
-use crate::rows::{Lines, ONE, SEVERAL};
+use crate::rows::{ONE, SEVERAL};
 use pickle_doc::{DocFault, EditFault, End};
 use pickle_io::{Buffered, FromRead};
 use pickle_script::{Stop, converse, write_reply};
@@ -9,13 +10,24 @@ use std::alloc::{AllocError, Global};
 use std::test::Fail;
 use test_equipment::{Drip, Sip, page_over, paper, taken, written_out};
 
-/// Bytes, read as several pickles or as one, and lines with their answers.
+/// Bytes, read as several pickles or as one, and the lines that are given.
 #[derive(Clone, Copy)]
 struct Script {
     many: bool,
     bytes: &'static [u8],
-    lines: Lines,
+    lines: &'static [u8],
 }
+
+/// A line with its newline, what it is answered, and the status of that.
+#[derive(Drop)]
+struct Answer {
+    line: &'static [u8],
+    text: Vec<u8>,
+    status: u8,
+}
+
+/// The answer to a line that finds no memory.
+const LACKING: &[u8] = b"refused: M out of memory\n";
 
 /// The first of the conversations over one pickle, and of those over several.
 fn scripts(alloc: Global, one: usize, several: usize) -> Result<Vec<Script>, AllocError> {
@@ -53,28 +65,73 @@ fn opened_in_a_window(alloc: Global, script: &Script) -> Result<Session<Window>,
     )
 }
 
-/// The first lines of a script, and what they are answered.
-fn first(alloc: Global, script: &Script, count: usize) -> Result<(Vec<u8>, Vec<u8>), AllocError> {
-    let mut lines = Vec::new(alloc);
-    let mut answers = Vec::new(alloc);
-    for (line, answer) in script.lines.iter().take(count) {
-        lines.extend_from_slice(line.as_bytes())?;
-        answers.extend_from_slice(answer.as_bytes())?;
-    }
-    Ok((lines, answers))
-}
-
 /// How many of some bytes end a line.
 fn count_lines(bytes: &[u8]) -> usize {
     bytes.iter().filter(|byte| **byte == b'\n').count()
 }
 
+/// The first of some lines with its newline, and those behind it.
+fn split_line(lines: &[u8]) -> (&[u8], &[u8]) {
+    match lines.iter().position(|byte| *byte == b'\n') {
+        Some(place) => lines.split_at(place + 1),
+        None => (lines, b""),
+    }
+}
+
+/// Obeys a line: what it is answered, or nothing where a request for memory is refused.
+fn try_line(alloc: Global, session: &mut Session<Whole>, line: &'static [u8]) -> Option<Answer> {
+    let mut source = FromRead::new(line);
+    let mut page = paper(alloc).ok()?;
+    let status = converse(alloc, session, &mut source, &mut page).ok()?;
+    let text = taken(page).ok()?;
+    if text.as_slice() == LACKING {
+        return None;
+    }
+    Some(Answer { line, text, status })
+}
+
+/// What each line of a script is answered, or nothing where a request for memory is refused.
+fn try_answers(alloc: Global, script: &Script) -> Option<Vec<Answer>> {
+    let mut answers = Vec::new(alloc);
+    let mut session = opened(alloc, script).ok()?;
+    let mut rest = script.lines;
+    for _ in 0..count_lines(script.lines) {
+        let (line, behind) = split_line(rest);
+        answers.push(try_line(alloc, &mut session, line)?).ok()?;
+        rest = behind;
+    }
+    Some(answers)
+}
+
+/// What each line of a script is answered by good devices with ample memory. Where one request may be refused it is asked again.
+fn answers_of(alloc: Global, script: &Script) -> Result<Vec<Answer>, DocFault> {
+    match try_answers(alloc, script) {
+        Some(answers) => Ok(answers),
+        None => try_answers(alloc, script).ok_or(DocFault::Memory),
+    }
+}
+
+/// The first lines, and what they are answered.
+fn first(
+    alloc: Global,
+    answers: &[Answer],
+    count: usize,
+) -> Result<(Vec<u8>, Vec<u8>), AllocError> {
+    let mut lines = Vec::new(alloc);
+    let mut text = Vec::new(alloc);
+    for answer in answers.iter().take(count) {
+        lines.extend_from_slice(answer.line)?;
+        text.extend_from_slice(&answer.text)?;
+    }
+    Ok((lines, text))
+}
+
 /// How many lines are answered to their end by this many bytes.
-fn answered_lines(script: &Script, taken: usize) -> usize {
+fn answered_lines(answers: &[Answer], taken: usize) -> usize {
     let mut end = 0usize;
     let mut count = 0usize;
-    for (_, answer) in script.lines {
-        end = end.saturating_add(answer.len());
+    for answer in answers {
+        end = end.saturating_add(answer.text.len());
         if end <= taken {
             count = count.saturating_add(1);
         }
@@ -83,49 +140,45 @@ fn answered_lines(script: &Script, taken: usize) -> usize {
 }
 
 /// The status of a script: 1 where a line is refused.
-fn status_of(script: &Script) -> u8 {
-    u8::from(
-        script
-            .lines
-            .iter()
-            .any(|(_, answer)| answer.starts_with("refused: ")),
-    )
+fn status_of(answers: &[Answer]) -> u8 {
+    u8::from(answers.iter().any(|answer| answer.status != 0))
 }
 
 /// What a session shows of where it is, and of the step back.
 fn standing<P: Past>(alloc: Global, session: &mut Session<P>) -> Result<Vec<u8>, Stop> {
     let lines: &[u8] = b"where\nitems\nstack\nmemo\nobjects\nback\nstack\n";
     let mut source = FromRead::new(lines);
-    let mut sink = paper(alloc)?;
-    converse(alloc, session, &mut source, &mut sink)?;
-    Ok(taken(sink)?)
+    let mut page = paper(alloc)?;
+    converse(alloc, session, &mut source, &mut page)?;
+    Ok(taken(page)?)
 }
 
-/// A script with all its lines and all its answers, and what is shown of a session that has obeyed none of the lines, one of them, and
-/// so on to all.
+/// A script with all its answers, one by one and as a text, and what is shown of a session that has obeyed none of the lines, one of
+/// them, and so on to all.
 #[derive(Drop)]
 struct Course {
     script: Script,
-    lines: Vec<u8>,
+    answers: Vec<Answer>,
     text: Vec<u8>,
     stands: Vec<Vec<u8>>,
 }
 
 /// The course of a script, by good devices.
 fn course_of(alloc: Global, script: &Script) -> Result<Course, Fail> {
+    let answers = answers_of(alloc, script)?;
     let mut stands = Vec::new(alloc);
-    for count in 0..=script.lines.len() {
-        let (lines, _) = first(alloc, script, count)?;
+    for count in 0..=answers.len() {
+        let (lines, _) = first(alloc, &answers, count)?;
         let mut session = opened(alloc, script)?;
         let mut source = FromRead::new(lines.as_slice());
-        let mut sink = paper(alloc)?;
-        converse(alloc, &mut session, &mut source, &mut sink)?;
+        let mut page = paper(alloc)?;
+        converse(alloc, &mut session, &mut source, &mut page)?;
         stands.push(standing(alloc, &mut session)?)?;
     }
-    let (lines, text) = first(alloc, script, script.lines.len())?;
+    let (_, text) = first(alloc, &answers, answers.len())?;
     Ok(Course {
         script: *script,
-        lines,
+        answers,
         text,
         stands,
     })
@@ -179,14 +232,14 @@ fn run(
 ) -> Result<Ran, Fail> {
     let (block, room, most) = devices;
     let mut session = opened(alloc, &course.script)?;
-    let mut source = Drip::new(&course.lines, block.max(1), reads);
-    let mut sink = Buffered::with_room(alloc, Sip::new(alloc, most.max(1), writes), room)?;
-    let answer = converse(alloc, &mut session, &mut source, &mut sink);
-    let answer = written_out(&mut sink, answer);
+    let mut source = Drip::new(course.script.lines, block.max(1), reads);
+    let mut page = Buffered::with_room(alloc, Sip::new(alloc, most.max(1), writes), room)?;
+    let answer = converse(alloc, &mut session, &mut source, &mut page);
+    let answer = written_out(&mut page, answer);
     let mut written = Vec::new(alloc);
-    written.extend_from_slice(sink.get_ref().taken())?;
+    written.extend_from_slice(page.get_ref().taken())?;
     Ok(Ran {
-        ending: (answer, source.failures(), sink.get_ref().failures()),
+        ending: (answer, source.failures(), page.get_ref().failures()),
         written,
         stands: standing(alloc, &mut session)?,
     })
@@ -196,15 +249,16 @@ fn run(
 /// obeyed and answered, and it is not called again.
 fn is_read(alloc: Global, course: &Course, most: usize, calls: u64) -> Result<bool, Fail> {
     let ran = run(alloc, course, (most, LITTLE, most), calls, u64::MAX)?;
+    let lines = course.script.lines;
     let given = most.saturating_mul(calls as usize);
     // (one more call says the end)
-    let ending = if given < course.lines.len().saturating_add(most) {
+    let ending = if given < lines.len().saturating_add(most) {
         (Err(Stop::Read), 1, 0)
     } else {
-        (Ok(status_of(&course.script)), 0, 0)
+        (Ok(status_of(&course.answers)), 0, 0)
     };
-    let count = count_lines(course.lines.get(..given).unwrap_or(&course.lines));
-    let (_, text) = first(alloc, &course.script, count)?;
+    let count = count_lines(lines.get(..given).unwrap_or(lines));
+    let (_, text) = first(alloc, &course.answers, count)?;
     Ok(
         ran.ending == ending
             && ran.written.as_slice() == text.as_slice()
@@ -217,7 +271,7 @@ fn is_read(alloc: Global, course: &Course, most: usize, calls: u64) -> Result<bo
 fn failing_sources(rt: HostRuntime) -> Result<(), Fail> {
     for (k, course) in courses(rt.alloc())?.iter().enumerate() {
         for most in 1..8usize {
-            for calls in 0..=course.lines.len().div_ceil(most).saturating_add(1) as u64 {
+            for calls in 0..=course.script.lines.len().div_ceil(most).saturating_add(1) as u64 {
                 let is_read = is_read(rt.alloc(), course, most, calls)?;
                 assert!(rt; is_read, "script {k}, {calls} calls of {most}");
             }
@@ -235,19 +289,17 @@ fn obeyed(
     written: usize,
 ) -> Result<(usize, usize), AllocError> {
     let (block, room, _) = devices;
-    let count = course.script.lines.len();
+    let lines = course.script.lines;
+    let count = course.answers.len();
     if room == AMPLE {
         return Ok((count, count));
     }
-    let line = answered_lines(&course.script, written)
+    let line = answered_lines(&course.answers, written)
         .saturating_add(1)
         .min(count);
-    let (front, _) = first(alloc, &course.script, line)?;
+    let (front, _) = first(alloc, &course.answers, line)?;
     let read = front.len().div_ceil(block.max(1)).saturating_mul(block);
-    Ok((
-        line,
-        count_lines(course.lines.get(..read).unwrap_or(&course.lines)),
-    ))
+    Ok((line, count_lines(lines.get(..read).unwrap_or(lines))))
 }
 
 /// A conversation whose sink fails after so many calls: whether all was written, or nothing where the sink has no beginning of the
@@ -261,7 +313,7 @@ fn is_written_to_its_end(
     let ran = run(alloc, course, devices, u64::MAX, calls)?;
     let is_whole = ran.written.len() == course.text.len();
     let ending = if is_whole {
-        (Ok(status_of(&course.script)), 0, 0)
+        (Ok(status_of(&course.answers)), 0, 0)
     } else {
         (Err(Stop::Write), 0, 1)
     };
@@ -305,49 +357,44 @@ fn failing_sinks(rt: HostRuntime) -> Result<(), Fail> {
 }
 
 /// The words that ask for no memory.
-const FREE: [&str; 8] = [
-    "clear", "undo", "redo", "items", "objects", "stack", "memo", "where",
+const FREE: [&[u8]; 8] = [
+    b"clear", b"undo", b"redo", b"items", b"objects", b"stack", b"memo", b"where",
 ];
 
 /// Whether a line may find no memory that leads from one place to another over so many records. A way back finds it as far as records
 /// lead, and so does a line that is refused for what it says.
-fn may_lack(line: &str, answer: &str, from: usize, to: usize, kept: usize) -> bool {
-    if line.starts_with("goto") || line.starts_with("back") {
-        return from < to || kept < from || answer.starts_with("refused: C3 ");
+fn may_lack(answer: &Answer, from: usize, to: usize, kept: usize) -> bool {
+    let text = answer.text.as_slice();
+    if answer.line.starts_with(b"goto") || answer.line.starts_with(b"back") {
+        return from < to || kept < from || text.starts_with(b"refused: C3 ");
     }
-    let is_wrong = answer.starts_with("refused: X") || answer.starts_with("refused: V");
-    !is_wrong && !FREE.iter().any(|word| line.starts_with(word))
+    let is_wrong = text.starts_with(b"refused: X") || text.starts_with(b"refused: V");
+    !is_wrong && !FREE.iter().any(|word| answer.line.starts_with(word))
 }
 
 /// Obeys one line where one request for memory may be refused: whether it is answered as with ample memory, at once or given
 /// again. A session that runs out of memory for a line is as it was.
-fn insist_on_line<P: Past>(
-    alloc: Global,
-    session: &mut Session<P>,
-    line: &str,
-    wanted: &str,
-) -> bool {
+fn insist_on_line<P: Past>(alloc: Global, session: &mut Session<P>, wanted: &Answer) -> bool {
     let before = (session.cursor(), session.undos(), session.redos());
     let kept = session.kept();
     let mut is_lacking = false;
     for _ in 0..2 {
-        let mut source = Drip::new(line.as_bytes(), 7, u64::MAX);
-        let Ok(mut sink) = page_over(alloc, Sip::new(alloc, 7, u64::MAX)) else {
+        let mut source = Drip::new(wanted.line, 7, u64::MAX);
+        let Ok(mut page) = page_over(alloc, Sip::new(alloc, 7, u64::MAX)) else {
             continue;
         };
-        let answer = converse(alloc, session, &mut source, &mut sink);
-        let answer = written_out(&mut sink, answer);
-        let written = sink.get_ref().taken();
-        if written == wanted.as_bytes() {
-            let status = u8::from(wanted.starts_with("refused: "));
-            let may_lack = may_lack(line, wanted, before.0, session.cursor(), kept);
-            return answer == Ok(status) && (may_lack || !is_lacking);
+        let answer = converse(alloc, session, &mut source, &mut page);
+        let answer = written_out(&mut page, answer);
+        let written = page.get_ref().taken();
+        if written == wanted.text.as_slice() {
+            let may_lack = may_lack(wanted, before.0, session.cursor(), kept);
+            return answer == Ok(wanted.status) && (may_lack || !is_lacking);
         }
         if answer == Err(Stop::Write) {
             // (the sink's own growth was refused, and the line is obeyed)
-            return wanted.as_bytes().starts_with(written);
+            return wanted.text.starts_with(written);
         }
-        is_lacking = answer == Ok(1) && written == b"refused: M out of memory\n".as_slice();
+        is_lacking = answer == Ok(1) && written == LACKING;
         let is_unread = answer == Err(Stop::Memory) && written.is_empty();
         let is_same = before == (session.cursor(), session.undos(), session.redos());
         if !is_same || !is_lacking && !is_unread {
@@ -357,19 +404,20 @@ fn insist_on_line<P: Past>(
     false
 }
 
-/// Obeys all lines of a script; the first that is answered otherwise, if one is.
-fn follow<P: Past>(alloc: Global, session: &mut Session<P>, script: &Script) -> Option<usize> {
-    for (k, (line, wanted)) in script.lines.iter().enumerate() {
-        if !insist_on_line(alloc, session, line, wanted) {
-            return Some(k);
+/// Obeys all lines of a script: whether they are answered right.
+fn follow<P: Past>(alloc: Global, session: &mut Session<P>, answers: &[Answer]) -> bool {
+    for wanted in answers {
+        if !insist_on_line(alloc, session, wanted) {
+            return false;
         }
     }
-    None
+    true
 }
 
 /// Whether all lines of a script are answered right where one request for memory may be refused: in a session that keeps all records,
 /// and in one that keeps two.
 fn is_followed(alloc: Global, script: &Script) -> Result<bool, DocFault> {
+    let answers = answers_of(alloc, script)?;
     let mut session = match opened(alloc, script) {
         Err(DocFault::Memory) => opened(alloc, script)?,
         session => session?,
@@ -378,8 +426,7 @@ fn is_followed(alloc: Global, script: &Script) -> Result<bool, DocFault> {
         Err(DocFault::Memory) => opened_in_a_window(alloc, script)?,
         window => window?,
     };
-    let wrong = follow(alloc, &mut session, script);
-    Ok(wrong.is_none() && follow(alloc, &mut window, script).is_none())
+    Ok(follow(alloc, &mut session, &answers) && follow(alloc, &mut window, &answers))
 }
 
 /// The first of so many scripts over one pickle, and over several, whose lines are answered otherwise.
@@ -413,10 +460,10 @@ fn refused_memory_of_many(rt: HostRuntime) -> Result<(), Fail> {
 /// An answer that only a document has of more items than a test can make.
 #[test]
 fn too_many_items(rt: HostRuntime) -> Result<(), Fail> {
-    let mut sink = paper(rt.alloc())?;
+    let mut page = paper(rt.alloc())?;
     let reply = Reply::Refused(Fault::Edit(EditFault::TooManyItems));
-    write_reply(End::Stopped, reply, &mut sink)?;
+    write_reply(End::Stopped, reply, &mut page)?;
     let text: &[u8] = b"refused: C9 E7 too many items\n";
-    assert_eq!(rt; taken(sink)?.as_slice(), text);
+    assert_eq!(rt; taken(page)?.as_slice(), text);
     Ok(())
 }

@@ -27,9 +27,9 @@ const CYCLE: &[u8] = b"]2a.";
 
 /// What a session shows, as a text.
 fn note_of<P: Past>(alloc: Global, session: &Session<P>) -> Result<Vec<u8>, Fail> {
-    let mut sink = paper(alloc)?;
-    write_session(session, &mut sink)?;
-    Ok(taken(sink)?)
+    let mut page = paper(alloc)?;
+    write_session(session, &mut page)?;
+    Ok(taken(page)?)
 }
 
 /// What is shown at each place of some bytes that are stepped over to their end.

@@ -176,17 +176,17 @@ fn write_item<S: Page>(document: &Document, k: usize, page: &mut S) -> Result<()
 
 /// What a document shows, as a table has it.
 fn text_of(alloc: Global, document: &Document) -> Result<Vec<u8>, Wrong> {
-    let Ok(mut sink) = paper(alloc) else {
+    let Ok(mut page) = paper(alloc) else {
         return Err(Wrong::Memory);
     };
     for k in 0..document.len() {
-        write_item(document, k, &mut sink)?;
+        write_item(document, k, &mut page)?;
     }
     let start = document.offset(document.len()).unwrap_or(u64::MAX);
-    write_decimal(start, &mut sink)?;
-    write_all(&mut sink, b" ")?;
-    write_end(document.end(), &mut sink)?;
-    Ok(taken(sink)?)
+    write_decimal(start, &mut page)?;
+    write_all(&mut page, b" ")?;
+    write_end(document.end(), &mut page)?;
+    Ok(taken(page)?)
 }
 
 /// Whether bytes that read as one pickle go on after its STOP.

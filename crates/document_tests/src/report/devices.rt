@@ -63,9 +63,9 @@ fn write_text<S: Page>(
 
 /// A text with a good sink and ample memory.
 pub fn text_of(alloc: Global, machine: &Machine, text: Text<'_>) -> Result<Vec<u8>, TextStop> {
-    let mut sink = paper(alloc)?;
-    write_text(alloc, machine, text, &mut sink)?;
-    Ok(taken(sink)?)
+    let mut page = paper(alloc)?;
+    write_text(alloc, machine, text, &mut page)?;
+    Ok(taken(page)?)
 }
 
 /// What a sink is left with that takes at most this many bytes a call and fails after this many calls: whether it has all of the
@@ -78,20 +78,20 @@ fn is_whole(
     most: usize,
     calls: u64,
 ) -> Option<bool> {
-    let Ok(mut sink) = page_over(alloc, Sip::new(alloc, most.max(1), calls)) else {
+    let Ok(mut page) = page_over(alloc, Sip::new(alloc, most.max(1), calls)) else {
         return None;
     };
-    let answer = write_text(alloc, machine, text, &mut sink);
-    let answer = written_out(&mut sink, answer);
-    let is_whole = sink.get_ref().taken().len() == wanted.len();
+    let answer = write_text(alloc, machine, text, &mut page);
+    let answer = written_out(&mut page, answer);
+    let is_whole = page.get_ref().taken().len() == wanted.len();
     let right = if is_whole {
         Ok(())
     } else {
         Err(TextStop::Failed)
     };
-    if wanted.starts_with(sink.get_ref().taken())
+    if wanted.starts_with(page.get_ref().taken())
         && answer == right
-        && sink.get_ref().failures() == u64::from(!is_whole)
+        && page.get_ref().failures() == u64::from(!is_whole)
     {
         Some(is_whole)
     } else {

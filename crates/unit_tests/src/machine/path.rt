@@ -72,9 +72,9 @@ pub fn ops_of(alloc: Global, bytes: &[u8]) -> Result<Vec<Op>, Fault> {
 
 /// The whole state of a machine as a text.
 pub fn state_of(alloc: Global, machine: &Machine) -> Result<Vec<u8>, Fault> {
-    let mut sink = paper(alloc)?;
-    write_state(machine, &mut sink)?;
-    Ok(taken(sink)?)
+    let mut page = paper(alloc)?;
+    write_state(machine, &mut page)?;
+    Ok(taken(page)?)
 }
 
 /// One step of a machine whose objects are few.

@@ -19,9 +19,9 @@ fn write_pieces<S: Page>(page: &mut S) -> Result<(), Failed> {
 /// What a sink takes that has room for a part of the text: a beginning of it, and then it is not called again.
 #[test]
 fn full_sinks(rt: HostRuntime) -> Result<(), Fail> {
-    let mut sink = paper(rt.alloc())?;
-    write_pieces(&mut sink)?;
-    let whole = taken(sink)?;
+    let mut page = paper(rt.alloc())?;
+    write_pieces(&mut page)?;
+    let whole = taken(page)?;
     assert_eq!(rt; whole.as_slice(), b"7-70f'it\\'s'.".as_slice());
     let mut small = page_over(rt.alloc(), ToWrite::new(Cursor::new([0u8; 8])))?;
     let answer = write_pieces(&mut small);
