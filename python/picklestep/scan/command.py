@@ -52,12 +52,13 @@ def _positive(text: str) -> int:
     return number
 
 
-def _parser() -> argparse.ArgumentParser:
+def _parser(fewest: str = '+') -> argparse.ArgumentParser:
+    """The options and names. `fewest` is how many names there are to be, as argparse has it."""
     parser = argparse.ArgumentParser(
         prog='picklestep scan', description='Shows what the pickles in files import and call. Nothing of them is run or loaded.',
         epilog='Status: 0; 1 if there is a line to look at first (it begins with !); 2 if the command could not begin; 130 after Ctrl-C. '
                'Neither ! nor its absence is a verdict.')
-    parser.add_argument('paths', metavar='PATH', nargs='+',
+    parser.add_argument('paths', metavar='PATH', nargs=fewest,
                         help='a file, a folder, a server (redis://, memcached://, postgresql://, mysql://), a URL for fsspec, or - for names on '
                              'standard input')
     _add_lists(parser)
@@ -92,6 +93,16 @@ def _add_lists(parser: argparse.ArgumentParser) -> None:
     parser.add_argument('--deny', metavar='FILE', action='append', default=[], help='mark the names in FILE, also where they are allowed')
     parser.add_argument('--no-known', action='store_true', help='do not mark names that are known to run what they are given')
     parser.add_argument('--write-allow', metavar='FILE', help='write the names that these files import, as a list for --allow')
+
+
+def _parsed(words: List[str]) -> argparse.Namespace:
+    """What the words say. All behind the first `--` are names of files, whatever they look like: argparse, where options and names come in
+    any order, would take some for options."""
+    at = words.index('--') if '--' in words else len(words)
+    files = words[at + 1:]
+    parsed = _parser('*' if files else '+').parse_intermixed_args(words[:at])
+    parsed.paths = [*(parsed.paths or ()), *(os.path.join('.', name) if name == '-' else name for name in files)]
+    return parsed
 
 
 def _earlier(log: Optional[str]) -> Dict[str, Result]:
@@ -262,7 +273,7 @@ def _scan(words: argparse.Namespace) -> int:
 
 def main(words: Optional[List[str]] = None) -> int:
     """Does what the words say, and answers the status."""
-    parsed = _parser().parse_intermixed_args(words)
+    parsed = _parsed(sys.argv[1:] if words is None else words)
     for stream in (sys.stdout, sys.stderr):
         if isinstance(stream, io.TextIOWrapper):  # names of files may hold what the terminal's encoding does not
             stream.reconfigure(errors='backslashreplace')
