@@ -19,7 +19,7 @@ from .allow import SETS, Used, read_names
 from .blobs import Limits
 from .cluster import NoCluster, look_on_cluster
 from .files import NoNames, find_files
-from .looking import Options
+from .looking import Options, look
 from .looks import Judge
 from .pool import look_at_all
 from .progress import with_progress
@@ -215,9 +215,10 @@ def _write(path: str, text: str) -> None:
         file.write(text)
 
 
-def _followed_by(results: Generator[Result, None, None], others: List[Result]) -> Generator[Result, None, None]:
-    """Results, and then those that were added to a list meanwhile."""
+def _in_a_row(first: Iterable[Result], results: Generator[Result, None, None], others: List[Result]) -> Generator[Result, None, None]:
+    """Results, one kind behind another; the last are those that were added to a list by then."""
     with closing(results):
+        yield from first
         yield from results
     yield from others
 
@@ -257,9 +258,11 @@ def _scan(words: argparse.Namespace) -> int:
         # (Where a server does not answer, the result that says so comes when the others have come.)
         failed: List[Result] = []
         keys = chain.from_iterable(tasks(server, wanted, failed.append) for server in servers)
-        results = _followed_by(_results(words, chain(paths, keys)), failed)
-        total = len(paths) + sum(total_of(server, wanted) for server in servers)
-        what = 'files' if not servers else 'files and keys' if paths else 'keys'
+        opened = (look(path, _options(words)) for path in found.opened)
+        results = _in_a_row(opened, _results(words, chain(paths, keys)), failed)
+        files = len(paths) + len(found.opened)
+        total = files + sum(total_of(server, wanted) for server in servers)
+        what = 'files' if not servers else 'files and keys' if files else 'keys'
         with closing(with_progress(results, total, what)) as shown, closing(results):
             for result in shown:
                 output.add(result)
