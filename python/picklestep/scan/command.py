@@ -67,7 +67,8 @@ def _parser(fewest: str = '+') -> argparse.ArgumentParser:
     parser.add_argument('--brief', action='store_true', help='only lines to look at, and the summary')
     parser.add_argument('--lines', action='store_true', help="each pickle with all of the program's lines")
     parser.add_argument('--full', action='store_true', help='arguments in full: whole texts, and all parts of a tuple')
-    parser.add_argument('--everywhere', action='store_true', help='try each offset at which a pickle may begin, and texts that stand for bytes')
+    parser.add_argument('--everywhere', action='store_true',
+                        help='try each offset at which a pickle may begin, texts that stand for bytes, and what pickles hold')
     parser.add_argument('--jobs', metavar='N', type=_positive, default=1, help='files at once')
     parser.add_argument('--cluster', metavar='ADDRESS', help='hand the files to the Dask cluster at this address')
     parser.add_argument('--resume', metavar='LOG', help='leave out what an earlier --json run has in this file')

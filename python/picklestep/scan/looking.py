@@ -109,7 +109,7 @@ class Looker:
         if not opened:
             self._look_at_leaf(blob, head, where, names, depth, is_gap)
         elif kinds and self._may_be_pickle_too(kinds, blob, head, names):
-            self.is_read(blob, head, where, names)
+            self.is_read(blob, head, where, names, depth=depth)
 
     def _kinds(self, blob: Blob, head: bytes, where: Place, names: Tuple[str, ...]) -> List[Container]:
         """The kinds of containers that some reader may take these bytes for. Several, or another one than the name asks for, are told."""
@@ -140,8 +140,9 @@ class Looker:
     def _look_at_leaf(self, blob: Blob, head: bytes, where: Place, names: Tuple[str, ...], depth: int, is_gap: bool) -> None:
         """Looks at what is no container: a pickle by its name or its first bytes, or where a loader gets somewhere in it; or records."""
         begins = _begins_as_pickle(head, names)
-        if (begins or self._leads_somewhere(blob)) and self.is_read(blob, head, where, names, is_sure=begins):
-            stores.look_behind(self, blob, where, depth)
+        before = len(self.pickles)
+        if (begins or self._leads_somewhere(blob)) and self.is_read(blob, head, where, names, is_sure=begins, depth=depth):
+            stores.look_behind(self, self.pickles[before], blob, where, depth)
         elif not stores.look_further(self, blob, where, depth, is_gap):
             self._count_other(where)
 
@@ -166,9 +167,9 @@ class Looker:
     # --- Pickles ---
 
     def is_read(self, blob: Blob, head: bytes, where: Place, names: Tuple[str, ...], reads: Reads = layout_of,
-                is_sure: bool = False, calls: Optional[bytes] = None) -> bool:
+                is_sure: bool = False, calls: Optional[bytes] = None, depth: Optional[int] = None) -> bool:
         """Asks the program, and keeps its answer where the bytes are a pickle. False where they are none. `calls` is its answer, if it was
-        asked."""
+        asked. What the pickle holds may be looked at where it is said in how many others it is."""
         self.at = where
         layout, told = self._layout(blob, reads)
         opcodes = JoinedBlob(blob, layout.raw) if layout is not None and layout.raw else blob
@@ -183,6 +184,8 @@ class Looker:
             self.note(where, told, missed=True)
         if layout is not None and layout.inner:
             self._look_at_inner(blob, layout, where)
+        if depth is not None:
+            stores.look_inside(self, opcodes, where, depth)
         return True
 
     def _layout(self, blob: Blob, reads: Reads) -> Tuple[Optional[Layout], Optional[str]]:
