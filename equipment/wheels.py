@@ -199,23 +199,28 @@ def installed(wheels: Wheels, machine: str, in_process: bool, program: str) -> s
     return "" if said == "#0 none\nresult #0\n" else f"the command says {said!r}"
 
 
-def on_arm(wheels: Wheels) -> str:
-    """Its program runs under an emulator; its tags are those of both C libraries."""
-    emulator = shutil.which("qemu-aarch64")
-    if emulator is None:
-        raise Skip("there is no qemu-aarch64 (Debian's qemu-user)")
-    wheel = wheels.wheel("linux-aarch64", wheels.sources)
-    for platform in ("manylinux_2_17_aarch64", "musllinux_1_1_aarch64"):
+def by_tags(wheels: Wheels, machine: str) -> str:
+    """pip takes the wheel by the tags of both C libraries, and its program runs."""
+    runs = [] if machine == "x86_64" else [emulator_of(machine)]
+    wheel = wheels.wheel(f"linux-{machine}", wheels.sources)
+    for platform in (f"manylinux_2_17_{machine}", f"musllinux_1_1_{machine}"):
         to = wheels.folder / platform
         words = ("--target", to, "--platform", platform, "--only-binary=:all:", "--python-version", "3.9")
         wheels.call(wheels.python, "-m", "pip", "--disable-pip-version-check", "-q", "install", "--no-index", "--no-deps", *words, wheel)
         file = wheels.folder / "none.pickle"
         file.write_bytes(b"N.")
-        if wheels.call(emulator, to / "picklestep/bin/picklestep", "objects", file) != "#0 none\nresult #0\n":
-            return "its program says something else"
+        if wheels.call(*runs, to / "picklestep/bin/picklestep", "objects", file) != "#0 none\nresult #0\n":
+            return f"{platform}: its program says something else"
         if not (to / "picklestep/bin/libpicklestep.so").is_file():
-            return "it has no library"
+            return f"{platform}: it has no library"
     return ""
+
+
+def emulator_of(machine: str) -> str:
+    found = shutil.which(f"qemu-{machine}")
+    if found is None:
+        raise Skip(f"there is no qemu-{machine} (Debian's qemu-user)")
+    return found
 
 
 def from_sources(wheels: Wheels) -> str:
@@ -238,7 +243,8 @@ def over_node(wheels: Wheels) -> Noted:
 ROWS: list[tuple[str, Callable[[Wheels], "str | Noted"]]] = [
     ("wheels: from the repository and from the source distribution", same_wheels),
     ("wheels: for x86-64, installed", functools.partial(installed, machine="linux-x86_64", in_process=True, program="picklestep")),
-    ("wheels: for ARM, under an emulator", on_arm),
+    ("wheels: for x86-64, by its tags", functools.partial(by_tags, machine="x86_64")),
+    ("wheels: for ARM, by its tags, under an emulator", functools.partial(by_tags, machine="aarch64")),
     ("wheels: for any machine, installed", functools.partial(installed, machine="any", in_process=True, program="picklestep.mjs")),
     ("wheels: the source distribution, installed", from_sources),
     ("wheels: the tests of the package over the module in Node", over_node),

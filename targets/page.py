@@ -26,7 +26,7 @@ VIEW = ROOT / 'python/picklestep/view'
 NAME = 'picklestep.html'
 MOST = 3_000_000
 # The scripts of the worker; those of the page are what page.html names, with these in the place of the server.
-WORKER = ('bytes.js', 'words.js', *(f'alone/{name}.js' for name in (
+WORKER = ('bytes.js', 'texts.js', 'words.js', *(f'alone/{name}.js' for name in (
     'wasi', 'session', 'lines', 'reaches', 'literals', 'source_nodes', 'source_names', 'source_builder', 'source', 'document', 'containers',
     'worker')))
 ALONE = ('alone/examples.js', 'alone/opening.js')

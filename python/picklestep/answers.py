@@ -221,7 +221,7 @@ class Reached(Answer[Reach]):
     @cached_property
     def _totals(self) -> Tuple[int, int]:
         start, end = self._span
-        return reaches.counts_in(self.text, max(start, end - _TAIL), end)
+        return texts.counts_in(self.text, max(start, end - _TAIL), end)
 
     @property
     def imports(self) -> int:
@@ -283,7 +283,7 @@ class Calls(Reached):
 
     def __init__(self, text: str, refused_at: Optional[int] = None) -> None:
         super().__init__(text, refused_at)
-        headings = reaches.headings_in(text)
+        headings = texts.headings_in(text)
         ends = [heading.start for heading in headings[1:]] + [len(text)]
         self._parts = tuple(Part(text, heading.words, heading.end + 1, end) for heading, end in zip(headings, ends))
         if headings:

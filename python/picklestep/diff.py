@@ -14,10 +14,10 @@ from .answers import Calls
 from .comparing import Comparison, Difference, shown_value
 from .errors import PicklestepError, reason
 from .python_source.command import print_text
-from .reaches import unnumbered
 from .records import Reach
 from .sources import Source
 from .tasks import calls, frames
+from .texts import unnumbered
 
 __all__ = ['main', 'of_reaches']
 

@@ -1,52 +1,20 @@
-"""The program's lines of `calls`, read: what is imported and called, the values in a line, headings and counts."""
+"""The program's lines of `calls`, read: what is imported and called, and the values in a line."""
 
 from __future__ import annotations
 
-import re
-from dataclasses import replace
-from typing import Callable, Dict, Iterator, List, NamedTuple, Optional, Tuple, Union
+from typing import Callable, Dict, Iterator, List, Match, Optional, Pattern, Tuple, Union
 
-from .records import Brief, Briefs, End, Extension, Global, Name, Reach, Ref, Value
-from .texts import NUMBER, QUOTED, LineReader, LinesError, number_of, unquoted
+from .records import Brief, Briefs, Extension, Global, Name, Reach, Ref, Value
+from .texts import BYTES_CUT, REACH, REACH_BEGINS, REACH_WORD, TEXT_NEXT, UNIT, VALUES_CUT, LineReader, LinesError, number_of, unquoted
 
-__all__ = ['Heading', 'ItemKind', 'KindState', 'LineKey', 'NumberOfKind', 'REACHES', 'before_headings', 'counts_in', 'headings_in', 'kinds_in',
-           'line_of', 'lowered', 'made_by', 'number_in', 'offset_of', 'persistent_lines', 'reach_of', 'reached_lines', 'storage_of', 'text_of',
-           'unnumbered', 'with_offset']
+__all__ = ['LineKey', 'REACHES', 'line_of', 'number_in', 'offset_of', 'reach_of', 'reached_lines', 'text_of']
 
-# What is under these headings the strict reading does not reach. Each has the words of the second, and hardly any other line.
-_HEADING = re.compile(r'^(a loader(?: that buffers frames| that keeps its buffer)? may go on):$', re.MULTILINE)
-_IN_HEADINGS = ' may go on:\n'
-_COUNTS = re.compile(r'^([0-9]+) imports, ([0-9]+) calls$', re.MULTILINE)
-# A line of `calls`: its offset, its text and first word, and the name in it where the module is in quotes. Then its beginning, without the text.
-_NAMED = rf'(?: ((?:raw )?{QUOTED} (?:(?:raw )?{QUOTED}|#[0-9]+)))?'
-_REACHED = re.compile(rf'^ *([0-9]+): ((\w+){_NAMED}.*)$', re.MULTILINE)
-_BEGIN = re.compile(rf' *([0-9]+): (\w+){_NAMED}')
-_PERSISTENT = re.compile(r'^ *[0-9]+: persistent (.*)$', re.MULTILINE)
-# A persistent id as torch writes it, where nothing of it is cut.
-_STORAGE = re.compile(r"\('storage', global '([\w.]+)' '(\w+)', '([^'\\]*)', '[^'\\]*', int ([0-9]+)\) as #[0-9]+")
-# What is said of numpy's kinds of items: one that is made, the state of something, and a number of a kind.
-_KIND = re.compile(
-    r"^ *([0-9]+): ((?:call|new|inst) 'numpy' 'dtype' \((?:string )?(?:'([^'\\]*)'|(global 'numpy' '(?:record|void)'))?.* as #([0-9]+)"
-    r"|(?:call|new|inst) 'numpy\.dtypes' '(\w+)'.* as #([0-9]+)|call 'numpy\.(?:_?core)\.multiarray' 'scalar' \((?:#([0-9]+))?.*"
-    r"|state (.*) to #([0-9]+))$", re.MULTILINE)
-_WHOLE = r"int(?:-line)? '?(-?[0-9]+)'?"
-# Its version, the order of bytes, what it repeats, names and fields, size and place, flags, and of times their unit.
-_KIND_STATE = re.compile(rf"\({_WHOLE}, (?:string )?'[^'\\]', (none|#[0-9]+), (none|#[0-9]+), (none|#[0-9]+), {_WHOLE}, {_WHOLE}, {_WHOLE}"
-                         r'(?:, #[0-9]+)?\)')
 # Most calls are made again and again.
 _IN_ROWS = frozenset({'call', 'new', 'inst'})
-# What may be the number of an object, beside texts.
-_QUOTED_OR_NUMBER = re.compile(rf'{QUOTED}|#([0-9]+)')
-# A text in quotes, a number that was given to an object, or the place of a fault.
-_NUMBERED = re.compile(rf'({QUOTED})| as #\d+|(#)\d+| at \d+')
-# The object that a line makes.
-_MADE = re.compile(' as #([0-9]+)$')
 
 
 class _Units:
     """Reads what is in a line of `calls`: units with blanks between them, up to the word that ends them."""
-
-    _token = re.compile(rf"[ ,]*({QUOTED}|#[0-9]+|[()]|\+[0-9]+|{NUMBER}|[a-z-]+)")
 
     def __init__(self, text: str, at: int) -> None:
         self.text = text
@@ -54,12 +22,12 @@ class _Units:
 
     def peek(self) -> str:
         """The next word, sign or quoted text; an empty one at the end."""
-        match = self._token.match(self.text, self.at)
+        match = UNIT.match(self.text, self.at)
         return match[1] if match else ''
 
     def take(self) -> str:
         """The next word, sign or quoted text, which is gone over."""
-        match = self._token.match(self.text, self.at)
+        match = UNIT.match(self.text, self.at)
         if match is None:
             raise LinesError(self.text)
         self.at = match.end()
@@ -80,7 +48,7 @@ class _Units:
         items: List[Brief] = []
         while self.peek()[:1] not in (')', '+'):
             items.append(self.brief())
-        more = self._number_after(_MORE)
+        more = self._number_after(VALUES_CUT)
         if self.take() != ')':
             raise LinesError(self.text)
         return Briefs(tuple(items), more)
@@ -105,7 +73,7 @@ class _Units:
     def named(self) -> Union[Global, Ref]:
         """What an object imports that is an argument; its number where its names are not known."""
         module = self.brief()
-        if isinstance(module.value, Ref) and not _TEXT_NEXT.match(self.text, self.at):
+        if isinstance(module.value, Ref) and not TEXT_NEXT.match(self.text, self.at):
             return module.value
         return _global(module, self.brief())
 
@@ -121,9 +89,9 @@ class _Units:
 
     def more(self) -> int:
         """How many bytes were cut off a value: right behind it, as behind a comma are those of the list."""
-        return self._number_after(_CUT)
+        return self._number_after(BYTES_CUT)
 
-    def _number_after(self, sign: 're.Pattern[str]') -> int:
+    def _number_after(self, sign: Pattern[str]) -> int:
         match = sign.match(self.text, self.at)
         if match is None:
             return 0
@@ -131,10 +99,6 @@ class _Units:
         return int(match[1])
 
 
-_TEXT_NEXT = re.compile(" (?:raw )?'")
-# What was cut off: bytes of a value, values of a list.
-_CUT = re.compile(r'\+([0-9]+)')
-_MORE = re.compile(r', \+([0-9]+)')
 _CONSTANTS: Dict[str, Optional[bool]] = {'none': None, 'true': True, 'false': False}
 
 
@@ -187,7 +151,7 @@ def reach_of(line: str) -> Reach:
     >>> reach_of("    0: import 'builtins' 'eval' for '__builtin__' 'eval' as #0").said
     Global(module=b'__builtin__', name=b'eval')
     """
-    match = _REACH.match(line)
+    match = REACH_WORD.match(line)
     if match is None:
         raise LinesError(line)
     what, text = match[2], line[match.start(2):]
@@ -236,49 +200,12 @@ def _readonly(offset: int, what: str, text: str, units: _Units) -> Reach:
     return Reach(offset, what, text, target=target, number=_last_number(units))
 
 
-_REACH = re.compile(r' *([0-9]+): ([a-z]+)')
 _REACHES: Dict[str, Callable[[int, str, str, _Units], Reach]] = {
     'import': _named, 'inst': _named, 'call': _named, 'new': _named, 'state': _state, 'append': _filled, 'set': _filled, 'add': _filled,
     'persistent': _persistent, 'buffer': _buffer, 'readonly': _readonly}
 
 
-REACHES = LineReader(_REACHED, lambda match: reach_of(match[0]))
-
-
-# --- What stands in a text ---
-
-class Heading(NamedTuple):
-    """A heading of `calls`: its words, and where its line begins and ends in the text."""
-
-    words: str
-    start: int
-    end: int
-
-
-def headings_in(text: str) -> List[Heading]:
-    """The headings in a text.
-
-    >>> headings_in('0 imports, 0 calls\\na loader may go on:\\n')
-    [Heading(words='a loader may go on', start=19, end=38)]
-    """
-    return [Heading(match[1], match.start(), match.end()) for match in _HEADING.finditer(text)] if _IN_HEADINGS in text else []
-
-
-def before_headings(text: str) -> str:
-    """The lines before the first heading."""
-    return _HEADING.split(text, 1)[0]
-
-
-def counts_in(text: str, start: int, end: int) -> Tuple[int, int]:
-    """How many imports and calls a part of a text counts. Raises LinesError where it does not say so.
-
-    >>> counts_in('3 imports, 1 calls\\n', 0, 19)
-    (3, 1)
-    """
-    match = _COUNTS.search(text, start, end)
-    if match is None:
-        raise LinesError(text[start:end])
-    return int(match[1]), int(match[2])
+REACHES = LineReader(REACH, lambda match: reach_of(match[0]))
 
 
 # --- One line, as far as it is asked for ---
@@ -288,7 +215,7 @@ def counts_in(text: str, start: int, end: int) -> Tuple[int, int]:
 LineKey = Tuple[str, Optional[str]]
 
 
-def reached_lines(text: str, start: int, end: int, each: bool = False) -> 'Iterator[Tuple[LineKey, int, re.Match[str]]]':
+def reached_lines(text: str, start: int, end: int, each: bool = False) -> Iterator[Tuple[LineKey, int, Match[str]]]:
     """The lines in a part of a text, each with its key and the match of its beginning: a pickle may have a hundred thousand lines and few names.
 
     The number says how many lines of that key are counted by it, which come one after another (and have offsets of as many digits). With `each`
@@ -298,8 +225,8 @@ def reached_lines(text: str, start: int, end: int, each: bool = False) -> 'Itera
     [(('new', "'a' 'b'"), 2), (('state', None), 1)]
     """
     key: LineKey = '', None
-    match: 're.Match[str]'
-    begin, count, said, at, end_of_said = _BEGIN.match, 0, '', 0, 0
+    match: Match[str]
+    begin, count, said, at, end_of_said = REACH_BEGINS.match, 0, '', 0, 0
     for line in text[start:end].split('\n'):
         if said and line[at:end_of_said] == said:
             count += 1
@@ -317,129 +244,21 @@ def reached_lines(text: str, start: int, end: int, each: bool = False) -> 'Itera
         yield key, count, match
 
 
-def persistent_lines(text: str) -> Iterator[str]:
-    """What stands behind the word in the lines that give persistent ids.
-
-    >>> list(persistent_lines("3: persistent 'a' as #1\\n"))
-    ["'a' as #1"]
-    """
-    return (match[1] for match in _PERSISTENT.finditer(text))
-
-
-class ShownStorage(NamedTuple):
-    """A storage of torch: its kind as a module and a name in it, its key, and how many items it has (`items`)."""
-
-    module: str
-    kind: str
-    key: str
-    items: int
-
-
-def storage_of(line: str) -> Optional[ShownStorage]:
-    """The storage that such a line shows; None where it shows another id.
-
-    >>> storage_of("('storage', global 'torch' 'FloatStorage', '0', 'cpu', int 6) as #5")
-    ShownStorage(module='torch', kind='FloatStorage', key='0', items=6)
-    """
-    match = _STORAGE.fullmatch(line)
-    return None if match is None else ShownStorage(match[1], match[2], match[3], int(match[4]))
-
-
-class ItemKind(NamedTuple):
-    """A kind of numpy's items is made: the number of the object, and its code; '' where that is not known."""
-
-    number: int
-    code: str
-
-
-class KindState(NamedTuple):
-    """Something is given a state: its number, whether the state is that of a kind of items, whether it has parts, and its flags; and whether it
-    may set attributes, which the line does not show."""
-
-    number: int
-    is_whole: bool
-    has_parts: bool
-    flags: int
-    is_of_attributes: bool
-
-
-class NumberOfKind(NamedTuple):
-    """A number of a kind of items is made: the number of that kind, if it is one object of the pickle."""
-
-    kind: Optional[int]
-
-
-def kinds_in(text: str, start: int, end: int) -> Iterator[Tuple[int, str, Union[ItemKind, KindState, NumberOfKind]]]:
-    """What lines say of numpy's kinds of items and of states, each with its offset and its text.
-
-    >>> lines = "9: call 'numpy' 'dtype' ('O8', false, true) as #5\\n46: state (int 3, '|', none, none, none, int -1, int -1, int 63) to #5\\n"
-    >>> [what for _, _, what in kinds_in(lines, 0, len(lines))]
-    [ItemKind(number=5, code='O8'), KindState(number=5, is_whole=True, has_parts=False, flags=63, is_of_attributes=False)]
-    """
-    for match in _KIND.finditer(text, start, end):
-        offset, said, code, named, made, other, of_other, kind, state, given = match.groups()
-        what: Union[ItemKind, KindState, NumberOfKind]
-        if made is not None:
-            what = ItemKind(int(made), code or ('V' if named else ''))
-        elif of_other is not None:
-            what = ItemKind(int(of_other), 'O' if other == 'ObjectDType' else 'V')
-        elif given is None:
-            what = NumberOfKind(None if kind is None else int(kind))
-        else:
-            found = _KIND_STATE.fullmatch(state)
-            has_parts = found is not None and (found[2], found[3], found[4]) != ('none',) * 3
-            what = KindState(int(given), found is not None, has_parts, int(found[7]) if found else 0, state[0] == '#' or state.count(',') == 1)
-        yield int(offset), said, what
-
-
-def offset_of(match: 're.Match[str]') -> int:
+def offset_of(match: Match[str]) -> int:
     """The offset of the first line that matched."""
     return int(match[1])
 
 
-def text_of(match: 're.Match[str]') -> str:
+def text_of(match: Match[str]) -> str:
     """What stands behind the offset in the first line that matched."""
     return match.string[match.start(2):]
 
 
-def line_of(match: 're.Match[str]') -> str:
+def line_of(match: Match[str]) -> str:
     """The first line that matched."""
     return match.string
 
 
-def number_in(match: 're.Match[str]') -> str:
+def number_in(match: Match[str]) -> str:
     """The number of the object in which the first line that matched ends, which it makes or gives something, as text."""
     return match.string.rpartition('#')[2]
-
-
-def made_by(text: str) -> Optional[int]:
-    """The object that a line of `calls` makes.
-
-    >>> made_by("import 'os' 'getcwd' as #0"), made_by('state #1 to #0')
-    (0, None)
-    """
-    found = _MADE.search(text)
-    return None if found is None else int(found[1])
-
-
-def unnumbered(text: str) -> str:
-    """A line of `calls` without the numbers of objects, which every edit before it moves.
-
-    >>> unnumbered("call 'os' 'system' ('#1') as #3"), unnumbered('state #1 to #0')
-    ("call 'os' 'system' ('#1')", 'state # to #')
-    """
-    return _NUMBERED.sub(lambda found: found[1] or found[2] or '', text)
-
-
-def lowered(text: str, count: int) -> str:
-    """A line of `calls` with the numbers that its objects have where so many were not made before it.
-
-    >>> lowered("call 'os' '#9' (#9) as #12", 9)
-    "call 'os' '#9' (#0) as #3"
-    """
-    return _QUOTED_OR_NUMBER.sub(lambda match: match[0] if match[1] is None else f'#{int(match[1]) - count}', text) if count else text
-
-
-def with_offset(end: End, offset: int) -> End:
-    """An end of reading with another offset, also in its text."""
-    return replace(end, offset=offset, text=re.sub(rf'(?<= at ){end.offset}$', str(offset), end.text))

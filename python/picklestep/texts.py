@@ -1,29 +1,32 @@
-"""The program's texts, read: quoted texts, numbers, names, and whole lines. The lines of `calls` are in `reaches`.
+"""The program's texts, read: quoted texts, numbers, names, and whole lines. What a line of `calls` says as a whole, is read in `reaches`.
 
-No other module has a pattern of them. What reads one line is a function `.._of`; what finds lines in a text is named by what it finds.
+No other module writes a pattern of them. What reads one line is a function `.._of`; what finds lines in a text is named by what it finds.
 """
 
 from __future__ import annotations
 
 import re
 import struct
-from dataclasses import dataclass
+import sys
+from dataclasses import dataclass, replace
 from itertools import islice
 from typing import Callable, Dict, Generic, Iterator, List, NamedTuple, Optional, Pattern, Sequence, Set, Tuple, TypeVar, Union
 
 from .records import Argument, Change, End, Item, Mark, Object, Opcode, OtherForm, Ref, Shown, Where
 
-__all__ = ['Closing', 'FRAME_SIZE', 'HELD', 'IN_FORM', 'MARK', 'MOST_OFFSET', 'HeldObject', 'ITEMS', 'ITEM_IN_BYTES', 'Line', 'LineReader',
-           'LinesError', 'NAMED_BY_TEXTS', 'NUMBER', 'OBJECTS', 'OFFSET_IN_BYTES', 'OPCODES', 'QUOTED', 'SHOWN', 'as_made', 'begins_with_offset',
-           'broken_places', 'closing_of', 'container_in', 'end_of', 'frames_in', 'held_in', 'holding', 'key_in', 'left_in', 'line_of',
-           'lines_with_offsets', 'memo_of', 'number_of', 'object_of', 'offset_of_item', 'opcode_of', 'other_form', 'readonly_count',
-           'results_in', 'stack_of', 'stored_under', 'unquoted', 'where_of']
+__all__ = ['BYTES_CUT', 'Closing', 'FRAME_SIZE', 'HELD', 'Heading', 'HeldObject', 'IN_FORM', 'ITEMS', 'ITEM_IN_BYTES', 'ItemKind', 'KindState',
+           'Line', 'LineReader', 'LinesError', 'MARK', 'MOST_OFFSET', 'NAMED_BY_TEXTS', 'NumberOfKind', 'OBJECTS', 'OFFSET_IN_BYTES',
+           'OPCODES', 'REACH', 'REACH_BEGINS', 'REACH_WORD', 'SHOWN', 'ShownStorage', 'TEXT_NEXT', 'UNIT', 'VALUES_CUT', 'argument_at', 'as_made',
+           'before_headings', 'begins_with_offset', 'broken_places', 'closing_of', 'container_in', 'counts_in', 'end_of', 'frames_in', 'headings_in',
+           'held_in', 'holding', 'key_in', 'kinds_in', 'left_in', 'line_of', 'lines_with_offsets', 'lowered', 'made_by', 'memo_of', 'number_of',
+           'object_of', 'offset_of_item', 'opcode_of', 'other_form', 'pattern_of_line', 'persistent_lines', 'readonly_count', 'results_in',
+           'stack_of', 'storage_of', 'stored_under', 'unnumbered', 'unquoted', 'where_of', 'with_offset']
 
 Record = TypeVar('Record')
 
-QUOTED = r"'[^'\\]*(?:\\.[^'\\]*)*'"
-NUMBER = r'-?[0-9]+|le:[0-9a-f]*|f8:[0-9a-f]{16}'
-_ATOM = re.compile(f'({QUOTED})|({NUMBER})')
+_QUOTED = r"'[^'\\]*(?:\\.[^'\\]*)*'"
+_NUMBER = r'-?[0-9]+|le:[0-9a-f]*|f8:[0-9a-f]{16}'
+_ATOM = re.compile(f'({_QUOTED})|({_NUMBER})')
 _OBJECT = re.compile(r'#([0-9]+) ([a-z-]+)')
 _PARTS = re.compile(r' \((#[^)]*)\)')
 _CHANGE = re.compile(r' (?:([+&!])#([0-9]+)|\[#([0-9]+)\]=#([0-9]+))')
@@ -382,6 +385,31 @@ ITEMS = LineReader(_ITEM, _item_at)
 SHOWN = LineReader(_SHOWN, _shown_at)
 
 
+# --- Lines of a listing by their columns ---
+
+# What was taken to the end of a line is never given back, where patterns can say so: it takes half the time.
+_KEEPS = '+' if sys.version_info >= (3, 11) else ''
+
+
+def argument_at(name: str, column: int, marks: int) -> int:
+    """Where the argument begins in the line of an opcode whose code begins in a column, behind so many open marks.
+
+    >>> argument_at('BININT1', 7, 0)
+    23
+    """
+    return column + len('\\x00 ') + 4 * marks + max(10, len(name)) + 1
+
+
+def pattern_of_line(codes: str, name: str, column: int, marks: int, is_argument_taken: bool, is_bare: bool) -> str:
+    """A pattern of the line of an opcode that has one of these codes, with a group for its argument where that is taken; it is the line of
+    a name of that length. A bare one ends in its name."""
+    shown = codes[0] if '!' <= codes[0] <= '~' else f'\\x{ord(codes[0]):02x}'
+    letters = f'[{codes}]' if len(codes) > 1 else re.escape(shown)
+    at = argument_at(name, column, marks) if is_argument_taken else column + len('\\x00 ') + 4 * marks + len(name)
+    rest = f'(.*{_KEEPS})' if is_argument_taken else '' if is_bare else f'.*{_KEEPS}'
+    return f'(?s:{"." * column}){letters}(?s:{"." * (at - column - len(shown))}){rest}\n'
+
+
 # --- What stands in a text ---
 
 def frames_in(listing: Union[bytes, bytearray]) -> Iterator[Tuple[int, int]]:
@@ -466,3 +494,183 @@ def as_made(text: str) -> str:
     """
     at = text.rfind("'") + 1
     return text[:at] + _PUT_IN.sub('', text[at:])
+
+
+# --- Lines of `calls` ---
+
+# A line: its offset, its text and first word, and the name in it where the module is in quotes. Then its beginning, without the text, and that
+# without the name.
+_NAMED = rf'(?: ((?:raw )?{_QUOTED} (?:(?:raw )?{_QUOTED}|#[0-9]+)))?'
+REACH = re.compile(rf'^ *([0-9]+): ((\w+){_NAMED}.*)$', re.MULTILINE)
+REACH_BEGINS = re.compile(rf' *([0-9]+): (\w+){_NAMED}')
+REACH_WORD = re.compile(r' *([0-9]+): ([a-z]+)')
+# The next word, sign or quoted text behind the first word, and whether that is a text.
+UNIT = re.compile(rf'[ ,]*({_QUOTED}|#[0-9]+|[()]|\+[0-9]+|{_NUMBER}|[a-z-]+)')
+TEXT_NEXT = re.compile(" (?:raw )?'")
+# What was cut off: bytes of a value, values of a list.
+BYTES_CUT = re.compile(r'\+([0-9]+)')
+VALUES_CUT = re.compile(r', \+([0-9]+)')
+# What is under these headings the strict reading does not reach. Each has the words of the second, and hardly any other line.
+_HEADING = re.compile(r'^(a loader(?: that buffers frames| that keeps its buffer)? may go on):$', re.MULTILINE)
+_IN_HEADINGS = ' may go on:\n'
+_COUNTS = re.compile(r'^([0-9]+) imports, ([0-9]+) calls$', re.MULTILINE)
+_PERSISTENT = re.compile(r'^ *[0-9]+: persistent (.*)$', re.MULTILINE)
+# A persistent id as torch writes it, where nothing of it is cut.
+_STORAGE = re.compile(r"\('storage', global '([\w.]+)' '(\w+)', '([^'\\]*)', '[^'\\]*', int ([0-9]+)\) as #[0-9]+")
+# What is said of numpy's kinds of items: one that is made, the state of something, and a number of a kind.
+_ITEM_KIND = re.compile(
+    r"^ *([0-9]+): ((?:call|new|inst) 'numpy' 'dtype' \((?:string )?(?:'([^'\\]*)'|(global 'numpy' '(?:record|void)'))?.* as #([0-9]+)"
+    r"|(?:call|new|inst) 'numpy\.dtypes' '(\w+)'.* as #([0-9]+)|call 'numpy\.(?:_?core)\.multiarray' 'scalar' \((?:#([0-9]+))?.*"
+    r"|state (.*) to #([0-9]+))$", re.MULTILINE)
+_WHOLE = r"int(?:-line)? '?(-?[0-9]+)'?"
+# Its version, the order of bytes, what it repeats, names and fields, size and place, flags, and of times their unit.
+_KIND_STATE = re.compile(rf"\({_WHOLE}, (?:string )?'[^'\\]', (none|#[0-9]+), (none|#[0-9]+), (none|#[0-9]+), {_WHOLE}, {_WHOLE}, {_WHOLE}"
+                         r'(?:, #[0-9]+)?\)')
+# What may be the number of an object, beside texts.
+_QUOTED_OR_NUMBER = re.compile(rf'{_QUOTED}|#([0-9]+)')
+# A text in quotes, a number that was given to an object, or the place of a fault.
+_NUMBERED = re.compile(rf'({_QUOTED})| as #\d+|(#)\d+| at \d+')
+# The object that a line makes.
+_MADE = re.compile(' as #([0-9]+)$')
+
+
+class Heading(NamedTuple):
+    """A heading of `calls`: its words, and where its line begins and ends in the text."""
+
+    words: str
+    start: int
+    end: int
+
+
+def headings_in(text: str) -> List[Heading]:
+    """The headings in a text.
+
+    >>> headings_in('0 imports, 0 calls\\na loader may go on:\\n')
+    [Heading(words='a loader may go on', start=19, end=38)]
+    """
+    return [Heading(match[1], match.start(), match.end()) for match in _HEADING.finditer(text)] if _IN_HEADINGS in text else []
+
+
+def before_headings(text: str) -> str:
+    """The lines before the first heading."""
+    return _HEADING.split(text, 1)[0]
+
+
+def counts_in(text: str, start: int, end: int) -> Tuple[int, int]:
+    """How many imports and calls a part of a text counts. Raises LinesError where it does not say so.
+
+    >>> counts_in('3 imports, 1 calls\\n', 0, 19)
+    (3, 1)
+    """
+    match = _COUNTS.search(text, start, end)
+    if match is None:
+        raise LinesError(text[start:end])
+    return int(match[1]), int(match[2])
+
+
+def persistent_lines(text: str) -> Iterator[str]:
+    """What stands behind the word in the lines that give persistent ids.
+
+    >>> list(persistent_lines("3: persistent 'a' as #1\\n"))
+    ["'a' as #1"]
+    """
+    return (match[1] for match in _PERSISTENT.finditer(text))
+
+
+class ShownStorage(NamedTuple):
+    """A storage of torch: its kind as a module and a name in it, its key, and how many items it has (`items`)."""
+
+    module: str
+    kind: str
+    key: str
+    items: int
+
+
+def storage_of(line: str) -> Optional[ShownStorage]:
+    """The storage that such a line shows; None where it shows another id.
+
+    >>> storage_of("('storage', global 'torch' 'FloatStorage', '0', 'cpu', int 6) as #5")
+    ShownStorage(module='torch', kind='FloatStorage', key='0', items=6)
+    """
+    match = _STORAGE.fullmatch(line)
+    return None if match is None else ShownStorage(match[1], match[2], match[3], int(match[4]))
+
+
+class ItemKind(NamedTuple):
+    """A kind of numpy's items is made: the number of the object, and its code; '' where that is not known."""
+
+    number: int
+    code: str
+
+
+class KindState(NamedTuple):
+    """Something is given a state: its number, whether the state is that of a kind of items, whether it has parts, and its flags; and whether it
+    may set attributes, which the line does not show."""
+
+    number: int
+    is_whole: bool
+    has_parts: bool
+    flags: int
+    is_of_attributes: bool
+
+
+class NumberOfKind(NamedTuple):
+    """A number of a kind of items is made: the number of that kind, if it is one object of the pickle."""
+
+    kind: Optional[int]
+
+
+def kinds_in(text: str, start: int, end: int) -> Iterator[Tuple[int, str, Union[ItemKind, KindState, NumberOfKind]]]:
+    """What lines say of numpy's kinds of items and of states, each with its offset and its text.
+
+    >>> lines = "9: call 'numpy' 'dtype' ('O8', false, true) as #5\\n46: state (int 3, '|', none, none, none, int -1, int -1, int 63) to #5\\n"
+    >>> [what for _, _, what in kinds_in(lines, 0, len(lines))]
+    [ItemKind(number=5, code='O8'), KindState(number=5, is_whole=True, has_parts=False, flags=63, is_of_attributes=False)]
+    """
+    for match in _ITEM_KIND.finditer(text, start, end):
+        offset, said, code, named, made, other, of_other, kind, state, given = match.groups()
+        what: Union[ItemKind, KindState, NumberOfKind]
+        if made is not None:
+            what = ItemKind(int(made), code or ('V' if named else ''))
+        elif of_other is not None:
+            what = ItemKind(int(of_other), 'O' if other == 'ObjectDType' else 'V')
+        elif given is None:
+            what = NumberOfKind(None if kind is None else int(kind))
+        else:
+            found = _KIND_STATE.fullmatch(state)
+            has_parts = found is not None and (found[2], found[3], found[4]) != ('none',) * 3
+            what = KindState(int(given), found is not None, has_parts, int(found[7]) if found else 0, state[0] == '#' or state.count(',') == 1)
+        yield int(offset), said, what
+
+
+def made_by(text: str) -> Optional[int]:
+    """The object that a line of `calls` makes.
+
+    >>> made_by("import 'os' 'getcwd' as #0"), made_by('state #1 to #0')
+    (0, None)
+    """
+    found = _MADE.search(text)
+    return None if found is None else int(found[1])
+
+
+def unnumbered(text: str) -> str:
+    """A line of `calls` without the numbers of objects, which every edit before it moves.
+
+    >>> unnumbered("call 'os' 'system' ('#1') as #3"), unnumbered('state #1 to #0')
+    ("call 'os' 'system' ('#1')", 'state # to #')
+    """
+    return _NUMBERED.sub(lambda found: found[1] or found[2] or '', text)
+
+
+def lowered(text: str, count: int) -> str:
+    """A line of `calls` with the numbers that its objects have where so many were not made before it.
+
+    >>> lowered("call 'os' '#9' (#9) as #12", 9)
+    "call 'os' '#9' (#0) as #3"
+    """
+    return _QUOTED_OR_NUMBER.sub(lambda match: match[0] if match[1] is None else f'#{int(match[1]) - count}', text) if count else text
+
+
+def with_offset(end: End, offset: int) -> End:
+    """An end of reading with another offset, also in its text."""
+    return replace(end, offset=offset, text=re.sub(rf'(?<= at ){end.offset}$', str(offset), end.text))

@@ -17,10 +17,10 @@ from test_reaches import decimal, quoted
 
 # Lines of these two among others.
 _OPCODE = re.compile(r' *[0-9]+: (?:\\x[0-9a-f]{2}|.) +[A-Z][A-Z0-9_]*(?: .*)?')
-_OBJECT = re.compile(r'#[0-9]+ [a-z].*')
+# (a line of an object may follow its depth, as `show` prints it)
+_OBJECT = re.compile(r'(?:[0-9]+ )?(#[0-9]+ [a-z].*)')
 _SIGNS = {'append': '+', 'add': '&', 'state': '!'}
-# In `conversations.txt` a line of an object may follow its depth, as `show` prints it.
-_ROWS = ('conversations.txt', 'calls.txt')
+_ROWS = ('conversations.txt', 'texts.txt')
 
 
 def code_of(code: bytes) -> str:
@@ -77,8 +77,8 @@ class Lines(unittest.TestCase):
         return count
 
     def test_rows(self) -> None:
-        self.assertGreater(self.check(line for line in rows() if _OPCODE.fullmatch(line)), 30)
-        self.assertGreater(self.check(line for line in rows() if _OBJECT.fullmatch(line)), 20)
+        self.assertGreater(self.check(line for line in rows() if _OPCODE.fullmatch(line)), 200)
+        self.assertGreater(self.check(match[1] for match in map(_OBJECT.fullmatch, rows()) if match), 150)
 
     def test_listings_of_real_pickles(self) -> None:
         for name, data in real_pickles().items():

@@ -31,8 +31,6 @@ pub use items::write_items;
 pub use keyword::{OpWord, PlaceWord};
 pub use laws::one_cut;
 pub use line::{Action, Line, Place, Query, Syntax};
-pub use pickle_further::Pickles;
-pub use pickle_show::Detail;
 pub use place::write_where;
 pub use reply::write_reply;
 pub use stop::{Stop, line_of};

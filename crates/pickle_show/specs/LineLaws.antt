@@ -79,7 +79,7 @@ TextIsItsLines = (how : Manner) (d : Contents) → cut_lines (calls how d).text 
 abbrev pub QuotesReadBack : Type 0
 QuotesReadBack = (p q x y : List ℕ) → AreBytes p → AreBytes q → quoted p ++ x ≡ quoted q ++ y → (p ≡ q) × (x ≡ y)
 
--- an event whose line can be told from others: what was made is there, something went in where that is shown, and the numbers are below 2^64
+-- an event whose line is no other's: what was made is there, something went in where that is shown, and the numbers are below 2^64
 abbrev pub HasOwnLine : List Object → Event → Type 0
 HasOwnLine heap (event.Made id) = ((o : Object) × (slice_get heap id ≡ Some o)) × (id < 2 ^ 64)
 HasOwnLine heap (event.State value target) = target < 2 ^ 64

@@ -112,7 +112,7 @@ pub record IsUsed (name : Text) (matches : Matches) (input : GivenFile) : Type 0
   pub unframed_is : IsTrue input.unframed → first_of (codes "unframed") rows ≡ Some (codes "true")
   pub framed_is : first_of (codes "unframed") rows ≡ Some (codes "true") → IsTrue input.unframed
 
--- the pickles that are told of: all, the first, or all with the memo kept
+-- the pickles that are read: all, the first, or all with the memo kept
 abbrev pub GivesReading : Bool → Option Text → Pickles → Type 0
 GivesReading first memo pickles.First = IsTrue first × (memo ≡ None)
 GivesReading first memo pickles.All = (first ≡ false) × (memo ≡ None)

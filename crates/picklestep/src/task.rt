@@ -9,8 +9,9 @@ ghost use Rattle.picklestep.specs.CommandLine.{program, most_records, GivesReadi
 use crate::command_line::{MOST_RECORDS, command_line};
 use clap::error::ErrorKind;
 use clap::{ArgMatches, Error};
+use pickle_further::Pickles;
 use pickle_holes::{Holes, first_unfit};
-use pickle_script::{Detail, Pickles};
+use pickle_show::Detail;
 use std::alloc::{AllocError, Global};
 
 /// What is said of options that name no pickles to tell of: other words that are no task clap refuses.
@@ -150,7 +151,7 @@ fn is_given(found: &ArgMatches<'_>, name: &str) -> bool
     if text == "true" { true } else { false }
 }
 
-/// The pickles that are told of: all, unless it is the first alone or the memo is kept; no answer for both of these, or for another
+/// The pickles that are read: all, unless it is the first alone or the memo is kept; no answer for both of these, or for another
 /// word of the memo.
 fn reading_of(first: bool, memo: Option<&str>) -> Option<Pickles>
     ensures some { IfSome result (GivesReading first (option_map (λ t. t.now) memo.entry)) }
@@ -173,7 +174,7 @@ fn reading_of(first: bool, memo: Option<&str>) -> Option<Pickles>
     }
 }
 
-/// The pickles that are told of; no answer where the options name none.
+/// The pickles that are read; no answer where the options name none.
 fn pickles_of(found: &ArgMatches<'_>) -> Option<Pickles>
     ensures some { IfSome result (HasReading (rows_of (found_of found.now))) }
     ensures none { result ≡ None → (pickles : Pickles) → HasReading (rows_of (found_of found.now)) pickles → ⊥ }

@@ -5,8 +5,9 @@ ghost use Rattle.pickle_holes.specs.Holes.{end_of};
 ghost use Rattle.pickle_holes.specs.Text.{may_follow};
 ghost use Rattle.picklestep_library.specs.Asked.{is_given, is_many, is_loose, are_modes, pickles_by, pickles_of, pickles_of_input, pickles_left, detail_of, hole_of, stand_from, holes_of};
 
+use pickle_further::Pickles;
 use pickle_holes::{Hole, Holes};
-use pickle_script::{Detail, Pickles};
+use pickle_show::Detail;
 use std::alloc::{AllocError, Global};
 
 /// Several pickles that follow one another.

@@ -12,9 +12,11 @@ use crate::asked;
 use crate::fill::{NO_TASK, ROOM, Written, number_of, put};
 use crate::talk::{answers_to, open};
 use pickle_doc::LIMIT;
+use pickle_further::Pickles;
 use pickle_io::{Buffered, Sink, ToWrite};
-use pickle_script::{Detail, Pickles, Stop, Text, write_session_text};
+use pickle_script::{Stop, Text, write_session_text};
 use pickle_session::{Past, Session};
+use pickle_show::Detail;
 use std::alloc::Global;
 
 /// A text of the document of a session, and its status.

@@ -21,7 +21,9 @@ ghost use Rattle.picklestep_library.specs.Answer.{IsTextOf, IsCallsOf, IsTalkOf,
 
 pub use asked::GivenHole;
 pub use fill::Written;
-use pickle_script::{Detail, Pickles, Text};
+use pickle_further::Pickles;
+use pickle_script::Text;
+use pickle_show::Detail;
 use std::alloc::Global;
 
 /// The listing of a pickle, or where `many` holds of several that follow one another.

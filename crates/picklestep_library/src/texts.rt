@@ -11,9 +11,11 @@ ghost use Rattle.picklestep_library.specs.Answer.{IsTextOf, IsCallsOf, Fills, Fi
 use crate::asked::{self, GivenHole};
 use crate::fill::{NO_TASK, ROOM, Written, number_of, put};
 use pickle_doc::LIMIT;
+use pickle_further::Pickles;
 use pickle_holes::Holes;
 use pickle_io::{Buffered, Page, Sink, ToWrite};
-use pickle_script::{Detail, Pickles, Stop, Text, calls_of_file, write_text};
+use pickle_script::{Stop, Text, calls_of_file, write_text};
+use pickle_show::Detail;
 use std::alloc::Global;
 
 /// The text of an input, and its status.

@@ -1,6 +1,8 @@
 //! What is written of bytes, over sinks that fail and with requests for memory refused. The same rows are in the tables of `equipment`.
 
-use pickle_script::{Detail, Pickles, Stop, Text, write_text};
+use pickle_further::Pickles;
+use pickle_script::{Stop, Text, write_text};
+use pickle_show::Detail;
 use std::alloc::{AllocError, Global};
 use std::test::Fail;
 use test_equipment::{Sip, insist_on_paper, page_over, paper, taken, written_out};

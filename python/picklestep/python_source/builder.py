@@ -15,11 +15,11 @@ from operator import itemgetter
 from typing import Any, Callable, Dict, List, Optional, Sequence, Set, Tuple, Union
 
 from ..listed import offset_of
-from ..texts import opcode_of
+from ..texts import argument_at, opcode_of
 from .literals import Failing, of_bytes, of_float, of_floats, of_integer, of_line, of_text
 from .names import Names, python3_name
 from .nodes import Arguments, Called, Entry, Event, Filled, Formed, Insides, Needed, Node, Paired, Statement, is_dict, is_pure, is_tuple
-from .shapes import ALIKE, GETS, LETTERS, RUNS, RUNS_WITHOUT_UNITS, Part, Shape, argument_at, decoded, shape_of
+from .shapes import ALIKE, GETS, LETTERS, NAMES, RUNS, RUNS_WITHOUT_UNITS, Part, Shape, decoded, shape_of
 
 __all__ = ['Builder', 'KINDS', 'MOST_SHORT', 'taken_count']
 
@@ -32,7 +32,7 @@ _Handler = Callable[['Builder', str], None]
 _TEXTS = frozenset('X\x8c\x8d')
 _NUMBER, _MEMOIZE, _MARK, _LIST, _DICT, _FLOAT = 'K', '\x94', '(', ']', '}', 'G'
 _FLOAT_LETTERS = len('f8:') + 16
-_NUMBER_AT = argument_at(_NUMBER, 0, 0)
+_NUMBER_AT = argument_at(NAMES[_NUMBER], 0, 0)
 _NUMBERS = frozenset([_NUMBER, *(code for code, like in ALIKE.items() if like == _NUMBER)])
 # The words of a line of a number, the place of its code among them, and that of the number.
 _WORDS, _CODE_WORD, _NUMBER_WORD = 4, 1, 3

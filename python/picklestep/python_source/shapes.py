@@ -8,19 +8,19 @@ from __future__ import annotations
 
 import pickletools
 import re
-import sys
 from functools import lru_cache, partial
 from typing import Callable, Dict, Iterator, List, NamedTuple, Optional, Sequence, Tuple, Union
 
+from ..texts import argument_at, pattern_of_line
 from .literals import of_bytes, of_floats, of_integer, of_line, of_text
 
-__all__ = ['ALIKE', 'BRACKETS', 'GETS', 'LETTERS', 'Part', 'RUNS', 'RUNS_WITHOUT_UNITS', 'Shape', 'argument_at', 'decoded', 'shape_of']
+__all__ = ['ALIKE', 'BRACKETS', 'GETS', 'LETTERS', 'NAMES', 'Part', 'RUNS', 'RUNS_WITHOUT_UNITS', 'Shape', 'decoded', 'shape_of']
 
 BRACKETS = {'list': ('[', ']'), 'tuple': ('(', ')'), 'set': ('{', '}'), 'dict': ('{', '}'), 'frozenset': ('frozenset({', '})')}
 
-_NAMES: Dict[str, str] = {opcode.code: opcode.name for opcode in pickletools.opcodes}
+NAMES: Dict[str, str] = {opcode.code: opcode.name for opcode in pickletools.opcodes}
 # The codes of opcodes that are no letters, by what stands behind `\x` in a listing.
-LETTERS: Dict[str, str] = {f'{ord(code):02x}': code for code in _NAMES if not '!' <= code <= '~'}
+LETTERS: Dict[str, str] = {f'{ord(code):02x}': code for code in NAMES if not '!' <= code <= '~'}
 
 # Opcodes that are read as others are: their arguments stand in the same place of a line, or a blank later.
 ALIKE = {'M': 'K', 'J': 'K', 'j': 'h', 'r': 'q'}
@@ -32,9 +32,6 @@ _TAKEN = {'a': 1, 's': 2, '\x85': 1, '\x86': 2, '\x87': 3}
 
 # Opcodes whose lines end in their names.
 _BARE = frozenset(_CONSTANTS) | frozenset('(]}as\x85\x86\x87')
-
-# What was taken to the end of a line is never given back, where patterns can say so: it takes half the time.
-_KEEPS = '+' if sys.version_info >= (3, 11) else ''
 
 # A plain value that may be stored, or what comes from the memo; the same, or a tuple of up to three of them; a container of some items.
 _MOST_ITEMS = 64
@@ -185,7 +182,7 @@ class Shape:
         """The columns of units that follow one another in lines whose codes begin in a column, behind so many open marks."""
         found: List[Sequence[str]] = []
         for place, code, inner in self.columns:
-            at = argument_at(code, column, marks + inner)
+            at = argument_at(NAMES[code], column, marks + inner)
             found.append([line[at:] for line in lines[place::len(self.codes)]])
         return found
 
@@ -213,12 +210,8 @@ class Shape:
         columns = {each.place for each in self.columns}
         open_marks = 0
         for place, code in enumerate(self.codes):
-            shown = code if '!' <= code <= '~' else f'\\x{ord(code):02x}'
-            others = [other for other, like in ALIKE.items() if like == code]
-            letters = f'[{"".join([code, *others])}]' if others else re.escape(shown)
-            at = argument_at(code, column, marks + open_marks) if place in columns else column + 5 + 4 * (marks + open_marks) + len(_NAMES[code])
-            rest = f'(.*{_KEEPS})' if place in columns else '' if code in _BARE else f'.*{_KEEPS}'
-            yield f'(?s:{"." * column}){letters}(?s:{"." * (at - column - len(shown))}){rest}\n'
+            codes = ''.join([code, *(other for other, like in ALIKE.items() if like == code)])
+            yield pattern_of_line(codes, NAMES[code], column, marks + open_marks, place in columns, code in _BARE)
             open_marks += (code == '(') - (code in 'teu')
 
 
@@ -226,11 +219,6 @@ class Shape:
 def shape_of(codes: str) -> Shape:
     """The shape of units that have these opcodes."""
     return Shape(codes)
-
-
-def argument_at(code: str, column: int, marks: int) -> int:
-    """Where the argument of an opcode begins in a line whose code begins in a column, behind so many open marks."""
-    return column + len('\\x00 ') + 4 * marks + max(10, len(_NAMES[code])) + 1
 
 
 def _texts(column: Sequence[str]) -> Sequence[str]:
@@ -246,7 +234,7 @@ def _same(column: Sequence[str]) -> Sequence[str]:
 
 
 _OTHERS: Dict[str, Callable[[str], str]] = {
-    '\x8a': of_integer, 'C': of_bytes, 'B': of_bytes, '\x8e': of_bytes, **{code: partial(of_line, _NAMES[code]) for code in 'ILFSVTU'}}
+    '\x8a': of_integer, 'C': of_bytes, 'B': of_bytes, '\x8e': of_bytes, **{code: partial(of_line, NAMES[code]) for code in 'ILFSVTU'}}
 _DECODERS: Dict[str, Callable[[Sequence[str]], Sequence[str]]] = {
     'K': _same, **dict.fromkeys('X\x8c\x8d', _texts), 'G': of_floats,
     **{code: partial(_each, of_one) for code, of_one in _OTHERS.items()}}

@@ -8,7 +8,7 @@ from __future__ import annotations
 
 from typing import Dict, Optional, Tuple, Union
 
-from ..reaches import ItemKind, KindState, NumberOfKind, kinds_in
+from ..texts import ItemKind, KindState, NumberOfKind, kinds_in
 
 __all__ = ['ItemKinds']
 

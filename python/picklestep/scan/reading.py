@@ -13,10 +13,10 @@ from .. import library
 from ..answers import closing_in
 from ..errors import OutOfMemory, PicklestepError, ProgramError, TimedOut
 from ..program import Process
-from ..reaches import LineKey, headings_in, line_of, number_in, offset_of, reach_of, reached_lines, text_of, with_offset
+from ..reaches import LineKey, line_of, number_in, offset_of, reach_of, reached_lines, text_of
 from ..records import End, Extension, Global, Name, Ref
 from ..session import Session
-from ..texts import IN_FORM, offset_of_item
+from ..texts import IN_FORM, headings_in, offset_of_item, with_offset
 from .begins import is_dotted
 from .blobs import CHUNK, Blob, Budget, FileBlob, Spooled, spooled
 from .canonical.formed import content_of

@@ -12,11 +12,10 @@ from typing import Any, Callable, Dict, Iterator, List, NamedTuple, Optional, Se
 from ..answers import Calls
 from ..errors import Refused
 from ..python_source import source
-from ..reaches import made_by
 from ..session import SHIFTS, Session
 from ..sources import Input, Source
 from ..tasks import modes
-from ..texts import as_made, broken_places, held_in, holding
+from ..texts import as_made, broken_places, held_in, holding, made_by
 from .lines import Lines, OpcodeLines, add_items, cut_text, lines_of, read_all, read_answers, silent
 
 __all__ = ['MOST_EXACT', 'MOST_TEXT', 'Document', 'Done', 'Fields', 'Reaches', 'around', 'in_a_line', 'places_edited']

@@ -5,7 +5,6 @@ const PAGE = 200;
 const MOST_DEEP_STACK = 20000; // words of a stack, above which it is not asked for once more at each step
 const MOST_HERE = 28; // letters of an object in About
 
-const numbersIn = (words) => words.map((word) => /#([0-9]+)$/.exec(word)).filter(Boolean).map((match) => Number(match[1]));
 const described = (thing) => (thing ? shownObject(thing[0], thing[1]) : '');
 
 async function things() {
@@ -13,11 +12,11 @@ async function things() {
   const numbers = [...new Set([...numbersIn([...state.stack.words, ...state.memo.words]), ...state.results])];
   const [named, made] = await Promise.all([ask('briefs', { numbers }), ask('objects', { start: view.objects, count: PAGE }), reaches()]);
   if (state !== view.state || !named.briefs || !made.objects) return;
-  const stack = state.stack.words.map((word) => word[0] === '(' ? mark(word.slice(1)) : item('', Number(word.slice(1)), described(named.briefs[word.slice(1)])));
+  const stack = state.stack.words.map((word) => isMark(word) ? mark(numberOf(word)) : item('', numberOf(word), described(named.briefs[numberOf(word)])));
   list(by('stack'), stack.reverse(), state.stack.more && [`${state.stack.more} more below`, 'after']);
   list(by('memo'), state.memo.words.map((word) => {
-    const [key, number] = word.split('=#');
-    return item(key + ' = ', Number(number), described(named.briefs[number]));
+    const { key, number } = entryOf(word);
+    return item(key + ' = ', number, described(named.briefs[number]));
   }), state.memo.more && [`${state.memo.more} more before`, 'before']);
   by('memo').scrollTop = by('memo').scrollHeight;
   showObjects(made.objects);
@@ -190,7 +189,7 @@ async function showEffect(into, key) {
 
 const cutShort = (text) => (text.length > MOST_HERE ? text.slice(0, MOST_HERE) + '..' : text);
 const shownTop = ({ things, more }) => [...(more ? [`${more} more`] : []),
-  ...things.map(([word, ...thing]) => (word[0] === '(' ? 'mark' : cutShort(`${word} ${described(thing)}`)))].join(', ') || 'nothing';
+  ...things.map(([word, ...thing]) => (isMark(word) ? 'mark' : cutShort(`${word} ${described(thing)}`)))].join(', ') || 'nothing';
 
 // Which opcode made an object, and where else it is.
 async function point(number) {

@@ -60,12 +60,6 @@ function wholeOfHex(hex) {
   return BigInt.asIntN(4 * hex.length, BigInt('0x' + bytes.join('')));
 }
 
-// The bytes that a quoted text of the program stands for.
-function unquoted(quotedText) {
-  const inner = quotedText.slice(1, -1).replace(/\\(?:x([0-9a-f]{2})|(.))/g, (_, hex, sign) => (hex ? String.fromCharCode(parseInt(hex, 16)) : sign));
-  return latin(inner);
-}
-
 const strict = new TextDecoder('utf-8', { fatal: true, ignoreBOM: true });
 const HALF = /(\xed[\xa0-\xbf][\x80-\xbf])/;
 const MOST_HALVED = 65536; // bytes
@@ -102,8 +96,8 @@ function withHalves(bytes) {
 
 // A quoted text of the program as Python writes it. `kind` is 'text' or 'bytes'. Where a part was cut off, that is said behind it.
 function pythonOfQuoted(quotedText, kind) {
-  const cut = /^('.*) \.\. ([0-9]+) bytes more'$/.exec(quotedText);
-  if (cut) return pythonOfCut(cut[1].replace(/\\(x.?)?$/, ''), kind) + ` .. ${cut[2]} bytes more`;
+  const cut = cutOf(quotedText);
+  if (cut) return `${pythonOfCut(cut.left, kind)} .. ${cut.more} bytes more`;
   const bytes = unquoted(quotedText);
   const text = kind === 'bytes' ? null : utf8(bytes);
   return text === null ? pythonBytes(bytes) : pythonText(text);
@@ -111,18 +105,15 @@ function pythonOfQuoted(quotedText, kind) {
 
 // The beginning of a text, which may end within a sign.
 function pythonOfCut(beginning, kind) {
-  let bytes = unquoted(beginning + "'");
+  let bytes = unquoted(beginning);
   if (kind === 'bytes') return pythonBytes(bytes);
   for (let less = 0; less < 4; less += 1, bytes = bytes.subarray(0, -1)) {
     const text = utf8(bytes);
     if (text !== null) return pythonText(text);
   }
-  return pythonBytes(unquoted(beginning + "'"));
+  return pythonBytes(unquoted(beginning));
 }
 
-const QUOTED = "'[^'\\\\]*(?:\\\\.[^'\\\\]*)*'";
-const BYTES = 'le:[0-9a-f]*|f8:[0-9a-f]{16}';
-const ATOMS = new RegExp(`(?:(raw|bytes|bytearray|string|text) )?(?:(raw) )?(${QUOTED})|(?:(?:int|float) )?(${BYTES})|\\b(none|true|false)\\b|\\bint (-?[0-9]+)`, 'g');
 const CONSTANTS = { none: 'None', true: 'True', false: 'False' };
 
 function pythonNumber(text) {
@@ -132,11 +123,11 @@ function pythonNumber(text) {
 
 // The values in a line of the program, as Python writes them. The rest of the line stays.
 function pythonValues(line) {
-  return line.replace(ATOMS, (all, kind, raw, quotedText, number, constant, whole) => {
+  return withValues(line, ({ quotedText, isBytes, bytes, constant, whole }) => {
     if (whole !== undefined) return whole;
     if (constant) return CONSTANTS[constant];
-    if (number !== undefined) return pythonNumber(number);
-    return pythonOfQuoted(quotedText, kind === 'bytes' || kind === 'bytearray' || kind === 'raw' || raw ? 'bytes' : 'text');
+    if (bytes !== undefined) return pythonNumber(bytes);
+    return pythonOfQuoted(quotedText, isBytes ? 'bytes' : 'text');
   });
 }
 
@@ -144,17 +135,14 @@ function pythonValues(line) {
 function shownArgument(argument, form) {
   if (!argument) return '';
   const kind = form.startsWith('bytes') || form === 'bytearray8' ? 'bytes' : 'text';
-  return argument.replace(new RegExp(`(${QUOTED})|(${BYTES})`, 'g'), (all, quotedText, number) => {
-    if (number !== undefined) return pythonNumber(number);
+  return withArguments(argument, (quotedText, bytes) => {
+    if (bytes !== undefined) return pythonNumber(bytes);
     // (a line of STRING is shown as it stands, with its own quotes)
-    return form === 'stringnl' ? plain(quotedText.slice(1, -1).replace(/\\(['\\])/g, '$1')) : pythonOfQuoted(quotedText, kind);
+    return form === 'stringnl' ? plain(withoutQuotes(quotedText)) : pythonOfQuoted(quotedText, kind);
   });
 }
 
 // --- What an opcode imports or calls ---
-
-const NAME = `(?:raw )?${QUOTED}`;
-const REACH = new RegExp(`^(import|call|new|inst) (?:(${NAME}) (${NAME})|ext ([0-9]+)|(#[0-9]+))(?: for (${NAME}) (${NAME}))?(?: (.*?))??(?: as #[0-9]+)?$`);
 
 const DOTTED = /^[\p{L}\p{Nl}_][\p{L}\p{Nl}\p{M}\p{Nd}\p{Pc}]*(\.[\p{L}\p{Nl}_][\p{L}\p{Nl}\p{M}\p{Nd}\p{Pc}]*)*$/u;
 
@@ -169,18 +157,18 @@ function shownName(quotedText) {
 // What is given to a call, with imported names and values as Python writes them.
 function pythonGiven(line) {
   let shown = '', at = 0;
-  for (const match of line.matchAll(new RegExp(`global (${NAME}) (${NAME})`, 'g'))) {
-    shown += pythonValues(line.slice(at, match.index)) + `${shownName(match[1])}.${shownName(match[2])}`;
-    at = match.index + match[0].length;
+  for (const { start, end, module, name } of globalsIn(line)) {
+    shown += pythonValues(line.slice(at, start)) + `${shownName(module)}.${shownName(name)}`;
+    at = end;
   }
   return shown + pythonValues(line.slice(at));
 }
 
 // What an object is that a line of `calls` ends in, or '' where the line does not say it: `posix.system`, `posix.system('id')`.
 function shownReach(line) {
-  const match = REACH.exec(line);
-  if (!match) return '';
-  const [, what, module, name, extension, number, oldModule, oldName, given] = match;
+  const reach = reachOf(line);
+  if (!reach) return '';
+  const { what, module, name, extension, number, oldModule, oldName, given } = reach;
   const called = module ? `${shownName(module)}.${shownName(name)}` : extension ? `extension ${extension}` : number;
   const old = oldModule ? ` (for ${shownName(oldModule)}.${shownName(oldName)})` : '';
   if (what === 'import') return called + old;
@@ -191,7 +179,7 @@ function shownReach(line) {
 // What a row or the list of imports and calls says of an opcode.
 function reachOfRow(line) {
   if (!line) return '';
-  return shownReach(line) || pythonGiven(line.replace(/ as #[0-9]+$/, ''));
+  return shownReach(line) || pythonGiven(withoutMade(line));
 }
 
 // --- Objects ---
@@ -200,13 +188,11 @@ function reachOfRow(line) {
 function shownObject(text, reach) {
   if (!text) return '';
   const known = reach ? shownReach(reach) : '';
-  if (!known) return pythonOfObject(text);
-  const changes = /^[a-z-]+(?: (?:raw )?(?:'[^'\\]*(?:\\.[^'\\]*)*'|-?[0-9]+))*(?: \((?:#[^)]*)?\))?(.*)$/.exec(text);
-  return known + (changes ? changes[1] : '');
+  return known ? known + changesIn(text) : pythonOfObject(text);
 }
 
 function pythonOfObject(text) {
-  const [, kind, rest] = /^([a-z-]+)(.*)$/.exec(text) || ['', '', text];
+  const { kind, rest } = kindOf(text);
   const form = kind === 'bytes' || kind === 'bytearray' ? 'bytes' : kind === 'string-line' ? 'stringnl' : 'text';
   return kind + shownArgument(rest, form);
 }

@@ -8,7 +8,7 @@ from __future__ import annotations
 import re
 from typing import Any, Dict, List, NamedTuple, Optional, Sequence, Tuple
 
-from ...reaches import persistent_lines, storage_of
+from ...texts import persistent_lines, storage_of
 from ..blobs import Blob, Budget
 from .forms import Member, require, wrong
 from .pickles import Global, PDict, PList, Pickle, read_pickle

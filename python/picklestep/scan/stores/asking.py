@@ -14,8 +14,7 @@ from typing import Iterator, List, Optional, Sequence
 
 from ...errors import PicklestepError
 from ...program import Process
-from ...reaches import before_headings, lowered
-from ...texts import lines_with_offsets
+from ...texts import before_headings, lines_with_offsets, lowered
 from ..blobs import Budget, BytesBlob, Limits, spooled
 from ..reading import WAITING, Asked, Enough, Summary, calls_words
 from .walk import stops_at_end

@@ -21,7 +21,6 @@ const MOST_LINE = 100; // bytes of a line besides texts and the blanks for open 
 const MOST_DEEP = 1 << 28; // and of all these blanks
 const MOST_CALLS = 1 << 26; // bytes that are read of `calls`, in which a long name may stand again and again
 const SHIFTS = { replace: 0, insert: 1, delete: -1, frame: 1, unframe: -1 };
-const HOW = { '+': 'append', '&': 'add', '!': 'state', '[': 'key', '=': 'value' };
 
 let versions = 0; // (of all documents, so that the page never shows the lines of one in another)
 
@@ -31,7 +30,7 @@ class Enough extends Error {
     super(said);
     this.most = most;
     let at = most;
-    while (at > 0 && !/^ *\d+: /.test(lines.raw(at))) at -= 1; // (what a STOP left has a line too)
+    while (at > 0 && !beginsWithOffset(lines.raw(at))) at -= 1; // (what a STOP left has a line too)
     this.offset = lines.offset(at);
   }
 }
@@ -123,7 +122,7 @@ class Document {
     this.version = versions += 1;
     this.heap = null;
     this.edited = editedPlaces(this.edits);
-    if (this.hasBreaks) this.breaks = new Set([...(await this.session.ask('items')).matchAll(/^[> ]\* *(\d+) /gm)].map((match) => Number(match[1])));
+    if (this.hasBreaks) this.breaks = new Set(brokenPlaces(await this.session.ask('items')));
   }
 
   // What is imported and called; of very long lines only the first are read.
@@ -174,7 +173,7 @@ class Document {
 
   countViews() {
     let count = 0;
-    for (let at = 0; at < this.final.length; at += 1) count += Number(/^#\d+ readonly /.test(this.final.slice(this.final.start(at), this.final.start(at) + 40)));
+    for (let at = 0; at < this.final.length; at += 1) count += Number(isReadonly(this.final.slice(this.final.start(at), this.final.start(at) + 40)));
     return count;
   }
 
@@ -241,7 +240,7 @@ class Document {
   thing(number) {
     const heap = this.objectLines();
     if (number < 0 || number >= heap.length) return ['', ''];
-    return [heap.brief(number).replace(/^\S+ /, ''), this.reaches.textOf(number)];
+    return [withoutNumber(heap.brief(number)), this.reaches.textOf(number)];
   }
 
   objects(start, count) {
@@ -257,28 +256,22 @@ class Document {
   holds(number) {
     const heap = this.objectLines();
     if (number < 0 || number >= heap.length) return { parts: [], more: 0 };
-    const line = heap.raw(number), held = line.slice(Math.max(line.lastIndexOf("'"), 0) + 1);
-    const parts = [];
-    for (const match of held.matchAll(/([ (+&!=]|\[)#(\d+)/g)) {
-      if (parts.length === MOST_PARTS) break;
-      parts.push([HOW[match[1]] || '', Number(match[2]), ...this.thing(Number(match[2]))]);
-    }
-    return { parts, more: held.split('#').length - 1 - parts.length };
+    const { held, more } = heldIn(heap.raw(number), MOST_PARTS);
+    return { parts: held.map(([how, other]) => [how, other, ...this.thing(other)]), more };
   }
 
   // The opcode that made an object, and where the object is: on the stack, in the memo, in other objects.
   async about(number) {
     const maker = number >= 0 && number < this.made() ? this.makers.at(number) : null;
-    const stack = (await this.session.ask('stack')).trimEnd().split(' ').slice(1);
-    const memo = (await this.session.ask('memo')).trimEnd().split(' ').slice(1).map((word) => word.split('=#'));
+    const stack = wordsOf(await this.session.ask('stack')), memo = wordsOf(await this.session.ask('memo')).map(entryOf);
     return { maker, line: maker === null ? null : this.lines.raw(maker).trim(),
       stack: stack.flatMap((word, at) => (word === `#${number}` ? [at] : [])).slice(0, MOST_HOLDERS),
-      memo: memo.filter(([, other]) => Number(other) === number).map(([key]) => Number(key)).slice(0, MOST_HOLDERS), held: this.holders(number) };
+      memo: memo.filter((entry) => entry.number === number).map(({ key }) => Number(key)).slice(0, MOST_HOLDERS), held: this.holders(number) };
   }
 
   // The top of the stack before the opcode at the cursor and after it, as far as they differ; or why it is refused.
   async effect() {
-    const { place } = this, words = async () => (await this.session.ask('stack')).trimEnd().split(' ').slice(1), before = await words();
+    const { place } = this, words = async () => wordsOf(await this.session.ask('stack')), before = await words();
     try {
       await this.session.ask('step');
     } catch (error) {
@@ -294,15 +287,14 @@ class Document {
   }
 
   top(words) {
-    const things = words.slice(-MOST_TOP).map((word) => [word, ...(word[0] === '#' ? this.thingThen(Number(word.slice(1))) : ['', ''])]);
+    const things = words.slice(-MOST_TOP).map((word) => [word, ...(isMark(word) ? ['', ''] : this.thingThen(numberOf(word)))]);
     return { things, more: words.length - things.length };
   }
 
   // An object at the cursor, or the one that the opcode there makes, before anything is put into it.
   thingThen(number) {
     if (number < this.made() || number >= this.final.length) return this.thing(number);
-    const text = this.final.brief(number).replace(/^\S+ /, ''), at = text.lastIndexOf("'") + 1;
-    return [text.slice(0, at) + text.slice(at).replace(/ (?:[+&!]#|\[#).*/, ''), this.reaches.textOf(number)];
+    return [asMade(withoutNumber(this.final.brief(number))), this.reaches.textOf(number)];
   }
 
   // The objects that hold an object, the first of them.
@@ -310,9 +302,9 @@ class Document {
     const heap = this.objectLines(), made = this.made(), found = [];
     const sought = new TextEncoder().encode(`#${number}`), text = heap.text.data;
     for (let at = heap.seek(sought, 0); at >= 0 && found.length < MOST_HOLDERS; at = heap.seek(sought, at + 1)) {
-      const holder = heap.numberAt(at), after = text[at + sought.length];
+      const holder = heap.numberAt(at);
       if (holder >= made) break;
-      const isPart = at > heap.start(holder) && ' (+&![='.includes(String.fromCharCode(text[at - 1])) && !(after >= 48 && after <= 57);
+      const isPart = at > heap.start(holder) && isHeld(text, at, sought.length);
       const quote = isPart ? text.subarray(at, heap.end(holder)).indexOf(QUOTE) : -1;
       if (isPart && quote < 0 && !found.includes(holder)) found.push(holder);
     }
@@ -440,7 +432,7 @@ class Document {
 
 // The last words of an answer of one line, and how many are before them.
 function lastWords(answer) {
-  const words = answer.trimEnd().split(' ').slice(1);
+  const words = wordsOf(answer);
   return { words: words.slice(-MOST_ENTRIES), more: Math.max(0, words.length - MOST_ENTRIES) };
 }
 

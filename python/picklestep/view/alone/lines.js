@@ -3,7 +3,7 @@
 
 const CUT = 500; // the most bytes that are kept of a text
 const HEAD = 1 << 22; // from this many bytes on the middle of a line that is not at its end is dropped
-const NEWLINE = 10, QUOTE = 39, COLON = 58, BLANK = 32, BACKSLASH = 92, LETTER_X = 120;
+const NEWLINE = 10, QUOTE = 39;
 
 const ascii = new TextDecoder('latin1');
 
@@ -197,25 +197,16 @@ class OpcodeLines extends Lines {
   }
 
   at(place) {
-    const match = /^ *(\d+): (\S+)( +)([A-Z][A-Z0-9_]*)(?: +(.*))?$/.exec(this.raw(place));
-    const [, offset, code, blanks, name, argument] = match;
-    return { offset: Number(offset), code, name, argument: argument || '', marks: Math.max(0, (code.length + blanks.length - 5) >> 2) };
+    return opcodeOf(this.raw(place));
   }
 
   offset(place) {
-    const text = this.text.data;
-    let at = this.start(place), offset = 0;
-    while (text[at] === BLANK) at += 1;
-    for (; text[at] !== COLON; at += 1) offset = 10 * offset + text[at] - 48;
-    return offset;
+    return offsetIn(this.text.data, this.start(place));
   }
 
   // The code of the opcode at a place.
   code(place) {
-    const text = this.text.data;
-    const at = text.indexOf(COLON, this.start(place)) + 2;
-    if (text[at] !== BACKSLASH || text[at + 1] !== LETTER_X) return text[at];
-    return parseInt(this.slice(at + 2, at + 4), 16);
+    return codeIn(this.text.data, this.start(place));
   }
 
   // The place of the opcode that holds an offset.
@@ -242,7 +233,7 @@ class OpcodeLines extends Lines {
 function readListing(run, options) {
   const listing = new OpcodeLines();
   run(['list', ...options], listing);
-  while (listing.length && !/^ *\d+: /.test(listing.slice(listing.start(listing.length - 1), listing.start(listing.length - 1) + 24)))
+  while (listing.length && !beginsWithOffset(listing.slice(listing.start(listing.length - 1), listing.start(listing.length - 1) + 24)))
     listing.closing.unshift(listing.dropLast());
   if (!listing.closing.length) throw new Error('the program gave no whole listing');
   return listing.seek(new TextEncoder().encode('\nleft: '), 0) < 0 ? listing : withoutLeft(listing);
@@ -253,7 +244,7 @@ function withoutLeft(listing) {
   const kept = new OpcodeLines();
   for (let at = 0; at < listing.length; at += 1) {
     const line = listing.text.data.subarray(listing.start(at), listing.end(at) + 1);
-    if (!/^left: /.test(ascii.decode(line.subarray(0, 6)))) {
+    if (!isLeft(ascii.decode(line.subarray(0, 6)))) {
       kept.text.add(line);
       kept.starts.add(kept.text.size);
     }
@@ -264,8 +255,8 @@ function withoutLeft(listing) {
 // Adds the opcodes that a listing has not, since it ends where an opcode is refused.
 function addItems(listing, items, opcodes) {
   for (let place = listing.length; place < items.length; place += 1) {
-    const match = /^[> ][* ] *\d+ +(\d+): ([A-Z][A-Z0-9_]*)(.*)$/.exec(items.raw(place));
-    if (match) listing.addLine(`${match[1].padStart(5)}: ${opcodes[match[2]].code.padEnd(4)} ${match[2]}${match[3]}`);
+    const item = itemOf(items.raw(place));
+    if (item) listing.addLine(`${item.offset.padStart(5)}: ${opcodes[item.name].code.padEnd(4)} ${item.name}${item.argument}`);
   }
 }
 
@@ -273,6 +264,6 @@ function addItems(listing, items, opcodes) {
 function readObjects(run, options) {
   const objects = new Lines();
   run(['objects', ...options], objects);
-  while (objects.length && objects.text.data[objects.start(objects.length - 1)] !== 35) objects.dropLast();
+  while (objects.length && !isObjectAt(objects.text.data, objects.start(objects.length - 1))) objects.dropLast();
   return objects;
 }

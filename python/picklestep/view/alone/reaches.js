@@ -36,16 +36,16 @@ class Reaches {
     const sums = [0, 0];
     let at = 0;
     for (; at < this.lines.length; at += 1) {
-      const line = this.lines.raw(at), match = /^ *(\d+): (\w+)/.exec(line);
-      if (!match) break;
-      this.offsets.add(Number(match[1]));
-      this.kinds.push(match[2]);
+      const line = this.lines.raw(at), begins = reachBegins(line);
+      if (!begins) break;
+      this.offsets.add(begins.offset);
+      this.kinds.push(begins.what);
       this.imported.add(sums[0]);
       this.called.add(sums[1]);
-      sums[0] += Number(IMPORTS.includes(match[2]));
-      sums[1] += Number(CALLS.includes(match[2]));
-      const made = /(?: as|inst .* as) #(\d+)$/.exec(line);
-      if (made) { this.made.add(Number(made[1])); this.makers.add(at); }
+      sums[0] += Number(IMPORTS.includes(begins.what));
+      sums[1] += Number(CALLS.includes(begins.what));
+      const made = madeBy(line);
+      if (made !== null) { this.made.add(made); this.makers.add(at); }
     }
     this.sums = sums;
     if (this.isPart) this.counts = sums;
@@ -58,12 +58,11 @@ class Reaches {
     let heading = null;
     for (let at = from; at < this.lines.length; at += 1) {
       const line = this.lines.raw(at);
-      heading = /^(a loader(?: that buffers frames| that keeps its buffer)? may go on):$/.exec(line) || heading;
-      const container = /^begins like an? (.*): picklestep scan looks into it$/.exec(line);
-      if (container && !heading) this.behind.push(`begins like a container: ${container[1]} (picklestep scan looks into it)`);
-      const counts = /^(\d+) imports, (\d+) calls$/.exec(line);
-      if (counts && !heading) this.counts = [Number(counts[1]), Number(counts[2])];
-      else if (counts) this.behind.push(`${heading[1]}: ${counts[1]} imports, ${counts[2]} calls (picklestep calls shows them)`);
+      heading = headingOf(line) || heading;
+      const container = containerOf(line), counts = countsOf(line);
+      if (container && !heading) this.behind.push(`begins like a container: ${container} (picklestep scan looks into it)`);
+      if (counts && !heading) this.counts = counts;
+      else if (counts) this.behind.push(`${heading}: ${counts[0]} imports, ${counts[1]} calls (picklestep calls shows them)`);
     }
   }
 
@@ -74,7 +73,7 @@ class Reaches {
   // A line without its offset; with its beginning alone where it is long.
   text(at) {
     const parts = cutLine(this.lines.text.data.subarray(this.lines.start(at), this.lines.end(at)), 0, MOST_SAID);
-    return parts.map((part) => ascii.decode(part)).join('').replace(/^ *\d+: /, '');
+    return withoutOffset(parts.map((part) => ascii.decode(part)).join(''));
   }
 
   // How the line at an offset is coloured: 'call', 'import', 'other' or ''.
@@ -93,7 +92,7 @@ class Reaches {
   // The whole line at an offset.
   saidAt(offset) {
     const at = this.offsets.below(offset);
-    return at < this.length && this.offsets.at(at) === offset ? this.lines.raw(at).replace(/^ *\d+: /, '') : '';
+    return at < this.length && this.offsets.at(at) === offset ? withoutOffset(this.lines.raw(at)) : '';
   }
 
   // What is said of the object of a number, where it is imported, called or asked for.

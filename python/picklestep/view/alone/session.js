@@ -91,11 +91,11 @@ class Replayed {
 
   keep(line, answer) {
     const word = line.split(' ')[0];
-    const moved = /^at ([0-9]+)/.exec(answer);
-    if (['step', 'back', 'goto', 'run'].includes(word) && moved) {
-      if (/^goto /.test(this.said.at(-1) || '')) this.said.pop();
-      this.said.push(`goto ${moved[1]}`);
-    } else if (['break', 'clear', ...Object.keys(SHIFTS), 'undo', 'redo'].includes(word) && !answer.startsWith('refused: ')) {
+    const place = placeIn(answer);
+    if (['step', 'back', 'goto', 'run'].includes(word) && place !== null) {
+      if (this.said.at(-1)?.startsWith('goto ')) this.said.pop();
+      this.said.push(`goto ${place}`);
+    } else if (['break', 'clear', ...Object.keys(SHIFTS), 'undo', 'redo'].includes(word) && refusedIn(answer) === null) {
       this.said.push(line);
     }
   }
@@ -115,21 +115,18 @@ class Session {
   }
 
   async ask(line) {
-    const answer = await this.talk.say(line);
-    if (answer.startsWith('refused: ')) throw new Refused(answer.slice(9).trimEnd());
+    const answer = await this.talk.say(line), refused = refusedIn(answer);
+    if (refused !== null) throw new Refused(refused);
     return answer;
   }
 
-  // The place that the answer to a move or an edit ends in.
+  // The place that the answer to a move or an edit says.
   async placeAfter(line) {
-    return Number(/[0-9]+$/.exec((await this.ask(line)).trimEnd())[0]);
+    return placeIn(await this.ask(line));
   }
 
   async where() {
-    const answer = (await this.ask('where')).trimEnd();
-    const match = /^at (\d+) of (\d+), offset (\d+), buffers (\d+), result (none|#\d+(?: #\d+)*), end (.*)$/.exec(answer);
-    const results = match[5] === 'none' ? [] : match[5].split(' ').map((word) => Number(word.slice(1)));
-    return { place: Number(match[1]), places: Number(match[2]), offset: Number(match[3]), results, end: match[6] };
+    return whereOf(await this.ask('where'));
   }
 
   // An edit, which is kept with the place that it was made at.

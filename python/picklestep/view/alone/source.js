@@ -110,9 +110,8 @@ class Writer {
 
 // How reading ended, by the closing lines of a listing: the words for it where that was early, and how many bytes are after STOP.
 function endingOf(closing, lastOffset) {
-  const said = (word) => (closing.findLast((line) => line.startsWith(`${word}: `)) || '').slice(word.length + 2);
-  const refused = said('refused');
-  return { early: refused ? `${refused} at ${lastOffset}` : said('fault'), isRefused: Boolean(refused), kept: Number(said('kept').split(' ')[0]) };
+  const refused = closingOf(closing, 'refused');
+  return { early: refused ? `${refused} at ${lastOffset}` : closingOf(closing, 'fault'), isRefused: Boolean(refused), kept: keptOf(closing) };
 }
 
 // The source of a pickle: its bytes, the offsets of its opcodes as far as a loader gets, and how reading ended.

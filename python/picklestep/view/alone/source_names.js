@@ -34,8 +34,8 @@ function nameOfEntry(entry) {
 
 // What Python 3 imports for a name of Python 2, by what the program says of the opcode.
 function oldNames(said) {
-  const match = REACH.exec(said);
-  return match && match[6] ? [match[2], match[3]].map((shown) => nameOfLine(unquoted(shown), 'utf-8')) : null;
+  const reach = reachOf(said);
+  return reach && reach.oldModule ? [reach.module, reach.name].map((shown) => nameOfLine(unquoted(shown), 'utf-8')) : null;
 }
 
 // The names of a source, each for one thing as it is when it is imported: a name which a pickle imports again is another one.

@@ -156,7 +156,7 @@ class Host {
 
   check(error) {
     if (error instanceof Ended && error.status < 2) return;
-    if (error instanceof Ended) throw new Error(this.errors.trim().replace(/^picklestep: /, '') || error.message);
+    if (error instanceof Ended) throw new Error(complaintOf(this.errors) || error.message);
     throw error instanceof RangeError ? new Error('out of memory') : error;
   }
 }
