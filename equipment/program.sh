@@ -166,7 +166,7 @@ choose_program() {
 # Names the program for the words of the package too, where there is one for this machine. (Elsewhere Python may have what runs the module.)
 name_program() {
     case ${1-} in
-    '' | -*) return ;; # (help, and which version it is)
+    '' | -h | --help | --version) return ;;
     esac
     if [ -z "${PICKLESTEP_PROGRAM-}" ] && ! is_for_program "$@"; then
         if find_program; then

@@ -34,8 +34,10 @@ def main(words: 'list[str]') -> int:
         return _print_page(first) if _asks_help(rest) else _hand_over(words)
     if first in _OWN:
         return _do_apart(words)
-    if os.path.lexists(first):
+    if first == '--':
         return _do_apart(['scan', *words])
+    if os.path.lexists(first):  # (one that begins like an option is none)
+        return _do_apart(['scan', os.path.join('.', first) if first.startswith('-') else first, *rest])
     return _complain(f'{first!r} is neither a word of picklestep nor a file that is there: see picklestep --help')
 
 

@@ -60,6 +60,25 @@ class Words(EntranceCase):
             self.assertIn("! a.pkl: call posix.system once, first at 23: call 'posix' 'system' ('id') as #3\n", run.stdout)
             self.assertEqual(self.start([*entrance, './list']).returncode, 0)
 
+    def test_names_that_look_like_options(self) -> None:
+        for name in ('-a.pkl', '--no-known', '-'):
+            self.file(name, HOSTILE)
+        self.file('b.pkl', HARMLESS)
+        for way, entrance in ways().items():
+            for words in (['scan', '--brief', '--', 'b.pkl', '-a.pkl'], ['scan', '--brief', '--', '-a.pkl', '--no-known'],
+                          ['--', '--no-known'], ['--no-known'], ['-a.pkl', 'b.pkl', '--brief'], ['scan', '--', '-'],
+                          ['scan', '--write-allow', 'used', 'b.pkl', '--', '-a.pkl'], ['diff', '--', '-a.pkl', 'b.pkl'],
+                          ['diff', 'b.pkl', '--', '--no-known']):
+                run = self.start([*entrance, *words])
+                self.assertEqual((run.returncode, run.stderr), (1, ''), (way, words))
+                self.assertIn('posix', run.stdout)
+            for words in (['source', '--', '-a.pkl'], ['mend', '--', '--no-known'], ['calls', '--', '--no-known']):
+                self.assertEqual(self.start([*entrance, *words]).returncode, 0, (way, words))
+            for words in (['scan', '--'], ['scan', '--brief'], ['scan', '--sarif', '--', 'b.pkl']):
+                self.assertEqual(self.start([*entrance, *words]).returncode, 2, (way, words))
+        self.assertEqual(self.start([*entrance, 'scan', '--brief', '--', 'b.pkl', '--write-allow', 'c']).returncode, 1)
+        self.assertEqual(sorted(path.name for path in self.folder.iterdir()), sorted(['-', '--no-known', '-a.pkl', 'b.pkl', 'used']))
+
     def test_help(self) -> None:
         for entrance in ways().values():
             for words in (['--help'], ['-h'], ['calls', '-h'], *([word, '--help'] for word in WORDS)):

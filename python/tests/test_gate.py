@@ -156,15 +156,17 @@ class Files(ScanCase):
         text = (ROOT / '.pre-commit-hooks.yaml').read_text()
         fields = dict(re.findall(r'^[- ] (\w+): (.*)$', text, re.MULTILINE))
         self.assertEqual((fields['id'], fields['language']), ('picklestep', 'script'))
-        entry, *words = shlex.split(fields['entry'])
+        entry, *words = shlex.split(fields['entry']) + re.findall(r"'(.*?)'", fields['args'])
         pattern = re.compile(shlex.split(fields['files'])[0])
         for name, fits in (('a.pkl', True), ('models/b.pt', True), ('c.joblib.gz', True), ('d.py', False), ('e.pkl.py', False)):
             self.assertEqual(pattern.search(name) is not None, fits, name)
         self.file('a.pkl', HARMLESS)
         self.file('b.pkl', HOSTILE)
-        for name, status in (('a.pkl', 0), ('b.pkl', 1)):
+        self.file('--write-allow=c.pkl', HARMLESS)
+        for name, status in (('a.pkl', 0), ('b.pkl', 1), ('--write-allow=c.pkl', 0)):
             run = subprocess.run([str(ROOT / entry), *words, name], cwd=self.folder, capture_output=True, text=True, timeout=300)
             self.assertEqual(run.returncode, status, run.stderr)
+        self.assertFalse((self.folder / 'c.pkl').exists())
 
     def test_image(self) -> None:
         # No base image can be had here: its own lines are run.

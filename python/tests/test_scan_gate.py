@@ -6,6 +6,7 @@ import gzip
 import io
 import lzma
 import os
+import pickle
 import struct
 import subprocess
 import sys
@@ -208,6 +209,15 @@ class Streams(ScanCase):
     def test_zeros_and_numbers_are_not(self) -> None:
         for content in (bytes(18 * 300_000), bytes(70_000) + b'\1\0\0\0' * 20_000):
             self.assertFalse(is_told(self.look('a.bin', content)))
+
+
+    def test_lists_of_protocol_1_are_not(self) -> None:
+        for value in ([True, False, 0, 1], [0] * 300, [[1, 2, 0], [3]], [None, 'text', (1, 2.5)]):
+            content = pickle.dumps(value, 1)
+            with self.assertRaises(lzma.LZMAError):
+                lzma.open(io.BytesIO(content)).read(1)
+            with self.subTest(value):
+                self.assertFalse(is_told(self.look('a.pkl', content)))
 
 
 class LimitsOfAFile(ScanCase):

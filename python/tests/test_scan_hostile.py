@@ -570,8 +570,17 @@ class HostileFolders(ScanCase):
 
     def test_devices(self) -> None:
         run = self.scan('/dev/null', '/dev/zero')
-        self.assertEqual(run.returncode, 0)
-        self.assertEqual(run.stdout.splitlines()[:2], ['  /dev/null: skipped: a device', '  /dev/zero: skipped: a device'])
+        self.assertEqual(run.returncode, 1)
+        self.assertEqual(run.stdout.splitlines()[:4], ['  /dev/null: skipped: a device', '! /dev/null: a device is not looked at',
+                                                       '  /dev/zero: skipped: a device', '! /dev/zero: a device is not looked at'])
+
+    def test_a_fifo_that_is_named(self) -> None:
+        # (In a folder it is skipped: see above.)
+        os.mkfifo(self.folder / 'fifo.pkl')
+        for words in (['fifo.pkl'], ['--jobs', '2', 'fifo.pkl', '--', 'fifo.pkl']):
+            run = self.scan('--brief', *words)
+            self.assertEqual((run.returncode, run.stdout.splitlines()[0]), (1, '! fifo.pkl: a FIFO is not looked at'))
+        self.assertIn('! : a FIFO is not looked at', notes_of(look(str(self.folder / 'fifo.pkl'))))
 
     def test_a_file_without_permission(self) -> None:
         path = self.file('secret.pkl', HOSTILE)

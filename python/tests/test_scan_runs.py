@@ -71,6 +71,34 @@ class RunCase(ScanCase):
             time.sleep(0.05)
 
 
+class Opened(RunCase):
+    """What the command is given open: standard input, and pipes of the shell."""
+
+    def shell(self, line: str, status: int = 1) -> str:
+        """The output of a line of the shell, where `$scan` is the command."""
+        scan = f'{sys.executable} -m picklestep scan --brief'
+        run = subprocess.run(['bash', '-c', line], cwd=self.folder, env={**environment(), 'scan': scan}, timeout=300, capture_output=True, text=True)
+        self.assertEqual((run.returncode, run.stderr), (status, ''), (line, run.stdout))
+        return run.stdout
+
+    def test_each_is_looked_at(self) -> None:
+        self.file('a.pkl', HOSTILE)
+        self.file('b.pkl', HARMLESS)
+        for line, place in (('cat a.pkl | $scan --allow plain /dev/stdin', '/dev/stdin'), ('cat a.pkl | $scan --jobs 2 -- b.pkl /dev/stdin', '/dev/stdin'),
+                            ('$scan --jobs 2 /dev/stdin b.pkl <a.pkl', '/dev/stdin'), ('$scan --jobs 3 b.pkl /dev/fd/7 b.pkl 7<a.pkl', '/dev/fd/7'),
+                            ('cat a.pkl | $scan /proc/self/fd/0', '/proc/self/fd/0'), ('cat a.pkl | (cd /dev; $scan stdin)', 'stdin'),
+                            ('tar c a.pkl b.pkl | $scan /dev/stdin', '/dev/stdin > a.pkl'), ('gzip -nc a.pkl | $scan /dev/stdin', '/dev/stdin > (gzip)')):
+            self.assertIn(f'! {place}: import posix.system once, first at 0', self.shell(line), line)
+        self.assertRegex(self.shell('$scan <(cat b.pkl) <(cat a.pkl)'), r'! /dev/fd/[0-9]+: import posix.system once')
+        self.assertIn('1 file, 1 pickle', self.shell('cat b.pkl | $scan /dev/stdin', 0))
+        self.assertIn('1 file, 1 pickle in 1 of them, 1 skipped', self.shell('mkfifo files/f.pkl; cp b.pkl files; $scan files', 0))
+
+    def test_more_than_may_be_held(self) -> None:
+        self.assertIn('! /dev/stdin: it gives more than the 16,777,216 bytes that may be held at once: the first of them are looked at\n',
+                      self.shell('head -c 16777217 /dev/zero | $scan --max-memory 64M /dev/stdin'))
+        self.shell('head -c 16777216 /dev/zero | $scan --max-memory 64M /dev/stdin', 0)
+
+
 class Runs(RunCase):
     """Started as a user starts them."""
 

@@ -15,6 +15,7 @@ import pickletools
 import random
 import re
 import subprocess
+import sys
 import tempfile
 import time
 import unittest
@@ -326,6 +327,21 @@ class Shown(unittest.TestCase):
                 with self.assertRaises(ValueError):
                     executed(source(data).text)
 
+
+    def test_names_that_are_none_import_nothing(self) -> None:
+        odd = [b'this\nx\xc7\n', b'th\xc7is\nx\n', b'this\n\n', b'\nthis\n', b'this\n\xed\xa0\x80\n', b'this\n{\xff}\n', b'this\n\xff\'"\n']
+        for data in [before + b'c' + name + b'.' for name in odd for before in (b'', b'\x80\4')] + [
+                b'(i' + name + b'.' for name in (*odd, b'this\nx\xc3\xa9\n', b'th\xc3\xa9\nx\n')]:
+            with self.subTest(data):
+                sys.modules.pop('this', None)
+                text = source(data).text
+                with self.assertRaises((ValueError, EOFError, pickle.UnpicklingError)) as wanted:
+                    pickle.loads(data)
+                with self.assertRaises((ValueError, EOFError)) as found:
+                    executed(text)
+                self.assertNotIn('this', sys.modules)
+                if isinstance(wanted.exception, UnicodeDecodeError):
+                    self.assertEqual(str(found.exception), str(wanted.exception))
 
     def test_floats_as_c_reads_them(self) -> None:
         """What it refuses, which Python's own reading may take, fails; all else is the same."""

@@ -55,7 +55,9 @@ _UNICODES = [b'a', b'\\u1234', b'\\U0001f600', b'\\U00110000', b'\\u12', b'\\\\u
              b"'", b'z' * 300, b'']
 _NAMES = [b'os\nsystem\n', b'__builtin__\neval\n', b'copy_reg\n_reconstructor\n', b'\xff\n\xe2\x82x\n', b'a.b\nc.d\n', b'os\n\n', b'class\nx\n',
           b'__future__\ndivision\n', b'x\n_5\n', b'y\nresult\n', b'y\nlen\n', b'z\nlen\n', b'm\n' + b'n' * 500 + b'\n', '\u00e9\n\u00fc\n'.encode(),
-          b'exceptions\nValueError\n', b"it's\na\"b\n", b'x\n__class__\n', b'x\n_IncompleteInputError\n']
+          b'exceptions\nValueError\n', b"it's\na\"b\n", b'x\n__class__\n', b'x\n_IncompleteInputError\n',
+          b'__builtin__\nfroz\xc7nset\n', b'\n\xff\n', b'\xff\n\n', b'{}\n"\'{\xff}\n', b'\xef\xbb\xbfx\ny\n', b'\xed\xa0\x80\nx\n',
+          b'x\n' + b'\xe9' * 300 + b'\n', '\U0001f600\nx\n'.encode()]
 _INTEGERS = [0, -1, 255, 1 << 63, -1 << 63, 10 ** 30, -10 ** 4200, 1 << 13999, 1 << 14000, -1 << 14000, (1 << 14000) - 1, 1 << 20000]
 _DOUBLES = [0.0, -0.0, 1.5, 1e16, 1e15, 1e-4, 1e-5, float('inf'), float('-inf'), float('nan'), -float('nan'), 5e-324, 0.1 + 0.2]
 _MARKED = [b'(K\x01K\x02t', b'(K\x01K\x02l', b'(K\x01K\x02d', b'(K\x01(K\x02t\x91', b'(K\x01]\x91', b'(]K\x01d', b'}(cos\nx\nK\x01u',

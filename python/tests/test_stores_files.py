@@ -430,6 +430,46 @@ class Bytes(ScanCase):
                     self.assertTrue({'posix.system', 'os.system'} & set(names_of(result)))
         self.assertEqual(self.look('b.bin', b'x' * 100 + HOSTILE).pickles, ())
 
+    def test_everywhere_in_pickles(self) -> None:
+        """Bytes and texts of a pickle, as each protocol writes them; also packed, as text, and in a database or an archive."""
+        inner = {'': HOSTILE, '(zlib)': zlib.compress(HOSTILE), '(gzip)': gzip.compress(HOSTILE), '(base64 at 0)': base64.b64encode(HOSTILE * 2),
+                 '(at 5)': b'abcd ' + pickle.dumps(['x' * 300]) + HOSTILE}
+        for protocol, (how, held) in itertools.product(range(6), inner.items()):
+            content = pickle.dumps({'key': 'of some text', 'payload': held, 'next': [1.5, None]}, protocol)
+            with self.subTest(protocol=protocol, how=how):
+                self.assertNotIn('posix.system', names_of(self.look('a.pkl', content)))
+                result = self.look('a.pkl', content, EVERYWHERE)
+                self.assertIn('posix.system', names_of(result))
+                self.assertEqual((result.others, result.error), (0, None))
+                found = [place for place in places_of(result) if place.startswith('(held at ')]
+                self.assertTrue(any(place.endswith(how) for place in found) or how == '(at 5)', places_of(result))
+        self.assertIn('posix.system', names_of(self.look('a.pkl', b"]S'cposix\\nsystem\\n(I1\\ntR.'\na.", EVERYWHERE)))
+        with sqlite3.connect(self.folder / 'a.db') as database:
+            database.execute('CREATE TABLE queue (value)')
+            database.execute('INSERT INTO queue VALUES (?)', (pickle.dumps({'payload': zlib.compress(HOSTILE)}),))
+        database.close()
+        self.assertEqual(names_of(look(str(self.folder / 'a.db'))), [])
+        self.assertEqual(places_of(look(str(self.folder / 'a.db'), EVERYWHERE)), ['queue.value row 1 > (held at 23) > (zlib)'])
+        large = pickle.dumps([b'x' * 9_000_000, HOSTILE, bytes(9_000_000) + HOSTILE])
+        self.assertEqual(sorted(places_of(self.look('b.pkl', large, EVERYWHERE)))[1:],
+                         [f'(held at {large.index(HOSTILE) - 2})', f'(held at {large.rindex(bytes(9_000_000)) - 5}) > (at 9000000)'])
+
+    def test_everywhere_in_pickles_has_a_depth(self) -> None:
+        value = HOSTILE
+        for depth in range(1, 6):
+            value = pickle.dumps({'payload': value})
+            result = self.look('a.pkl', value, EVERYWHERE)
+            self.assertEqual(names_of(result), ['posix.system'] * (depth < 5))
+            self.assertEqual('pickles in others are looked at to a depth of 4: this one is not' in notes_of(result), depth == 5)
+
+    def test_everywhere_in_honest_pickles(self) -> None:
+        chosen = random.Random(5)
+        value = {'words': ['word', 'N.', 'a sentence that ends in a list of (one.', 'hello world.'] * 900, 'sums': [chosen.randbytes(32) for _ in range(900)],
+                 'hex': [chosen.randbytes(16).hex() for _ in range(900)], 'plain': [pickle.dumps([1, 'x']), b'\x80\x04N.', bytes(100_000)]}
+        for protocol in range(6):
+            result = self.look('a.pkl', pickle.dumps(value, protocol), EVERYWHERE)
+            self.assertEqual((notes_of(result), set(names_of(result)) - {'_codecs.encode'}), ('', set()))
+
     def test_everywhere_without_signs(self) -> None:
         """Names with escapes, out of the memo, with a length in eight bytes; a call by INST before the end; a number of copyreg. Python's own
         loader comes to the call in each."""

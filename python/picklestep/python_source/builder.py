@@ -535,12 +535,27 @@ class Builder:
         if not statement.startswith('from'):
             self.needs |= {'import_module', 'reduce'} if 'reduce(getattr, ' in statement else {'import_module'}
         note = '' if found == (module, name) else f', in the pickle {module!r} {name!r}'
-        self.events.append(Statement(statement.replace('{', '{{').replace('}', '}}'), (), offset, note))
+        self.events.append(Statement(_form_of(statement), (), offset, note))
         return text
 
+    def _import_lines(self, line: str, encoding: str) -> str:
+        """Imports what GLOBAL or INST names. Where a line is no name it fails as C's unpickler does: before anything is imported."""
+        opcode = opcode_of(line)
+        assert isinstance(opcode.argument, tuple)
+        names = []
+        for name in opcode.argument:
+            try:
+                names.append(name.decode(encoding))
+            except UnicodeDecodeError:
+                self.events.append(Statement(_form_of(f'{name!r}.decode({encoding!r})'), (), opcode.offset))
+                return f'_{self._made}'
+            if not name:
+                self.events.append(Statement("raise EOFError('a name is empty')", (), opcode.offset))
+                return f'_{self._made}'
+        return self._import(opcode.offset, *names)
+
     def _on_global(self, line: str) -> None:
-        offset, (module, name) = _names_of(line)
-        self._push_name(self._import(offset, module, name))
+        self._push_name(self._import_lines(line, 'utf-8'))
 
     def _on_stack_global(self, line: str) -> None:
         module, name = map(self._take, self._last(2))
@@ -598,8 +613,7 @@ class Builder:
 
     def _on_inst(self, line: str) -> None:
         items = self._cut()
-        offset, (module, name) = _names_of(line)
-        self._instantiate(line, Node.name(self._made, self._import(offset, module, name)), items)
+        self._instantiate(line, Node.name(self._made, self._import_lines(line, 'ascii')), items)
 
     def _instantiate(self, line: str, kind: Entry, items: List[Entry]) -> None:
         if items:
@@ -659,12 +673,9 @@ def taken_count(opcode: pickletools.OpcodeInfo) -> Optional[int]:
     return None if pickletools.markobject in opcode.stack_before else len(opcode.stack_before)
 
 
-def _names_of(line: str) -> Tuple[int, Tuple[str, str]]:
-    """The offset and the two texts of GLOBAL or INST."""
-    opcode = opcode_of(line)
-    assert isinstance(opcode.argument, tuple)
-    module, name = (text.decode('utf-8', 'backslashreplace') for text in opcode.argument)
-    return opcode.offset, (module, name)
+def _form_of(statement: str) -> str:
+    """A statement without parts."""
+    return statement.replace('{', '{{').replace('}', '}}')
 
 
 def _literal_text(entry: Entry) -> Optional[str]:

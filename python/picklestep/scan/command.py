@@ -19,7 +19,7 @@ from .allow import SETS, Used, read_names
 from .blobs import Limits
 from .cluster import NoCluster, look_on_cluster
 from .files import NoNames, find_files
-from .looking import Options
+from .looking import Options, look
 from .looks import Judge
 from .pool import look_at_all
 from .progress import with_progress
@@ -52,12 +52,13 @@ def _positive(text: str) -> int:
     return number
 
 
-def _parser() -> argparse.ArgumentParser:
+def _parser(fewest: str = '+') -> argparse.ArgumentParser:
+    """The options and names. `fewest` is how many names there are to be, as argparse has it."""
     parser = argparse.ArgumentParser(
         prog='picklestep scan', description='Shows what the pickles in files import and call. Nothing of them is run or loaded.',
         epilog='Status: 0; 1 if there is a line to look at first (it begins with !); 2 if the command could not begin; 130 after Ctrl-C. '
                'Neither ! nor its absence is a verdict.')
-    parser.add_argument('paths', metavar='PATH', nargs='+',
+    parser.add_argument('paths', metavar='PATH', nargs=fewest,
                         help='a file, a folder, a server (redis://, memcached://, postgresql://, mysql://), a URL for fsspec, or - for names on '
                              'standard input')
     _add_lists(parser)
@@ -66,7 +67,8 @@ def _parser() -> argparse.ArgumentParser:
     parser.add_argument('--brief', action='store_true', help='only lines to look at, and the summary')
     parser.add_argument('--lines', action='store_true', help="each pickle with all of the program's lines")
     parser.add_argument('--full', action='store_true', help='arguments in full: whole texts, and all parts of a tuple')
-    parser.add_argument('--everywhere', action='store_true', help='try each offset at which a pickle may begin, and texts that stand for bytes')
+    parser.add_argument('--everywhere', action='store_true',
+                        help='try each offset at which a pickle may begin, texts that stand for bytes, and what pickles hold')
     parser.add_argument('--jobs', metavar='N', type=_positive, default=1, help='files at once')
     parser.add_argument('--cluster', metavar='ADDRESS', help='hand the files to the Dask cluster at this address')
     parser.add_argument('--resume', metavar='LOG', help='leave out what an earlier --json run has in this file')
@@ -92,6 +94,16 @@ def _add_lists(parser: argparse.ArgumentParser) -> None:
     parser.add_argument('--deny', metavar='FILE', action='append', default=[], help='mark the names in FILE, also where they are allowed')
     parser.add_argument('--no-known', action='store_true', help='do not mark names that are known to run what they are given')
     parser.add_argument('--write-allow', metavar='FILE', help='write the names that these files import, as a list for --allow')
+
+
+def _parsed(words: List[str]) -> argparse.Namespace:
+    """What the words say. All behind the first `--` are names of files, whatever they look like: argparse, where options and names come in
+    any order, would take some for options."""
+    at = words.index('--') if '--' in words else len(words)
+    files = words[at + 1:]
+    parsed = _parser('*' if files else '+').parse_intermixed_args(words[:at])
+    parsed.paths = [*(parsed.paths or ()), *(os.path.join('.', name) if name == '-' else name for name in files)]
+    return parsed
 
 
 def _earlier(log: Optional[str]) -> Dict[str, Result]:
@@ -204,9 +216,10 @@ def _write(path: str, text: str) -> None:
         file.write(text)
 
 
-def _followed_by(results: Generator[Result, None, None], others: List[Result]) -> Generator[Result, None, None]:
-    """Results, and then those that were added to a list meanwhile."""
+def _in_a_row(first: Iterable[Result], results: Generator[Result, None, None], others: List[Result]) -> Generator[Result, None, None]:
+    """Results, one kind behind another; the last are those that were added to a list by then."""
     with closing(results):
+        yield from first
         yield from results
     yield from others
 
@@ -246,9 +259,11 @@ def _scan(words: argparse.Namespace) -> int:
         # (Where a server does not answer, the result that says so comes when the others have come.)
         failed: List[Result] = []
         keys = chain.from_iterable(tasks(server, wanted, failed.append) for server in servers)
-        results = _followed_by(_results(words, chain(paths, keys)), failed)
-        total = len(paths) + sum(total_of(server, wanted) for server in servers)
-        what = 'files' if not servers else 'files and keys' if paths else 'keys'
+        opened = (look(path, _options(words)) for path in found.opened)
+        results = _in_a_row(opened, _results(words, chain(paths, keys)), failed)
+        files = len(paths) + len(found.opened)
+        total = files + sum(total_of(server, wanted) for server in servers)
+        what = 'files' if not servers else 'files and keys' if files else 'keys'
         with closing(with_progress(results, total, what)) as shown, closing(results):
             for result in shown:
                 output.add(result)
@@ -262,7 +277,7 @@ def _scan(words: argparse.Namespace) -> int:
 
 def main(words: Optional[List[str]] = None) -> int:
     """Does what the words say, and answers the status."""
-    parsed = _parser().parse_intermixed_args(words)
+    parsed = _parsed(sys.argv[1:] if words is None else words)
     for stream in (sys.stdout, sys.stderr):
         if isinstance(stream, io.TextIOWrapper):  # names of files may hold what the terminal's encoding does not
             stream.reconfigure(errors='backslashreplace')

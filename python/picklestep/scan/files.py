@@ -8,7 +8,7 @@ import sys
 from importlib import import_module
 from typing import BinaryIO, Iterable, Iterator, List
 
-from .looking import is_url, left_out
+from .looking import is_opened, is_url, left_out
 from .results import Note, Result
 
 __all__ = ['Found', 'NoNames', 'find_files', 'read_names']
@@ -19,10 +19,11 @@ class NoNames(Exception):
 
 
 class Found:
-    """The files to look at, and a result for each path at which there is nothing to look at."""
+    """The files to look at, and a result for each path at which there is nothing to look at. What is `opened` only this process can read."""
 
     def __init__(self) -> None:
         self.paths: List[str] = []
+        self.opened: List[str] = []
         self.results: List[Result] = []
 
     def add(self, path: str) -> None:
@@ -31,10 +32,12 @@ class Found:
             self.paths.extend(_urls(path))
         elif os.path.isdir(path):
             self._walk(path)
+        elif is_opened(path):
+            self.opened.append(path)
         else:
-            self._add_file(path)
+            self._add_file(path, is_named=True)
 
-    def _add_file(self, path: str) -> None:
+    def _add_file(self, path: str, is_named: bool = False) -> None:
         """Adds a file, also through a symbolic link (caches of models consist of these)."""
         try:
             state = os.stat(path)
@@ -46,7 +49,7 @@ class Found:
         elif stat.S_ISDIR(state.st_mode):
             self.results.append(Result(path, left='a symbolic link to a folder'))
         else:
-            self.results.append(Result(path, left=left_out(state.st_mode)))
+            self.results.append(left_out(path, state.st_mode, is_named))
 
     def _walk(self, top: str) -> None:
         """Adds what a folder holds. A symbolic link to a folder is not followed: it may lead back."""

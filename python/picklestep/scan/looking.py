@@ -23,7 +23,7 @@ from typing import BinaryIO, Callable, Iterator, List, Optional, Tuple, cast
 from ..sources import LIMIT
 from . import stores, zips
 from .begins import HEAD, is_pickle_name, is_storage_name, may_be_pickle
-from .blobs import Blob, Budget, BytesBlob, FileBlob, JoinedBlob, LimitMet, Limits, OpenedBlob, PartMet, spooled
+from .blobs import CHUNK, Blob, Budget, BytesBlob, FileBlob, JoinedBlob, LimitMet, Limits, OpenedBlob, PartMet, spooled
 from .canonical import Form, NotCanonical, torch
 from .canonical.forms import WRITERS
 from .canonical.kinds import asked_form, begun_form, kinds_of
@@ -39,6 +39,7 @@ from .unread import kind_by_end
 __all__ = ['Looker', 'Options', 'Reads', 'Unpacked', 'look', 'look_at_bytes']
 
 _URL = re.compile(r'[A-Za-z][A-Za-z0-9+.-]*(::|://)')
+_OPENED = re.compile(r'/dev/(stdin|fd/[0-9]+)|/proc/self/fd/[0-9]+')
 # The program ends at a frame in a frame, and at an opcode that crosses the end of one. Raw numbers do not get there, and CPython goes on.
 _FRAME_FAULTS = ('F6', 'F8')
 # The bytes by which a member is known to be a container: its first ones, and where the record is that closes a zip archive.
@@ -108,7 +109,7 @@ class Looker:
         if not opened:
             self._look_at_leaf(blob, head, where, names, depth, is_gap)
         elif kinds and self._may_be_pickle_too(kinds, blob, head, names):
-            self.is_read(blob, head, where, names)
+            self.is_read(blob, head, where, names, depth=depth)
 
     def _kinds(self, blob: Blob, head: bytes, where: Place, names: Tuple[str, ...]) -> List[Container]:
         """The kinds of containers that some reader may take these bytes for. Several, or another one than the name asks for, are told."""
@@ -139,8 +140,9 @@ class Looker:
     def _look_at_leaf(self, blob: Blob, head: bytes, where: Place, names: Tuple[str, ...], depth: int, is_gap: bool) -> None:
         """Looks at what is no container: a pickle by its name or its first bytes, or where a loader gets somewhere in it; or records."""
         begins = _begins_as_pickle(head, names)
-        if (begins or self._leads_somewhere(blob)) and self.is_read(blob, head, where, names, is_sure=begins):
-            stores.look_behind(self, blob, where, depth)
+        before = len(self.pickles)
+        if (begins or self._leads_somewhere(blob)) and self.is_read(blob, head, where, names, is_sure=begins, depth=depth):
+            stores.look_behind(self, self.pickles[before], blob, where, depth)
         elif not stores.look_further(self, blob, where, depth, is_gap):
             self._count_other(where)
 
@@ -165,9 +167,9 @@ class Looker:
     # --- Pickles ---
 
     def is_read(self, blob: Blob, head: bytes, where: Place, names: Tuple[str, ...], reads: Reads = layout_of,
-                is_sure: bool = False, calls: Optional[bytes] = None) -> bool:
+                is_sure: bool = False, calls: Optional[bytes] = None, depth: Optional[int] = None) -> bool:
         """Asks the program, and keeps its answer where the bytes are a pickle. False where they are none. `calls` is its answer, if it was
-        asked."""
+        asked. What the pickle holds may be looked at where it is said in how many others it is."""
         self.at = where
         layout, told = self._layout(blob, reads)
         opcodes = JoinedBlob(blob, layout.raw) if layout is not None and layout.raw else blob
@@ -182,6 +184,8 @@ class Looker:
             self.note(where, told, missed=True)
         if layout is not None and layout.inner:
             self._look_at_inner(blob, layout, where)
+        if depth is not None:
+            stores.look_inside(self, opcodes, where, depth)
         return True
 
     def _layout(self, blob: Blob, reads: Reads) -> Tuple[Optional[Layout], Optional[str]]:
@@ -401,18 +405,42 @@ _FLAGS = os.O_RDONLY | reduce(or_, (getattr(os, flag, 0) for flag in ('O_NONBLOC
 def _look_at_file(looker: Looker, path: str) -> Result:
     with FileIO(os.open(path, _FLAGS), 'rb') as file:  # (a FIFO does not make it wait)
         state = mode, size, modified, changed = _state(file)
+        if stat.S_ISFIFO(mode) and is_opened(path):
+            return _look_at_pipe(looker, file, path)
         if not stat.S_ISREG(mode):
-            return Result(path, left=left_out(mode))
+            return left_out(path, mode, is_named=True)
         result = _gone_through(looker, FileBlob(cast(BinaryIO, file), size, path), path, modified, changed)
         if _state(file) == state:
             return result
         return replace(result, notes=result.notes + (Note((), 'it changed while it was looked at', True),))
 
 
-def left_out(mode: int) -> str:
-    """Why what has this mode is left out."""
+def _look_at_pipe(looker: Looker, file: FileIO, path: str) -> Result:
+    """What a pipe gives is held in memory, and where it is too much for that, the first of it."""
+    os.set_blocking(file.fileno(), True)
+    holder = Unpacked()
+    copy = spooled(holder.first(iter(lambda: file.read(CHUNK), b''), looker.budget.most_held()))
+    with copy.file:
+        if holder.is_cut:
+            looker.note((), f'it gives more than the {copy.size:,} bytes that may be held at once: the first of them are looked at', missed=True)
+        looker.budget.held += copy.size
+        return _gone_through(looker, copy, path)
+
+
+def is_opened(path: str) -> bool:
+    """Whether a path is what this process was given open, such as a pipe of the shell. No other process has it under this name.
+
+    >>> is_opened('/dev/stdin'), is_opened('/dev/fd/63'), is_opened('/dev/null')
+    (True, True, False)
+    """
+    return _OPENED.fullmatch(os.path.abspath(path)) is not None
+
+
+def left_out(path: str, mode: int, is_named: bool) -> Result:
+    """That what has this mode is left out. Who has named it expects it to be looked at."""
     kinds = ((stat.S_ISFIFO, 'a FIFO'), (stat.S_ISSOCK, 'a socket'), (stat.S_ISDIR, 'a folder'))
-    return next((kind for test, kind in kinds if test(mode)), 'a device')
+    left = next((kind for test, kind in kinds if test(mode)), 'a device')
+    return Result(path, left=left, notes=(Note((), f'{left} is not looked at', missed=True),) if is_named else ())
 
 
 def _look_at_url(looker: Looker, path: str) -> Result:

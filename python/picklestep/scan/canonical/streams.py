@@ -127,7 +127,7 @@ def _zfile(packed: Blob) -> None:
 def _for_trial(head: bytes) -> bytes:
     """The beginning of an lzma stream, with a dictionary that fits in memory: a first part reaches no further back."""
     dictionary = int.from_bytes(head[1:5], 'little')
-    is_plain = head[0] == 0x5D or bin(dictionary).rstrip('0') in ('0b1', '0b11') or dictionary == 2 ** 32 - 1
+    is_plain = bin(dictionary).rstrip('0') in ('0b1', '0b11') or dictionary == 2 ** 32 - 1
     return head[:1] + _DICTIONARY.to_bytes(4, 'little') + head[5:] if is_plain and dictionary > _DICTIONARY else head
 
 
@@ -143,9 +143,10 @@ def _zeros(blob: Blob, at: int) -> int:
 
 
 def _is_lzma(blob: Blob) -> bool:
-    """Whether LZMAFile, which takes whatever liblzma takes, gets something out of these bytes. tarfile tries it on each file.
+    """Whether LZMAFile gets something out of these bytes. tarfile tries it on each file, and joblib on what begins with 5D 00.
 
-    It goes on over empty streams; 18 zeros are one.
+    It lets liblzma choose the form (FORMAT_AUTO), which then takes no dictionary and no size that its own writers do not write. FORMAT_ALONE
+    would: each list of protocol 1 begins like that. It goes on over empty streams; 18 zeros are one.
     """
     at = 0
     for _ in range(_MOST_STREAMS):
@@ -154,7 +155,7 @@ def _is_lzma(blob: Blob) -> bool:
         head = blob.read(at, HEAD)
         if len(head) < _LZMA_HEADER or not at and head[0] not in _BEGINS_LZMA:
             return False
-        inner = lzma.LZMADecompressor(lzma.FORMAT_ALONE if head[0] == 0x5D else lzma.FORMAT_AUTO, LZMA_MEMORY)
+        inner = lzma.LZMADecompressor(lzma.FORMAT_AUTO, LZMA_MEMORY)
         try:
             made = inner.decompress(_for_trial(head), _FIRST_PART)
         except (lzma.LZMAError, ValueError, EOFError, MemoryError):

@@ -21,7 +21,7 @@ def look_into(looker: Looker, held: Held) -> bool:
     member = form.members[0]
     rest, inner = held.blob.part(member.offset, member.size), held.where + (member.name,)
     if member.role == 'pickle':
-        looker.is_read(rest, rest.read(0, HEAD), inner, ('objects.pkl',), alone)
+        looker.is_read(rest, rest.read(0, HEAD), inner, ('objects.pkl',), alone, depth=held.depth + 1)
     else:
         looker.look_at_numbers(rest, inner, (), held.depth + 1)
     return True
@@ -31,6 +31,7 @@ def _look_into_odd(looker: Looker, held: Held) -> None:
     start, has_objects = array_header(held.blob)
     rest = held.blob.part(start, held.blob.size - start)
     if has_objects:
-        looker.is_read(rest, rest.read(0, HEAD), held.where + ('(objects)',), ('objects.pkl',))
+        looker.is_read(rest, rest.read(0, HEAD), held.where + ('(objects)',), ('objects.pkl',),
+                       depth=held.depth + 1)
     else:
         looker.look_at(rest, held.where + ('(numbers)',), (), held.depth + 1, is_gap=True)

@@ -33,7 +33,7 @@ def look_into(looker: Looker, held: Held) -> bool:
         inner, content = where + (member.name,), blob.part(member.offset, member.size)
         if is_torch and member.name in torch.TAR_MEMBERS:
             name = member.name
-            looker.is_read(content, content.read(0, HEAD), inner, (name,), partial(of_torch_tar, name), True)
+            looker.is_read(content, content.read(0, HEAD), inner, (name,), partial(of_torch_tar, name), True, depth=depth)
             continue
         before = len(looker.notes)
         looker.look_at(content, inner, (member.name,), depth + 1)

@@ -47,7 +47,7 @@ def look_at_end(looker: Looker, held: Held, head: bytes) -> bool:
     _look_into_odd(looker, held)
     first = [pickle for pickle in looker.pickles[found:] if pickle.where[:-1] == where and pickle.where[-1].startswith('(bytes 0 to ')]
     if may_be_pickle(head, blob.size) and not any(pickle.end.is_stopped for pickle in first):
-        looker.is_read(blob, head, where, held.names)
+        looker.is_read(blob, head, where, held.names, depth=held.depth)
     return True
 
 
@@ -115,7 +115,8 @@ def _look_at_member(looker: Looker, held: Held, member: Member, where: Place, re
             unpacked.take(piece)
             looker.budget.spend()
         if read is not None:
-            looker.is_read(packed, packed.read(0, HEAD), where, (member.name,), read.reads, calls=read.calls)
+            looker.is_read(packed, packed.read(0, HEAD), where, (member.name,), read.reads, calls=read.calls,
+                           depth=held.depth + 1)
         else:
             looker.look_at(packed, where, (member.name,), held.depth + 1)
     else:

@@ -9,7 +9,7 @@ from typing import TYPE_CHECKING
 
 from ..blobs import Blob, BytesBlob
 from ..containers import HDF5, Held
-from ..results import Place
+from ..results import Pickle, Place
 from .dbm_files import has_index, look_at_dumb
 from .early import may_be_behind_few
 from .framed import framing_of
@@ -20,7 +20,7 @@ from .values import SMALL, Values
 if TYPE_CHECKING:
     from ..looking import Looker
 
-__all__ = ['SMALL', 'asks', 'look_behind', 'look_beside', 'look_further']
+__all__ = ['SMALL', 'asks', 'look_behind', 'look_beside', 'look_further', 'look_inside']
 
 # So much shows whether a file may have a pickle behind a few bytes.
 _BEGIN = 1 << 16
@@ -59,7 +59,7 @@ def look_further(looker: 'Looker', blob: Blob, where: Place, depth: int, is_gap:
             values.look_at_texts(blob, where, depth)
         # (where one pickle is behind a few bytes, others may follow, and a large one is not seen there)
         if is_searched or found is not None or blob.size > SMALL and has_proto(begin):
-            values.look_everywhere(blob, where, known=found)
+            values.look_everywhere(blob, where, known=found, depth=depth)
     values.flush()
     if has_records or is_searched or (len(looker.pickles), looker.plain, len(looker.notes)) != before:
         return True
@@ -72,16 +72,30 @@ def _may_be_dumb(where: Place) -> bool:
     return bool(where) and where[-1].lower().endswith('.dat')
 
 
-def look_behind(looker: 'Looker', blob: Blob, where: Place, depth: int) -> None:
+def look_behind(looker: 'Looker', pickle: Pickle, blob: Blob, where: Place, depth: int) -> None:
     """Looks, if `everywhere` is set or these may be values of `dbm.dumb`, at what is behind a pickle that was not read to the end of its bytes."""
-    if not (looker.options.everywhere or _may_be_dumb(where)) or not looker.pickles or looker.pickles[-1].end.is_stopped:
+    if not (looker.options.everywhere or _may_be_dumb(where)) or pickle.end.is_stopped:
         return
     values = Values(looker)
     values.begin(where, blob.size)
-    values.look_everywhere(blob.part(1, blob.size - 1), where, 1)
+    values.look_everywhere(blob.part(1, blob.size - 1), where, 1, depth=depth)
     others = looker.others
     values.flush()
     looker.others = others
+
+
+def look_inside(looker: 'Looker', blob: Blob, where: Place, depth: int) -> None:
+    """Looks, if `everywhere` is set, at what a pickle holds."""
+    if not looker.options.everywhere:
+        return
+    values = Values(looker)
+    others = looker.others
+    try:
+        values.begin(where, blob.size)
+        values.look_inside(blob, where, depth)
+    finally:
+        values.flush()
+        looker.others = others
 
 
 def look_beside(looker: 'Looker', blob: Blob, path: str) -> bool:

@@ -9,7 +9,7 @@ from concurrent.futures import Future, ThreadPoolExecutor
 from typing import TYPE_CHECKING, Callable, Iterator, List, NamedTuple, Optional, Sequence, Set, Tuple
 
 from ..begins import HEAD, may_be_pickle
-from ..blobs import STEPS, Blob, BytesBlob, LimitMet
+from ..blobs import STEPS, Blob, BytesBlob, JoinedBlob, LimitMet
 from ..canonical.streams import Stream
 from ..canonical.wide import may_lead_on
 from ..containers import MAY_BE_STORE, Container, kind_of, store_of
@@ -21,8 +21,9 @@ from .asking import MOST_BYTES, MOST_PICKLES, NOTHING, answers
 from .early import CUT, Early, EarlySearch, may_be_behind_few
 from .encodings import UNFINISHED, decoded, is_word
 from .framed import framing_of
+from .inside import Text, bytes_of, texts_in
 from .long_texts import LongText
-from .telling import PREFIX, is_json, packed_places, prefixes, stands_for_bytes
+from .telling import LEAST, PREFIX, is_json, may_hold, packed_places, prefixes, stands_for_bytes
 from .walk import is_opcode, stops_at_end, walk
 
 if TYPE_CHECKING:
@@ -178,7 +179,7 @@ class Values:
         """
         if len(content) <= _SHORT and content and ((content, depth) in self._nothing or is_word(content)):
             is_pickle = False
-        elif self._trusts and content[:1] == b'\x80' and content[-1] == _STOP and content[1] <= 5 and content[_TAR:_TAR + 5] != b'ustar':
+        elif self._trusts and not self.looker.options.everywhere and content[:1] == b'\x80' and content[-1] == _STOP and content[1] <= 5 and content[_TAR:_TAR + 5] != b'ustar':
             is_pickle = True
         else:
             return False
@@ -285,16 +286,19 @@ class Values:
             return False
         self.looker.at = where
         if content[0] == _PROTO and stops_at_end(content) and content[_TAR:_TAR + 5] != b'ustar':
+            self.look_inside(BytesBlob(content), where, depth)
             return self._wait(_Waiting(content, where, self.count, guessed))
         head = content[:HEAD]
         found = self._look_into(head, content, where, depth, guessed)
         if stops_at_end(content):
+            self.look_inside(BytesBlob(content), where, depth)
             return self._wait(_Waiting(content, where, self.count, guessed, further=depth)) or found
         if found:
             return True
-        if self._may_begin(head, content, guessed):
-            found = self._is_read(content, where, guessed)
-        return found or self._look_further(content, where, depth)
+        if self._may_begin(head, content, guessed) and self._is_read(content, where, guessed):
+            self.look_inside(BytesBlob(content), where, depth)
+            return True
+        return self._look_further(content, where, depth)
 
     @staticmethod
     def _may_begin(head: bytes, content: bytes, guessed: bool) -> bool:
@@ -371,6 +375,26 @@ class Values:
 
     # --- What holds a pickle without saying so ---
 
+    def look_inside(self, blob: Blob, where: Place, depth: int) -> None:
+        """Looks, if `everywhere` is set, at the texts and bytes that a pickle holds, as at values."""
+        if not self.looker.options.everywhere:
+            return
+        for text in texts_in(blob):
+            offset = blob.offset_of(text.offset) if isinstance(blob, JoinedBlob) else text.offset
+            self._spend(_STEPS_OF_A_VALUE if text.size >= LEAST else 1)
+            self._look_at_held(blob, text, where + (f'(held at {offset})',), depth)
+
+    def _look_at_held(self, blob: Blob, text: Text, where: Place, depth: int) -> None:
+        """Looks at what an opcode of a pickle holds."""
+        is_deep = depth >= self.looker.options.limits.depth
+        if text.size > SMALL and not is_deep:
+            self.looker.look_at(blob.part(text.start, text.size), where, (), depth + 1)
+        for inner in bytes_of(text, blob.read(text.start, text.size)) if LEAST <= text.size <= SMALL else ():
+            if is_deep and stops_at_end(inner) and walk(inner, 0).is_likely:
+                self.looker.note(where, f'pickles in others are looked at to a depth of {depth}: this one is not', missed=True)
+            elif not is_deep and not (len(inner) <= _SHORT and is_word(inner)) and may_hold(inner):
+                self._look(inner, where, depth + 1, guessed=True)
+
     def _look_further(self, content: bytes, where: Place, depth: int) -> bool:
         """Looks behind lengths and signs, and at what texts stand for. These are guesses: what is none of them leaves no note."""
         if depth >= self.looker.options.limits.depth:
@@ -382,13 +406,13 @@ class Values:
         few = self.look_behind_few(blob, content, where, depth)
         if few is not None:
             if few[-1][1] < len(content):  # (others may follow, as in a queue)
-                self.look_everywhere(blob, where, known=few)
+                self.look_everywhere(blob, where, known=few, depth=depth)
             return True
         found = False
         for offset, name, inner in decoded(content):
             found = self._look(inner, where + (f'({name} at {offset})',), depth + 1, guessed=True) or found
         if self.looker.options.everywhere and not found:
-            return self.look_everywhere(blob, where)
+            return self.look_everywhere(blob, where, depth=depth)
         return found
 
     def records(self, blob: Blob, where: Place, depth: int) -> bool:
@@ -404,7 +428,7 @@ class Values:
             end = start + length
         if end < blob.size:
             self.looker.note(where, f'records with a length: that at {end} is cut short', missed=True)
-            self.look_everywhere(blob.part(end, blob.size - end), where, end)
+            self.look_everywhere(blob.part(end, blob.size - end), where, end, depth=depth)
         return True
 
     def look_behind_few(self, blob: Blob, content: bytes, where: Place, depth: int) -> Optional[List[_Span]]:
@@ -413,6 +437,8 @@ class Values:
         """
         found = [(offset, walk(content, offset).end) for offset in prefixes(content) if self._look_at_guess(content, offset, where)]
         found = found or self._look_at_early(blob, content, where)
+        for offset, end in found:
+            self.look_inside(blob.part(offset, end - offset), where + (f'(at {offset})',), depth)
         if found:
             return found
         for offset in packed_places(content):
@@ -514,7 +540,7 @@ class Values:
             self.looker.others = before[1]
         return text.end
 
-    def look_everywhere(self, blob: Blob, where: Place, shift: int = 0, known: Optional[List[_Span]] = None) -> bool:
+    def look_everywhere(self, blob: Blob, where: Place, shift: int = 0, known: Optional[List[_Span]] = None, depth: int = 0) -> bool:
         """Looks at each offset at which a pickle may begin, but at those of what is known."""
         found = False
         try:
@@ -522,7 +548,9 @@ class Values:
                 if known is not None and any(start <= offset < end for start, end in known):
                     continue
                 place = where + (f'(at {offset + shift})',)
-                found = self._take(inner, place) or found
+                if self._take(inner, place):
+                    found = True
+                    self.look_inside(BytesBlob(inner), place, depth)
         except LimitMet as limit:
             self.looker.note(where, str(limit), missed=True)
         return found

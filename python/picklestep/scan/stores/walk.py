@@ -10,7 +10,7 @@ import pickletools
 import re
 from typing import List, Optional, Set, Tuple
 
-__all__ = ['CHECKSUM', 'MOST', 'Walk', 'is_opcode', 'may_begin', 'stops_at_end', 'walk']
+__all__ = ['CHECKSUM', 'MOST', 'Walk', 'is_opcode', 'length_at', 'may_begin', 'stops_at_end', 'walk']
 
 _PAIR, _LINE, _ONE, _FOUR, _EIGHT, _UNKNOWN = -1, -2, -3, -4, -5, -6
 
@@ -73,6 +73,16 @@ def _variable(content: bytes, at: int, step: int) -> int:
         return 0
     width = 1 if step == _ONE else 4 if step == _FOUR else 8
     return 1 + width + int.from_bytes(content[at + 1:at + 1 + width], 'little')
+
+
+def length_at(content: bytes, at: int) -> int:
+    """The length of the opcode at an offset with its argument, which may reach out of these bytes; 0 where it is none, or a line in it has no end.
+
+    >>> length_at(b'NC\\5abc', 0), length_at(b'NC\\5abc', 1), length_at(b'w', 0)
+    (1, 7, 0)
+    """
+    step = _STEPS[content[at]]
+    return step if step >= 0 else max(0, _variable(content, at, step))
 
 
 def is_opcode(byte: int) -> bool:

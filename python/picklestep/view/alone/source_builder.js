@@ -212,8 +212,14 @@ class Builder {
     return bound.text;
   }
 
-  importNamed() {
-    return this.import(nameOfLine(this.line()), nameOfLine(this.line(1)));
+  // Imports what two lines name. Where one is no name it fails as C's unpickler does: before anything is imported.
+  importLines(encoding) {
+    const lines = [this.line(), this.line(1)];
+    const names = lines.map((line) => nameOfLine(line, encoding)), at = names.findIndex((name) => !name || !name.value);
+    if (at < 0) return this.import(...names);
+    const statement = names[at] ? "raise EOFError('a name is empty')" : `${pythonBytes(lines[at])}.decode('${encoding}')`;
+    this.events.push(new Statement(() => statement, [], this.offset));
+    return `_${this.made}`;
   }
 
   importTexts() {
@@ -250,7 +256,7 @@ class Builder {
 
   instantiateNamed() {
     const items = this.cut();
-    this.instantiate(new Node('name', this.made, [], this.importNamed()), items);
+    this.instantiate(new Node('name', this.made, [], this.importLines('ascii')), items);
   }
 
   build() {
@@ -292,7 +298,7 @@ const HANDLERS = {
   EMPTY_TUPLE: (built) => built.push('()'), BYTEARRAY8: (built) => built.pushAtom(bytearraySource(built.counted('bytearray8'))),
   APPEND: (built) => built.fill([built.stack.pop()], 'append'), APPENDS: (built) => built.fill(built.cut(), 'append'),
   ADDITEMS: (built) => built.fill(built.cut(), 'add'), SETITEM: (built) => built.set(built.last(2)), SETITEMS: (built) => built.set(built.cut()),
-  GLOBAL: (built) => built.pushName(built.importNamed()), STACK_GLOBAL: (built) => built.importTexts(), INST: (built) => built.instantiateNamed(),
+  GLOBAL: (built) => built.pushName(built.importLines('utf-8')), STACK_GLOBAL: (built) => built.importTexts(), INST: (built) => built.instantiateNamed(),
   PERSID: (built) => built.callOwn('persistent_load', [String(lineSource('PERSID', built.line()))]),
   BINPERSID: (built) => built.callOwn('persistent_load', built.last(1)), BUILD: (built) => built.build(),
   REDUCE: (built) => { const [called, spread] = built.last(2); built.call('', called, { spread }); },

@@ -4,18 +4,17 @@
 const IDENTIFIER = /^[A-Za-z_][A-Za-z0-9_]*$/;
 const MOST_NAME = 1000; // letters of a name that stands wherever it is used
 const OWN = /^(result)?_[0-9]+$/;
-const IS_UTF8 = '[\\0-\\x7f]|[\\xc2-\\xdf][\\x80-\\xbf]|\\xe0[\\xa0-\\xbf][\\x80-\\xbf]|[\\xe1-\\xec\\xee\\xef][\\x80-\\xbf]{2}|' +
-  '\\xed[\\x80-\\x9f][\\x80-\\xbf]|\\xf0[\\x90-\\xbf][\\x80-\\xbf]{2}|[\\xf1-\\xf3][\\x80-\\xbf]{3}|\\xf4[\\x80-\\x8f][\\x80-\\xbf]{2}';
 const LITERAL_SIGN = /\\(?:x([0-9a-f]{2})|u([0-9a-f]{4})|U([0-9a-f]{8})|([^]))|[^]/gu;
 
-// A line of GLOBAL or INST. Bytes that are no UTF-8 are escapes in it.
-function nameOfLine(bytes) {
-  const parts = binary(bytes).match(new RegExp(`(?:${IS_UTF8})+|[^]`, 'g')) || [];
-  const value = parts.map((part) => {
-    const isText = new RegExp(`^(?:${IS_UTF8})`).test(part);
-    return isText ? strict.decode(latin(part)) : '\\x' + part.charCodeAt(0).toString(16);
-  }).join('');
-  return { value, shown: signsSource([...value]) };
+// A line of GLOBAL or INST, or null where it is no text.
+function nameOfLine(bytes, encoding) {
+  if (encoding === 'ascii' && bytes.some((byte) => byte > 127)) return null;
+  try {
+    const value = strict.decode(bytes);
+    return { value, shown: signsSource([...value]) };
+  } catch (error) {
+    return null;
+  }
 }
 
 // The signs of a text or of bytes that stand in the source in quotes.
@@ -36,7 +35,7 @@ function nameOfEntry(entry) {
 // What Python 3 imports for a name of Python 2, by what the program says of the opcode.
 function oldNames(said) {
   const reach = reachOf(said);
-  return reach && reach.oldModule ? [reach.module, reach.name].map((shown) => nameOfLine(unquoted(shown))) : null;
+  return reach && reach.oldModule ? [reach.module, reach.name].map((shown) => nameOfLine(unquoted(shown), 'utf-8')) : null;
 }
 
 // The names of a source, each for one thing as it is when it is imported: a name which a pickle imports again is another one.
