@@ -9,7 +9,7 @@ from ..records import End
 from .known import known_names
 from .names import Names
 from .reading import is_worked_out
-from .results import Call, Import, Pickle, Place, Result
+from .results import ODD, Call, Import, Pickle, Place, Result
 from .wording import shown, times
 
 __all__ = ['Judge', 'Look', 'RULES', 'call_text', 'calls_of', 'end_text', 'import_text']
@@ -21,6 +21,7 @@ RULES = {
     'denied': 'It imports a name of the list of --deny.',
     'not-allowed': 'It imports a name that no list of --allow has.',
     'not-allowed-done': 'It does something with an allowed name that no list of --allow says may be done with it.',
+    'odd': 'It says of kinds of items or arrays what numpy believes and does not write, so that memory may be overwritten.',
     'not-read': 'It was not read to its end (STOP), and a loader may go on.',
     'not-looked-at': 'Something in it was not looked at.',
     'cannot-be-read': 'The file cannot be read.',
@@ -65,6 +66,8 @@ def import_text(found: Import, why: Optional[str]) -> str:
 
 def call_text(done: Call) -> str:
     """What a pickle does with one thing, with the program's line for the first time."""
+    if done.what == ODD:
+        return f'{done.name} as numpy never writes it, first at {done.offset}{_in_part(done.part)}: {shown(done.text)}'
     what = f'{done.what} {shown(done.name)}' if done.name else _WITHOUT_NAME.get(done.what, done.what)
     return f'{what} {times(done.count)}, first at {done.offset}{_in_part(done.part)}: {shown(done.text)}'
 
@@ -147,7 +150,9 @@ class Judge:
                 calls += [done for done in pickle.calls if not done.name and done.what in _OF_OBJECTS]
             yield Look(pickle.where, rule, import_text(found, why), found.name, found.offset, tuple(map(call_text, calls)))
         for done in pickle.calls:
-            if not self.allows_done(done.what, done.name):
+            if done.what == ODD:
+                yield Look(pickle.where, 'odd', call_text(done), done.name, done.offset)
+            elif not self.allows_done(done.what, done.name):
                 yield Look(pickle.where, 'not-allowed-done', call_text(done), done.name, done.offset)
         if not pickle.end.is_stopped:
             yield Look(pickle.where, 'not-read', f'end: {end_text(pickle.end)}', offset=pickle.end.offset)

@@ -13,7 +13,7 @@ from .. import library
 from ..answers import closing_in
 from ..errors import OutOfMemory, PicklestepError, ProgramError, TimedOut
 from ..program import Process
-from ..reaches import LineKey, headings_in, line_of, number_in, offset_of, reach_of, reached_lines, text_of, with_offset
+from ..reaches import LineKey, given_in, headings_in, line_of, number_in, offset_of, reach_of, reached_lines, text_of, with_offset
 from ..records import End, Extension, Global, Name, Ref
 from ..session import Session
 from ..texts import IN_FORM, offset_of_item
@@ -23,7 +23,7 @@ from .canonical.formed import content_of
 from .canonical.items import arrays_fit
 from .canonical.joblib import SIGN
 from .item_kinds import ItemKinds
-from .results import Call, Import, Pickle, Place
+from .results import ODD, Call, Import, Pickle, Place
 
 __all__ = ['Asked', 'Enough', 'Summary', 'WAITING', 'calls_in_form', 'calls_words', 'is_plain_name', 'is_worked_out', 'shown_name', 'why_unread']
 
@@ -139,6 +139,7 @@ class Summary:
         """Counts lines, and answers the last ones. A pickle may have a hundred thousand lines and few names."""
         again, left = self._again, self._budget.lines
         self._kinds.read(text, start, end, self._part)
+        self._take_given(text, start, end)
         for key, count, match in reached_lines(text, start, end, each=self._lines is not None):
             self._count += count
             left -= count
@@ -153,6 +154,16 @@ class Summary:
                 raise Enough(f'the answers about the file have more than {self._budget.limits.lines:,} lines')
         self._budget.lines = left
         return text[end - _CLOSING:end] if end - start >= _CLOSING else (tail + text[start:end])[-_CLOSING:]
+
+    def _take_given(self, text: str, start: int, end: int) -> None:
+        """Counts calls of what is given to something that calls it, as those by the pickle itself."""
+        for offset, line, what, quoted in given_in(text, start, end):
+            name = _known_by(quoted).shown
+            found = self._found.get((what, quoted, self._part))
+            if found is None:
+                self._keep(line)
+                found = self._found[what, quoted, self._part] = _Found(what, name, self._place(offset), line, self._part)
+            found.count += 1
 
     def _begin_part(self, heading: str, tail: str) -> None:
         """Goes on with what is under a heading."""
@@ -245,7 +256,7 @@ class Summary:
         if odd is not None:
             offset, text, part = odd
             name = self._kinds.name()
-            done.setdefault(('state', name, part), (_Found('state', name, self._place(offset), text, part, 1), 1))
+            done[ODD, name, part] = _Found(ODD, name, self._place(offset), text, part, 1), 1
         return Pickle(where, size, tuple(Import(first.name, count, first.offset, first.part) for first, count in imports.values()),
                       tuple(Call(first.what, first.name, count, first.offset, first.text, first.part) for first, count in done.values()),
                       self.end, tuple(self._lines or ()))

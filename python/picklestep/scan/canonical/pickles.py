@@ -11,8 +11,9 @@ from __future__ import annotations
 import codecs
 import re
 import struct
-from pickletools import opcodes
 from dataclasses import dataclass, field
+from math import prod
+from pickletools import opcodes
 from typing import Any, Callable, Dict, List, NoReturn, Optional, Set, Tuple
 
 from ..blobs import CHUNK, STEPS, Blob, Budget, JoinedBlob
@@ -63,9 +64,16 @@ class OldText(bytes):
 
 
 class PList(List[Any]):
-    """A list, as far as its items are kept."""
+    """A list, as far as its items are kept. `left_out` counts the others; `is_set` says that an item was put in place of another, as no pickler
+    does."""
 
-    is_whole = True
+    left_out = 0
+    is_set = False
+
+    @property
+    def is_whole(self) -> bool:
+        """Whether all of its items are kept."""
+        return not self.left_out
 
 
 class PDict(PList):
@@ -106,6 +114,10 @@ _MADE_AT_ONCE = re.compile(rb'(\x94|q.|r.{4}|p[0-9]{1,10}\n)?(\x95.{8})?\)\x81',
 _LONGEST_MAKING = 24
 
 _KEPT = _WRAPPERS | {('numpy', 'dtype')}
+_DTYPE = Global('numpy', 'dtype')
+# These make bytes and arrays, whatever they are given.
+_MAKE_DATA = frozenset((Global('_codecs', 'encode'), *(Global(f'numpy.{core}.{name}', function) for core in ('core', '_core') for name, function in (
+    ('numeric', '_frombuffer'), ('multiarray', '_reconstruct')))))
 # What picklers call with a kind of items, and what leaves it as it is.
 _TAKE_KINDS = frozenset(Global(f'numpy.{core}.{name}', function) for core in ('core', '_core') for name, function in (
     ('multiarray', 'scalar'), ('numeric', '_frombuffer'), ('multiarray', '_reconstruct')))
@@ -118,7 +130,8 @@ class Pickle:
     `raw` are the ranges within it that are no opcodes, as offset and end; of these `inner` are pickles with a memo of their own. `counts`
     is set where it takes things from the memo that stand there in the order in which they came: another memo gives it other things. `kinds`
     are numpy's kinds of items that it makes. `has_odd_states` says that a state has a key by which numpy takes an object for an array, or
-    one that is worked out.
+    one that is worked out, or may give an array another number of objects than it has items. `gets` counts how often a tuple, list or
+    dictionary was taken from the memo, by its id: something else may have changed it.
     """
 
     offset: int
@@ -131,9 +144,14 @@ class Pickle:
     value: Any = None
     kinds: List['Made'] = field(default_factory=list)
     has_odd_states: bool = False
+    gets: Dict[int, int] = field(default_factory=dict)
 
 
 _MOST_DIGITS = 4000
+# The flag of a kind of items whose arrays get a list (NPY_LIST_PICKLE).
+_TAKES_LIST = 2
+# What the memo gives that can be changed, or hold what can.
+_HOLDERS = frozenset((tuple, PList, PDict, Made))
 
 _STOP = 0x2E
 _BINGET, _BINPUT, _MEMOIZE, _BININT1, _BINFLOAT, _SHORT_BINUNICODE = 0x68, 0x71, 0x94, 0x4B, 0x47, 0x8C
@@ -148,9 +166,16 @@ def _has_kind(values: Any, depth: int = 0) -> bool:
     return depth < 3 and isinstance(values, (tuple, PList)) and any(_has_kind(value, depth + 1) for value in values)
 
 
+def _makes_kind(function: Any, arguments: Any) -> bool:
+    """Whether a call may make a kind of items otherwise than by numpy.dtype."""
+    if isinstance(function, Global) and function.module.startswith('numpy') and 'DType' in function.name:
+        return True
+    return isinstance(arguments, tuple) and any(type(each) is Global and each == _DTYPE for each in arguments)
+
+
 def _may_be_of_kind(state: Any) -> bool:
     """Whether numpy.dtype takes such a state: a version, an order of bytes, and so on."""
-    return isinstance(state, tuple) and 5 <= len(state) <= 9 and type(state[0]) is int and not isinstance(state[1], (tuple, Global))
+    return isinstance(state, tuple) and 5 <= len(state) <= 9 and type(state[0]) is int and isinstance(state[1], (str, bytes, _Opaque))
 
 
 def _has_odd_key(state: Any) -> bool:
@@ -159,6 +184,20 @@ def _has_odd_key(state: Any) -> bool:
         keys = (key.decode('latin-1') if isinstance(key, OldText) else key for key in state[::2])
         return not state.is_whole or any(key in _OF_ARRAYS if isinstance(key, str) else isinstance(key, _Opaque) for key in keys)
     return state is _MADE or isinstance(state, tuple) and len(state) == 2 and any(map(_has_odd_key, state))
+
+
+def _count_of(shape: Any) -> Optional[int]:
+    """How many items an array of this shape has, where the shape is plain."""
+    is_plain = isinstance(shape, tuple) and all(type(length) is int and length >= 0 for length in shape)
+    return prod(shape) if is_plain else None
+
+
+def _may_take_list(kind: Any) -> bool:
+    """Whether an array of this kind may take a list, without counting."""
+    if not isinstance(kind, Made):
+        return kind is _MAY_BE_KIND
+    state = kind.state
+    return not isinstance(state, tuple) or len(state) < 8 or type(state[7]) is not int or state[7] & _TAKES_LIST != 0
 
 
 def _is_wrapper(value: Any) -> bool:
@@ -279,6 +318,8 @@ class Reader:
                 top.append(memo[window[at + 1]])
                 self._has_gets = True
                 at += 2
+                if type(top[-1]) in _HOLDERS:
+                    self._count_get(top[-1])
             elif code == _BININT1:
                 top.append(window[at + 1])
                 at += 2
@@ -383,9 +424,18 @@ class Reader:
         value = self._memo[key]
         self._has_gets = True
         self._top.append(value)
+        if type(value) in _HOLDERS:
+            self._count_get(value)
         if type(value) is Made and _is_wrapper(value.function):
             self.fail("an object of joblib's class of arrays that is used twice")
         self._check_wrapper(value)
+
+    def _count_get(self, value: Any) -> None:
+        """Counts it. A kind of items that is used before its state may change under an array."""
+        if type(value) is Made:
+            self.pickle.has_odd_states = self.pickle.has_odd_states or value.state is None
+        else:
+            self.pickle.gets[id(value)] = self.pickle.gets.get(id(value), 0) + 1
 
     def put(self, key: int) -> None:
         """Keys come in order; those of Python 2 leave one out."""
@@ -452,7 +502,12 @@ class Reader:
         self._unfilled += is_kept and _is_wrapper(function)
         has_kind = _has_kind(arguments)
         self.gives_kinds = self.gives_kinds or has_kind and not (isinstance(function, Global) and function in _TAKE_KINDS)
-        self._top.append(Made(function, arguments) if is_kept else _MAY_BE_KIND if has_kind else _MADE)
+        if is_kept:
+            self._top.append(Made(function, arguments))
+        elif isinstance(function, Global) and function in _MAKE_DATA:
+            self._top.append(_DATA)
+        else:
+            self._top.append(_MAY_BE_KIND if has_kind or _makes_kind(function, arguments) else _MADE)
         if is_kept and not _is_wrapper(function):
             self.pickle.kinds.append(self._top[-1])
 
@@ -486,7 +541,23 @@ class Reader:
         elif isinstance(target, Made) or target is _MAY_BE_KIND or _may_be_of_kind(state):
             self.fail('a state of what may be a kind of items')
         else:
-            self.pickle.has_odd_states = self.pickle.has_odd_states or _has_odd_key(state)
+            self.pickle.has_odd_states = self.pickle.has_odd_states or _has_odd_key(state) or self._is_odd_array(state)
+
+    def _is_odd_array(self, state: Any) -> bool:
+        """Whether numpy may take this as the state of an array, and so many objects from a list, without counting, as the list has not.
+
+        The state is a version, a shape, a kind of items, an order, and bytes or a list; masked arrays go on, and old ones have no version.
+        """
+        if not isinstance(state, tuple) or len(state) < 4:
+            return False
+        return any(self._is_odd_list(state, *part) for part in (state[:4], state[1:5]) if len(part) == 4)
+
+    def _is_odd_list(self, state: Any, shape: Any, kind: Any, _: Any, items: Any) -> bool:
+        if not isinstance(shape, (tuple, _Opaque)) or not isinstance(items, (PList, _Opaque)) or items is _DATA or not _may_take_list(kind):
+            return False
+        if not isinstance(items, PList) or items.is_set or id(items) in self.pickle.gets or id(state) in self.pickle.gets:
+            return True
+        return _count_of(shape) != len(items) + items.left_out
 
     def persistent(self, key: Any) -> None:
         self.pickle.persistent.append(key)
@@ -572,7 +643,7 @@ class Reader:
             self._left -= len(items)
             target += items
         else:
-            target.is_whole = False
+            target.left_out += len(items)
 
     def append(self, items: List[Any]) -> None:
         target = self.peek()
@@ -587,6 +658,8 @@ class Reader:
         target = self.peek()
         if isinstance(target, PDict):
             self._fill(target, items)
+        elif type(target) is PList:
+            target.is_set = True
 
     def set_one(self) -> None:
         value, key = self.pop(), self.pop()
