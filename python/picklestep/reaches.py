@@ -392,7 +392,7 @@ def kinds_in(text: str, start: int, end: int) -> Iterator[Tuple[int, str, Union[
         else:
             found = _KIND_STATE.fullmatch(state)
             has_parts = found is not None and (found[2], found[3], found[4]) != ('none',) * 3
-            of_array = None if found else _ARRAY_STATE.match(state)
+            of_array = _ARRAY_STATE.match(state) if found is None and state[0] == '(' else None
             size, flags = (int(found[5]), int(found[7])) if found else (0, 0)
             what = KindState(int(given), found is not None, has_parts, size, flags, state[0] == '#' or state.count(',') == 1,
                              int(of_array[1]) if of_array else None)

@@ -14,7 +14,7 @@ import struct
 from dataclasses import dataclass, field
 from math import prod
 from pickletools import opcodes
-from typing import Any, Callable, Dict, List, NoReturn, Optional, Set, Tuple
+from typing import Any, Callable, Dict, List, NoReturn, Optional, Set, Tuple, Type
 
 from ..blobs import CHUNK, STEPS, Blob, Budget, JoinedBlob
 from .formed import require_form
@@ -43,9 +43,13 @@ class Global:
     name: str
     # What a call of it makes decides how many bytes follow, so its arguments and its state are kept.
     is_kept: bool = field(init=False, compare=False)
+    # What a call of it makes, where that is known: 'bytes', an 'array', one over a 'buffer', or perhaps a 'kind' of items.
+    makes: str = field(init=False, compare=False)
 
     def __post_init__(self) -> None:
         object.__setattr__(self, 'is_kept', (self.module, self.name) in _KEPT)
+        kind = 'kind' if self.module.startswith('numpy') and 'DType' in self.name else ''
+        object.__setattr__(self, 'makes', _MAKERS.get((self.module, self.name), kind))
 
 
 class Made:
@@ -100,6 +104,13 @@ _DATA = _Opaque()
 _MAY_BE_KIND = _Opaque()
 # What any other call made.
 _MADE = _Opaque()
+class _Array(_Opaque):
+    """What numpy makes for an array. One of numbers is no state of another array."""
+
+    def __init__(self, may_hold_objects: bool) -> None:
+        self.may_hold_objects = may_hold_objects
+
+
 # The attributes by which numpy takes an object for an array.
 _OF_ARRAYS = ('__array_interface__', '__array_struct__', '__array__')
 # What the memo has where there is nothing.
@@ -114,10 +125,8 @@ _MADE_AT_ONCE = re.compile(rb'(\x94|q.|r.{4}|p[0-9]{1,10}\n)?(\x95.{8})?\)\x81',
 _LONGEST_MAKING = 24
 
 _KEPT = _WRAPPERS | {('numpy', 'dtype')}
-_DTYPE = Global('numpy', 'dtype')
-# These make bytes and arrays, whatever they are given.
-_MAKE_DATA = frozenset((Global('_codecs', 'encode'), *(Global(f'numpy.{core}.{name}', function) for core in ('core', '_core') for name, function in (
-    ('numeric', '_frombuffer'), ('multiarray', '_reconstruct')))))
+_MAKERS = {('_codecs', 'encode'): 'bytes', **{(f'numpy.{core}.{name}', function): made for core in ('core', '_core') for name, function, made in (
+    ('numeric', '_frombuffer', 'buffer'), ('multiarray', '_reconstruct', 'array'))}}
 # What picklers call with a kind of items, and what leaves it as it is.
 _TAKE_KINDS = frozenset(Global(f'numpy.{core}.{name}', function) for core in ('core', '_core') for name, function in (
     ('multiarray', 'scalar'), ('numeric', '_frombuffer'), ('multiarray', '_reconstruct')))
@@ -166,11 +175,13 @@ def _has_kind(values: Any, depth: int = 0) -> bool:
     return depth < 3 and isinstance(values, (tuple, PList)) and any(_has_kind(value, depth + 1) for value in values)
 
 
-def _makes_kind(function: Any, arguments: Any) -> bool:
-    """Whether a call may make a kind of items otherwise than by numpy.dtype."""
-    if isinstance(function, Global) and function.module.startswith('numpy') and 'DType' in function.name:
-        return True
-    return isinstance(arguments, tuple) and any(type(each) is Global and each == _DTYPE for each in arguments)
+def _has_dtype(arguments: Any) -> bool:
+    """Whether numpy.dtype itself is among arguments: a call may make a kind of items by it."""
+    if isinstance(arguments, tuple):
+        for each in arguments:
+            if type(each) is Global and each.is_kept:
+                return True
+    return False
 
 
 def _may_be_of_kind(state: Any) -> bool:
@@ -183,13 +194,20 @@ def _has_odd_key(state: Any) -> bool:
     if isinstance(state, PDict):
         keys = (key.decode('latin-1') if isinstance(key, OldText) else key for key in state[::2])
         return not state.is_whole or any(key in _OF_ARRAYS if isinstance(key, str) else isinstance(key, _Opaque) for key in keys)
-    return state is _MADE or isinstance(state, tuple) and len(state) == 2 and any(map(_has_odd_key, state))
+    if isinstance(state, _Opaque):
+        return state.may_hold_objects if isinstance(state, _Array) else state is not _DATA
+    return isinstance(state, tuple) and len(state) == 2 and any(map(_has_odd_key, state))
 
 
 def _count_of(shape: Any) -> Optional[int]:
     """How many items an array of this shape has, where the shape is plain."""
     is_plain = isinstance(shape, tuple) and all(type(length) is int and length >= 0 for length in shape)
     return prod(shape) if is_plain else None
+
+
+def _may_be(kind: Type[Any], value: Any) -> bool:
+    """Whether a value is of this class, or a call may have made one that is."""
+    return isinstance(value, kind) or isinstance(value, _Opaque) and value is not _DATA and not isinstance(value, _Array)
 
 
 def _may_take_list(kind: Any) -> bool:
@@ -502,12 +520,15 @@ class Reader:
         self._unfilled += is_kept and _is_wrapper(function)
         has_kind = _has_kind(arguments)
         self.gives_kinds = self.gives_kinds or has_kind and not (isinstance(function, Global) and function in _TAKE_KINDS)
+        makes = function.makes if isinstance(function, Global) else ''
         if is_kept:
             self._top.append(Made(function, arguments))
-        elif isinstance(function, Global) and function in _MAKE_DATA:
+        elif makes in ('array', 'buffer'):
+            self._top.append(_Array(makes == 'array'))
+        elif makes == 'bytes':
             self._top.append(_DATA)
         else:
-            self._top.append(_MAY_BE_KIND if has_kind or _makes_kind(function, arguments) else _MADE)
+            self._top.append(_MAY_BE_KIND if has_kind or makes or _has_dtype(arguments) else _MADE)
         if is_kept and not _is_wrapper(function):
             self.pickle.kinds.append(self._top[-1])
 
@@ -542,18 +563,21 @@ class Reader:
             self.fail('a state of what may be a kind of items')
         else:
             self.pickle.has_odd_states = self.pickle.has_odd_states or _has_odd_key(state) or self._is_odd_array(state)
+            if isinstance(target, _Array):
+                kinds = state[1:3] if isinstance(state, tuple) else ()
+                target.may_hold_objects = not any(isinstance(kind, Made) for kind in kinds) or any(map(_may_take_list, kinds))
 
     def _is_odd_array(self, state: Any) -> bool:
         """Whether numpy may take this as the state of an array, and so many objects from a list, without counting, as the list has not.
 
         The state is a version, a shape, a kind of items, an order, and bytes or a list; masked arrays go on, and old ones have no version.
         """
-        if not isinstance(state, tuple) or len(state) < 4:
+        if type(state) not in (tuple, PList) or len(state) < 4:
             return False
-        return any(self._is_odd_list(state, *part) for part in (state[:4], state[1:5]) if len(part) == 4)
+        return self._is_odd_list(state, *state[:4]) or len(state) > 4 and self._is_odd_list(state, *state[1:5])
 
     def _is_odd_list(self, state: Any, shape: Any, kind: Any, _: Any, items: Any) -> bool:
-        if not isinstance(shape, (tuple, _Opaque)) or not isinstance(items, (PList, _Opaque)) or items is _DATA or not _may_take_list(kind):
+        if not _may_be(tuple, shape) or not _may_be(PList, items) or not _may_take_list(kind):
             return False
         if not isinstance(items, PList) or items.is_set or id(items) in self.pickle.gets or id(state) in self.pickle.gets:
             return True
