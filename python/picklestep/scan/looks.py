@@ -12,7 +12,7 @@ from .reading import is_worked_out
 from .results import ODD, Call, Import, Pickle, Place, Result
 from .wording import shown, times
 
-__all__ = ['Judge', 'Look', 'RULES', 'call_text', 'calls_of', 'end_text', 'import_text']
+__all__ = ['Judge', 'Look', 'OF_CALLS', 'RULES', 'call_text', 'calls_of', 'end_text', 'import_text']
 
 # Each rule, and what it says.
 RULES = {
@@ -27,6 +27,8 @@ RULES = {
     'cannot-be-read': 'The file cannot be read.',
 }
 
+# Those about one thing that is done.
+OF_CALLS = ('not-allowed-done', 'odd')
 # Calls that show what was done with an object that a marked import led to.
 _OF_OBJECTS = ('call', 'new', 'inst')
 _WITHOUT_NAME = {'persistent': 'persistent id', 'call': 'call of what the pickle made', 'new': 'new of what the pickle made',
@@ -129,7 +131,7 @@ class Judge:
 
     def allows_done(self, what: str, name: str) -> bool:
         """Whether this may be done with what is imported by a name that is not marked."""
-        return self.allowed is None or self.mark(name) is not None or self.allowed.allows_done(what, name)
+        return what != ODD and (self.allowed is None or self.mark(name) is not None or self.allowed.allows_done(what, name))
 
     def looks(self, result: Result) -> Iterator[Look]:
         """All that asks for a closer look in a file."""
@@ -150,9 +152,7 @@ class Judge:
                 calls += [done for done in pickle.calls if not done.name and done.what in _OF_OBJECTS]
             yield Look(pickle.where, rule, import_text(found, why), found.name, found.offset, tuple(map(call_text, calls)))
         for done in pickle.calls:
-            if done.what == ODD:
-                yield Look(pickle.where, 'odd', call_text(done), done.name, done.offset)
-            elif not self.allows_done(done.what, done.name):
-                yield Look(pickle.where, 'not-allowed-done', call_text(done), done.name, done.offset)
+            if not self.allows_done(done.what, done.name):
+                yield Look(pickle.where, 'odd' if done.what == ODD else 'not-allowed-done', call_text(done), done.name, done.offset)
         if not pickle.end.is_stopped:
             yield Look(pickle.where, 'not-read', f'end: {end_text(pickle.end)}', offset=pickle.end.offset)
