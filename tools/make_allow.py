@@ -113,10 +113,22 @@ def fitted_names() -> Set[str]:
     return names
 
 
+def used(name: str) -> str:
+    """What picklers do with a name, as far as that is seen here: they only import functions (but makers), and make objects of a class without
+    a call where it has no `__reduce__` of its own. Where it has one, read what that gives: many only name the class."""
+    module, _, attribute = name.rpartition('.')
+    found = getattr(importlib.import_module(module), attribute, None)
+    if not isinstance(found, type):
+        return ' call' if attribute.startswith('__pyx_unpickle_') or attribute == 'newObj' else ''
+    has_own = any('__reduce__' in vars(each) or '__reduce_ex__' in vars(each) for each in found.__mro__ if each is not object)
+    return ' call' if has_own else ' new'
+
+
 def write(name: str, head: str, names: Set[str], note: str) -> None:
     """Writes a set."""
-    width = max(map(len, names))
-    lines = [f'# {line}' for line in head.splitlines()] + [f'{each:{width}}  # {note}' for each in sorted(names)]
+    entries = [f'{each}:{used(each)}' for each in sorted(names)]
+    width = max(map(len, entries))
+    lines = [f'# {line}' for line in head.splitlines()] + [f'{each:{width}}  # {note}' for each in entries]
     (FOLDER / f'{name}.txt').write_text('\n'.join(lines) + '\n')
     print(f'{name}: {len(names)} names')
 

@@ -15,12 +15,12 @@ from typing import Callable, Dict, Generic, Iterator, List, NamedTuple, Optional
 from .records import Argument, Change, End, Item, Mark, Object, Opcode, OtherForm, Ref, Shown, Where
 
 __all__ = ['BYTES_CUT', 'Closing', 'FRAME_SIZE', 'HELD', 'Heading', 'HeldObject', 'IN_FORM', 'ITEMS', 'ITEM_IN_BYTES', 'ItemKind', 'KindState',
-           'Line', 'LineReader', 'LinesError', 'MARK', 'MOST_OFFSET', 'NAMED_BY_TEXTS', 'NumberOfKind', 'OBJECTS', 'OFFSET_IN_BYTES',
-           'OPCODES', 'REACH', 'REACH_BEGINS', 'REACH_WORD', 'SHOWN', 'ShownStorage', 'TEXT_NEXT', 'UNIT', 'VALUES_CUT', 'argument_at', 'as_made',
-           'before_headings', 'begins_with_offset', 'broken_places', 'closing_of', 'container_in', 'counts_in', 'end_of', 'frames_in', 'headings_in',
-           'held_in', 'holding', 'key_in', 'kinds_in', 'left_in', 'line_of', 'lines_with_offsets', 'lowered', 'made_by', 'memo_of', 'number_of',
-           'object_of', 'offset_of_item', 'opcode_of', 'other_form', 'pattern_of_line', 'persistent_lines', 'readonly_count', 'results_in',
-           'stack_of', 'storage_of', 'stored_under', 'unnumbered', 'unquoted', 'where_of', 'with_offset']
+           'Line', 'LineReader', 'LinesError', 'MARK', 'MOST_OFFSET', 'NAMED_BY_TEXTS', 'NumberOfKind', 'OBJECTS', 'OFFSET_IN_BYTES', 'OPCODES',
+           'REACH', 'REACH_BEGINS', 'REACH_WORD', 'SHOWN', 'ShownStorage', 'TEXT_NEXT', 'UNIT', 'VALUES_CUT', 'argument_at', 'as_made',
+           'before_headings', 'begins_with_offset', 'broken_places', 'closing_of', 'container_in', 'counts_in', 'end_of', 'frames_in', 'given_in',
+           'headings_in', 'held_in', 'holding', 'key_in', 'kinds_in', 'left_in', 'line_of', 'lines_with_offsets', 'lowered', 'made_by', 'memo_of',
+           'number_of', 'object_of', 'offset_of_item', 'opcode_of', 'other_form', 'pattern_of_line', 'persistent_lines', 'readonly_count',
+           'results_in', 'stack_of', 'storage_of', 'stored_under', 'unnumbered', 'unquoted', 'where_of', 'with_offset']
 
 Record = TypeVar('Record')
 
@@ -526,6 +526,8 @@ _WHOLE = r"int(?:-line)? '?(-?[0-9]+)'?"
 # Its version, the order of bytes, what it repeats, names and fields, size and place, flags, and of times their unit.
 _KIND_STATE = re.compile(rf"\({_WHOLE}, (?:string )?'[^'\\]', (none|#[0-9]+), (none|#[0-9]+), (none|#[0-9]+), {_WHOLE}, {_WHOLE}, {_WHOLE}"
                          r'(?:, #[0-9]+)?\)')
+# A shape, perhaps behind a version, then the kind of items, an order, and what is no bytes.
+_ARRAY_STATE = re.compile('\\((?:#[0-9]+|(?!#)[^,]*, #[0-9]+), #([0-9]+), .*#[0-9]')
 # What may be the number of an object, beside texts.
 _QUOTED_OR_NUMBER = re.compile(rf'{_QUOTED}|#([0-9]+)')
 # A text in quotes, a number that was given to an object, or the place of a fault.
@@ -604,14 +606,16 @@ class ItemKind(NamedTuple):
 
 
 class KindState(NamedTuple):
-    """Something is given a state: its number, whether the state is that of a kind of items, whether it has parts, and its flags; and whether it
-    may set attributes, which the line does not show."""
+    """Something is given a state: its number, whether the state is that of a kind of items, whether it has parts, its size and its flags; and
+    whether it may set attributes, which the line does not show. `array` is the kind of items of an array that may get a list."""
 
     number: int
     is_whole: bool
     has_parts: bool
+    size: int
     flags: int
     is_of_attributes: bool
+    array: Optional[int] = None
 
 
 class NumberOfKind(NamedTuple):
@@ -625,7 +629,7 @@ def kinds_in(text: str, start: int, end: int) -> Iterator[Tuple[int, str, Union[
 
     >>> lines = "9: call 'numpy' 'dtype' ('O8', false, true) as #5\\n46: state (int 3, '|', none, none, none, int -1, int -1, int 63) to #5\\n"
     >>> [what for _, _, what in kinds_in(lines, 0, len(lines))]
-    [ItemKind(number=5, code='O8'), KindState(number=5, is_whole=True, has_parts=False, flags=63, is_of_attributes=False)]
+    [ItemKind(number=5, code='O8'), KindState(number=5, is_whole=True, has_parts=False, size=-1, flags=63, is_of_attributes=False, array=None)]
     """
     for match in _ITEM_KIND.finditer(text, start, end):
         offset, said, code, named, made, other, of_other, kind, state, given = match.groups()
@@ -639,8 +643,41 @@ def kinds_in(text: str, start: int, end: int) -> Iterator[Tuple[int, str, Union[
         else:
             found = _KIND_STATE.fullmatch(state)
             has_parts = found is not None and (found[2], found[3], found[4]) != ('none',) * 3
-            what = KindState(int(given), found is not None, has_parts, int(found[7]) if found else 0, state[0] == '#' or state.count(',') == 1)
+            of_array = _ARRAY_STATE.match(state) if found is None and state[0] == '(' else None
+            size, flags = (int(found[5]), int(found[7])) if found else (0, 0)
+            what = KindState(int(given), found is not None, has_parts, size, flags, state[0] == '#' or state.count(',') == 1,
+                             int(of_array[1]) if of_array else None)
         yield int(offset), said, what
+
+
+# What calls (or makes, with `new`) one of the things that it is given: which of them.
+_GIVERS = {('copyreg', '__newobj__'): ('new', 0), ('copyreg', '__newobj_ex__'): ('new', 0), ('copyreg', '_reconstructor'): ('call', 1),
+           ('numpy.random._pickle', '__bit_generator_ctor'): ('call', 0), ('numpy.random._pickle', '__generator_ctor'): ('call', 1),
+           ('numpy.random._pickle', '__randomstate_ctor'): ('call', 1), ('torch._tensor', '_rebuild_from_type_v2'): ('call', 0)}
+_SIGNS_OF_GIVERS = ("'copyreg' '_", "_ctor' (", "'_rebuild_from_type_v2' (")
+_GIVING = re.compile(rf"^ *([0-9]+): (call '({'|'.join({re.escape(module) for module, _ in _GIVERS})})' '(\w+)' \((.*)\) as #[0-9]+)$", re.MULTILINE)
+_GLOBAL = rf'global ({_QUOTED} {_QUOTED})'
+_UNIT = rf"(?:[a-z-]+ )?(?:{_QUOTED}(?: {_QUOTED})?|[^ ,']+)"
+_GIVEN = (re.compile(_GLOBAL), re.compile(rf'{_UNIT}, {_GLOBAL}'))
+# The first base of an object that is made so is this one, or another of Python's own.
+_OWN = "'builtins' "
+
+
+def given_in(text: str, start: int, end: int) -> Iterator[Tuple[int, str, str, str]]:
+    """What lines call through something that calls what it is given: the offset, the line, what is done, and the name in quotes.
+
+    >>> line = "9: call 'copyreg' '__newobj__' (global 'a' 'B') as #5\\n"
+    >>> list(given_in(line, 0, len(line)))
+    [(9, "call 'copyreg' '__newobj__' (global 'a' 'B') as #5", 'new', "'a' 'B'")]
+    """
+    if not any(sign in text for sign in _SIGNS_OF_GIVERS):
+        return
+    for match in _GIVING.finditer(text, start, end):
+        offset, said, module, name, arguments = match.groups()
+        what, at = _GIVERS.get((module, name), ('', 0))
+        found = _GIVEN[at].match(arguments) if what else None
+        if found is not None and not found[1].startswith(_OWN):
+            yield int(offset), said, what, found[1]
 
 
 def made_by(text: str) -> Optional[int]:

@@ -135,9 +135,9 @@ class Hostile(ScanCase):
         self.file('files/b.pkl', HOSTILE + b'cos \nx*\n.' + b'cos \ny\n.' + HARMLESS)
         self.scan('files', '--write-allow', 'list')
         self.assertEqual((self.folder / 'list').read_text().splitlines(), [
-            "# 'os ' 'x*'  # once in 1 pickle, first in files/b.pkl", '# once in 1 pickle, first in files/b.pkl', "'os ' 'y'",
-            'collections.OrderedDict  # 3 times in 2 pickles, first in files/a.pkl',
-            '# posix.system  # runs a shell command; once in 1 pickle, first in files/b.pkl'])
+            "# 'os ' 'x*':  # once in 1 pickle, first in files/b.pkl", '# once in 1 pickle, first in files/b.pkl', "'os ' 'y':",
+            'collections.OrderedDict:  # 3 times in 2 pickles, first in files/a.pkl',
+            '# posix.system: call  # runs a shell command; once in 1 pickle, first in files/b.pkl'])
         self.assertEqual(self.scan('files/a.pkl', '--allow', 'list').returncode, 0)
         run = self.scan('files/b.pkl', '--allow', 'list', '--brief')
         self.assertEqual([line.split(',')[0] for line in run.stdout.splitlines() if line.startswith('! files/b.pkl: import')],

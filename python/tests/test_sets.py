@@ -131,11 +131,12 @@ class ByNames(ScanCase):
     def test_each_name(self) -> None:
         for library, sets in BY_NAMES.items():
             judge = Judge(read_names(sets))
-            names = read_names([library]).names
-            self.assertGreaterEqual(len(names), 10)
-            for number, name in enumerate(names):
+            names = read_names([library])
+            self.assertGreaterEqual(len(names.names), 10)
+            for number, name in enumerate(names.names):
                 module, _, attribute = name.rpartition('.')
-                content = b'\x80\x02}X\x01\0\0\0ac' + f'{module}\n{attribute}\n'.encode() + b')\x81}X\x01\0\0\0bK\x01sbs.'
+                made = b')\x81}X\x01\0\0\0bK\x01sb' if names.allows_done('new', name) else b''
+                content = b'\x80\x02}X\x01\0\0\0ac' + f'{module}\n{attribute}\n'.encode() + made + b's.'
                 result = self.look(f'{library}{number}.ckpt', content)
                 self.assertEqual([found.name for found in result.pickles[0].imports], [name])
                 self.assertEqual(list(judge.looks(result)), [], name)

@@ -2,12 +2,12 @@
 
 from __future__ import annotations
 
-from dataclasses import dataclass
+from dataclasses import dataclass, field
 from pathlib import Path
-from typing import Dict, Iterable, Iterator, List
+from typing import Dict, Iterable, Iterator, List, Set
 
 from .known import known_names
-from .names import Names
+from .names import Names, words_for
 from .results import Result
 from .wording import count_of, place_of, shown, times
 
@@ -38,10 +38,11 @@ class _Use:
     count: int = 0
     pickles: int = 0
     first: str = ''
+    done: Set[str] = field(default_factory=set)
 
 
 class Used:
-    """The names that files import, as the lines of a list: sorted, with a count and an example each.
+    """The names that files import, as the lines of a list: sorted, with what is done with each, a count and an example.
 
     A name that is known to run what it is given stands there as a comment, as does one that would be read as a pattern: who means it to be
     allowed takes the `#` away.
@@ -59,15 +60,19 @@ class Used:
                 use.count += found.count
                 use.pickles += 1
                 use.first = min(use.first or place, place)
+            for done in pickle.calls:
+                if done.name in self._uses:
+                    self._uses[done.name].done.add(done.what)
 
     def lines(self) -> Iterator[str]:
         """The lines of the list."""
         for name, use in sorted(self._uses.items()):
             note = f'{times(use.count)} in {count_of(use.pickles, "pickle")}, first in {use.first}'
             why = known_names().note(name)
+            entry = shown(name) + words_for(use.done)
             if why is not None or name.startswith('#') or '*' in name:
-                yield f'# {shown(name)}  # {why + "; " if why else ""}{note}'
+                yield f'# {entry}  # {why + "; " if why else ""}{note}'
             elif name.startswith("'"):  # (behind such a name there can be no note)
-                yield from (f'# {note}', shown(name))
+                yield from (f'# {note}', entry)
             else:
-                yield f'{shown(name)}  # {note}'
+                yield f'{entry}  # {note}'

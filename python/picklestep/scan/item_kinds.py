@@ -15,64 +15,65 @@ __all__ = ['ItemKinds']
 # What shows that a pickle has kinds of items.
 _NUMPY = "import 'numpy"
 _SIGNS = ("'numpy' 'dtype'", "'numpy.dtypes'", ".multiarray' 'scalar'", ': state #')
-# Flag of a kind whose items hold objects (NPY_ITEM_REFCOUNT).
+# Flag of a kind whose items hold objects (NPY_ITEM_REFCOUNT), and all flags of a kind by its letter.
 _HOLDS_OBJECTS = 1
+_FLAGS = {'O': 63, 'U': 8}
 _PLAIN_CODES = frozenset('?bBhHiIlLqQeufdgFDGcSaUVMm')
+# The bytes of a letter, where an item has some.
+_WIDTHS = {'S': 1, 'a': 1, 'U': 4, 'V': 1}
+Line = Tuple[int, str, str]
 
 
 class ItemKinds:
     """The kinds of items in a pickle. `odd` is the first line, with its offset and part, that no pickler of numpy has written, and `unsure`
-    the first state of which the lines do not show whether it is odd: that there are no objects in the parts of a kind, or which attributes it sets
-    beside numpy."""
+    the first one of which the lines do not show whether it is odd: what parts a kind has, how many objects an array gets, or which attributes
+    a state sets beside numpy."""
 
     def __init__(self) -> None:
-        self.odd: Optional[Tuple[int, str, str]] = None
+        self.odd: Optional[Line] = None
         self._codes: Dict[int, str] = {}
-        self._may_hold_objects = False
-        self._raw: Optional[Tuple[int, str, str]] = None
-        self._attributes: Optional[Tuple[int, str, str]] = None
+        self._of_kind: Optional[Line] = None
+        self._of_array: Optional[Line] = None
         self._has_numpy = False
 
     @property
-    def unsure(self) -> Optional[Tuple[int, str, str]]:
-        return self._raw if self._may_hold_objects and self._raw is not None else self._attributes if self._has_numpy else None
+    def unsure(self) -> Optional[Line]:
+        return self._of_kind or (self._of_array if self._has_numpy else None)
 
     def name(self) -> str:
-        """What the state is counted under: what numpy makes of it."""
-        return 'numpy.ndarray' if self.odd is None and self.unsure is self._attributes else 'numpy.dtype'
+        """What numpy makes of it."""
+        return 'numpy.dtype' if self.odd is not None or self._of_kind is not None else 'numpy.ndarray'
 
     def read(self, text: str, start: int, end: int, part: str) -> None:
         """Reads lines, which stand in this part of an answer."""
         self._has_numpy = self._has_numpy or _NUMPY in text
         if not self._codes and not any(sign in text for sign in _SIGNS):
             return
-        if '_DType_reconstruct' in text:
-            self._may_hold_objects = True
         for offset, line, what in kinds_in(text, start, end):
             if isinstance(what, ItemKind):
-                self._make(what)
+                code = what.code.lstrip('<>=|')
+                self._codes[what.number] = code if code[:1] in _PLAIN_CODES else 'O'
             elif self._is_odd(what, (offset, line, part)) and self.odd is None:
                 self.odd = offset, line, part
 
-    def _make(self, made: ItemKind) -> None:
-        """A kind of items is made. One whose code is not plain may hold objects."""
-        code = made.code.lstrip('<>=|')[:1]
-        self._codes[made.number] = code if code in _PLAIN_CODES else 'O'
-        self._may_hold_objects = self._may_hold_objects or code not in _PLAIN_CODES
-
-    def _is_odd(self, what: Union[KindState, NumberOfKind], line: Tuple[int, str, str]) -> bool:
+    def _is_odd(self, what: Union[KindState, NumberOfKind], line: Line) -> bool:
         if isinstance(what, NumberOfKind):
-            return self._codes.get(-1 if what.kind is None else what.kind, 'O') == 'O'
+            return self._may_be_objects(what.kind)
         code = self._codes.get(what.number)
         if code is None:
-            if self._attributes is None and what.is_of_attributes:
-                self._attributes = line
+            if what.is_of_attributes or what.array is not None and self._may_be_objects(what.array):
+                self._of_array = self._of_array or line
             return what.is_whole
         if not what.is_whole:
             return True
-        holds_objects = what.flags & _HOLDS_OBJECTS != 0
-        if not what.has_parts:
-            return holds_objects != (code == 'O')
-        if not holds_objects and self._raw is None:
-            self._raw = line
-        return code != 'V' or holds_objects and not self._may_hold_objects
+        if what.flags & _HOLDS_OBJECTS:
+            self._codes[what.number] = 'O'
+        if what.has_parts or code == 'V':
+            self._of_kind = self._of_kind or line
+            return code[0] != 'V'
+        width = _WIDTHS.get(code[0])
+        return what.flags & 0xFF != _FLAGS.get(code[0], 0) or width is not None and code[1:] != str(what.size // width)
+
+    def _may_be_objects(self, kind: Optional[int]) -> bool:
+        """Whether a kind of items, by its number, may hold objects."""
+        return kind is None or self._codes.get(kind, 'O') == 'O'

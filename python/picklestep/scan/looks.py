@@ -9,10 +9,10 @@ from ..records import End
 from .known import known_names
 from .names import Names
 from .reading import is_worked_out
-from .results import Call, Import, Pickle, Place, Result
+from .results import ODD, Call, Import, Pickle, Place, Result
 from .wording import shown, times
 
-__all__ = ['Judge', 'Look', 'RULES', 'call_text', 'calls_of', 'end_text', 'import_text']
+__all__ = ['Judge', 'Look', 'OF_CALLS', 'RULES', 'call_text', 'calls_of', 'end_text', 'import_text']
 
 # Each rule, and what it says.
 RULES = {
@@ -21,11 +21,14 @@ RULES = {
     'denied': 'It imports a name of the list of --deny.',
     'not-allowed': 'It imports a name that no list of --allow has.',
     'not-allowed-done': 'It does something with an allowed name that no list of --allow says may be done with it.',
+    'odd': 'It says of kinds of items or arrays what numpy believes and does not write, so that memory may be overwritten.',
     'not-read': 'It was not read to its end (STOP), and a loader may go on.',
     'not-looked-at': 'Something in it was not looked at.',
     'cannot-be-read': 'The file cannot be read.',
 }
 
+# Those about one thing that is done.
+OF_CALLS = ('not-allowed-done', 'odd')
 # Calls that show what was done with an object that a marked import led to.
 _OF_OBJECTS = ('call', 'new', 'inst')
 _WITHOUT_NAME = {'persistent': 'persistent id', 'call': 'call of what the pickle made', 'new': 'new of what the pickle made',
@@ -65,6 +68,8 @@ def import_text(found: Import, why: Optional[str]) -> str:
 
 def call_text(done: Call) -> str:
     """What a pickle does with one thing, with the program's line for the first time."""
+    if done.what == ODD:
+        return f'{done.name} as numpy never writes it, first at {done.offset}{_in_part(done.part)}: {shown(done.text)}'
     what = f'{done.what} {shown(done.name)}' if done.name else _WITHOUT_NAME.get(done.what, done.what)
     return f'{what} {times(done.count)}, first at {done.offset}{_in_part(done.part)}: {shown(done.text)}'
 
@@ -126,7 +131,7 @@ class Judge:
 
     def allows_done(self, what: str, name: str) -> bool:
         """Whether this may be done with what is imported by a name that is not marked."""
-        return self.allowed is None or self.mark(name) is not None or self.allowed.allows_done(what, name)
+        return what != ODD and (self.allowed is None or self.mark(name) is not None or self.allowed.allows_done(what, name))
 
     def looks(self, result: Result) -> Iterator[Look]:
         """All that asks for a closer look in a file."""
@@ -148,6 +153,6 @@ class Judge:
             yield Look(pickle.where, rule, import_text(found, why), found.name, found.offset, tuple(map(call_text, calls)))
         for done in pickle.calls:
             if not self.allows_done(done.what, done.name):
-                yield Look(pickle.where, 'not-allowed-done', call_text(done), done.name, done.offset)
+                yield Look(pickle.where, 'odd' if done.what == ODD else 'not-allowed-done', call_text(done), done.name, done.offset)
         if not pickle.end.is_stopped:
             yield Look(pickle.where, 'not-read', f'end: {end_text(pickle.end)}', offset=pickle.end.offset)

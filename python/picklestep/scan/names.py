@@ -5,7 +5,7 @@ from __future__ import annotations
 import re
 from typing import Dict, FrozenSet, Iterable, List, Optional, Pattern, Tuple
 
-__all__ = ['Names']
+__all__ = ['Names', 'words_for']
 
 
 class Names:
@@ -82,7 +82,17 @@ class Names:
 
 # What may be done with what is imported, by the first words of the program's lines.
 _WORDS = {'call': 'call', 'new': 'new', 'inst': 'call', 'state': 'state', 'append': 'fill', 'set': 'fill', 'add': 'fill'}
-_ENTRY = re.compile(r'([^:]+):((?: +(?:call|new|state|fill))*)')
+_ENTRY = re.compile(r'(.+):((?: +(?:call|new|state|fill))*)')
+
+
+def words_for(done: Iterable[str]) -> str:
+    """What stands behind a name that may have these things done to it and no others, by the first words of the program's lines.
+
+    >>> words_for(['new', 'call', 'set']), words_for([])
+    (': call fill', ':')
+    """
+    words = {_WORDS[what] for what in done if what in _WORDS}
+    return ''.join([':', *(f' {word}' for word in ('call', 'new', 'state', 'fill') if word in words and (word != 'new' or 'call' not in words))])
 
 
 def _parts(line: str) -> Tuple[str, FrozenSet[str], str]:

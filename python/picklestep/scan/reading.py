@@ -16,14 +16,14 @@ from ..program import Process, time_to_wait
 from ..reaches import LineKey, line_of, number_in, offset_of, reach_of, reached_lines, text_of
 from ..records import End, Extension, Global, Name, Ref
 from ..session import Session
-from ..texts import IN_FORM, headings_in, offset_of_item, with_offset
+from ..texts import IN_FORM, given_in, headings_in, offset_of_item, with_offset
 from .begins import is_dotted
 from .blobs import CHUNK, Blob, Budget, FileBlob, Spooled, spooled
 from .canonical.formed import content_of
 from .canonical.items import arrays_fit
 from .canonical.joblib import SIGN
 from .item_kinds import ItemKinds
-from .results import Call, Import, Pickle, Place
+from .results import ODD, Call, Import, Pickle, Place
 
 __all__ = ['Asked', 'Enough', 'Summary', 'calls_in_form', 'calls_words', 'is_plain_name', 'is_worked_out', 'shown_name', 'why_unread']
 
@@ -136,6 +136,7 @@ class Summary:
         """Counts lines, and answers the last ones. A pickle may have a hundred thousand lines and few names."""
         again, left = self._again, self._budget.lines
         self._kinds.read(text, start, end, self._part)
+        self._take_given(text, start, end)
         for key, count, match in reached_lines(text, start, end, each=self._lines is not None):
             self._count += count
             left -= count
@@ -150,6 +151,16 @@ class Summary:
                 raise Enough(f'the answers about the file have more than {self._budget.limits.lines:,} lines')
         self._budget.lines = left
         return text[end - _CLOSING:end] if end - start >= _CLOSING else (tail + text[start:end])[-_CLOSING:]
+
+    def _take_given(self, text: str, start: int, end: int) -> None:
+        """Counts calls of what is given to something that calls it, as those by the pickle itself."""
+        for offset, line, what, quoted in given_in(text, start, end):
+            name = _known_by(quoted).shown
+            found = self._found.get((what, quoted, self._part))
+            if found is None:
+                self._keep(line)
+                found = self._found[what, quoted, self._part] = _Found(what, name, self._place(offset), line, self._part)
+            found.count += 1
 
     def _begin_part(self, heading: str, tail: str) -> None:
         """Goes on with what is under a heading."""
@@ -242,7 +253,7 @@ class Summary:
         if odd is not None:
             offset, text, part = odd
             name = self._kinds.name()
-            done.setdefault(('state', name, part), (_Found('state', name, self._place(offset), text, part, 1), 1))
+            done[ODD, name, part] = _Found(ODD, name, self._place(offset), text, part, 1), 1
         return Pickle(where, size, tuple(Import(first.name, count, first.offset, first.part) for first, count in imports.values()),
                       tuple(Call(first.what, first.name, count, first.offset, first.text, first.part) for first, count in done.values()),
                       self.end, tuple(self._lines or ()))

@@ -6,7 +6,7 @@ import json
 from collections import Counter
 from typing import Dict, Iterator, List, TextIO, Tuple
 
-from .looks import Judge, Look, call_text, end_text, import_text
+from .looks import OF_CALLS, Judge, Look, call_text, end_text, import_text
 from .other_forms import told_forms
 from .results import Pickle, Result, to_json
 from .wording import count_of, place_of, shown, times
@@ -124,9 +124,9 @@ class Report:
         """The imports of a pickle, those that are marked with their calls next to them; then all other calls."""
         yield f'  {place_of(result.path, pickle.where)}: {pickle.size} bytes'
         all_looks = list(self.judge.looks_in(pickle))
-        looks = {(look.name, look.offset): look for look in all_looks if look.name and look.rule != 'not-allowed-done'}
+        looks = {(look.name, look.offset): look for look in all_looks if look.name and look.rule not in OF_CALLS}
         told = {call for look in looks.values() for call in look.calls}
-        done = {look.text for look in all_looks if look.rule == 'not-allowed-done'}
+        done = {look.text for look in all_looks if look.rule in OF_CALLS}
         for found in pickle.imports:
             if (found.name, found.offset) in looks:
                 yield from (f'!     {line}' for line in looks[found.name, found.offset].lines)
@@ -154,6 +154,7 @@ class Report:
                             ('not-allowed', 'import not allowed', 'imports not allowed'), ('denied', 'import denied', 'imports denied'),
                             ('known', 'import to look at', 'imports to look at'),
                             ('not-allowed-done', 'thing done that is not allowed', 'things done that are not allowed'),
+                            ('odd', 'thing that numpy believes and never writes', 'things that numpy believes and never writes'),
                             ('worked-out', 'import worked out while loading', 'imports worked out while loading')):
             if counts[key]:
                 told.append(count_of(counts[key], *words))

@@ -7,8 +7,10 @@ from typing import Any, Dict, Optional, Tuple, Union
 
 from ..records import End
 
-__all__ = ['Call', 'Import', 'Note', 'Pickle', 'Result', 'from_json', 'to_json']
+__all__ = ['ODD', 'Call', 'Import', 'Note', 'Pickle', 'Result', 'from_json', 'to_json']
 
+# The word of a `Call` that numpy believes, and that no pickler writes.
+ODD = 'odd'
 # Where something is inside a file: the names of members, from the outermost container to the innermost.
 Place = Tuple[str, ...]
 

@@ -6,11 +6,12 @@ Sources: numpy/lib/format.py (descr), numpy/core/src/multiarray/descriptor.c (dt
 from __future__ import annotations
 
 import re
-from typing import Any, Tuple
+from collections import Counter
+from typing import Any, Optional, Tuple
 
 from ..blobs import Blob, Budget, LimitMet
 from .forms import NotCanonical, require, wrong
-from .pickles import Global, Made, OldText, PDict, read_pickle
+from .pickles import Global, Made, OldText, PDict, Pickle, read_pickle
 
 __all__ = ['Item', 'arrays_fit', 'count_of_shape', 'item_of_description', 'item_of_pickled']
 
@@ -21,9 +22,13 @@ Item = Tuple[int, bool]
 _CODE = re.compile(r'([<>|=]?)([biufcSUVmMO])([0-9]*)(\[[0-9]*[A-Za-z]+(?:/[0-9]+)?\])?')
 _SIZES = {'b': (1,), 'i': (1, 2, 4, 8), 'u': (1, 2, 4, 8), 'f': (2, 4, 8, 12, 16), 'c': (8, 16, 24, 32), 'm': (8,), 'M': (8,)}
 _LARGEST = 2 ** 63
-# The flags of numpy.dtype: of texts, of objects, and those that fields can hand on, with that of an aligned item.
+# The flags of numpy.dtype: of texts and of objects.
 _HAS_OBJECT = 1
-_OF_TEXTS, _OF_OBJECTS, _OF_FIELDS = 8, 63, 0x1B | 0x80
+_OF_TEXTS, _OF_OBJECTS = 8, 63
+# What an item gets from its parts, and what it may have besides.
+_HANDED_ON, _OF_STRUCTURE = 0x1B, 0x10 | 0x80
+_ALIGNMENTS = (-1, 1, 2, 4, 8, 16)
+_LARGEST_ITEM = 2 ** 31
 # The versions of its state, each with its length. Of older ones numpy works the flags out again, and differently.
 _STATES = ((3, 8), (4, 9))
 
@@ -81,19 +86,36 @@ def count_of_shape(shape: Any) -> int:
     return product
 
 
-def item_of_pickled(value: Any, depth: int = 0) -> Item:
+def item_of_pickled(value: Any) -> Item:
     """The items that a pickled numpy.dtype describes: a call of numpy.dtype with a code, given the state of dtype.__reduce__."""
-    item = _of_state(value, depth)
-    kind, (_, _, subarray, names, *_), flags = _as_text(value.arguments[0])[:1], value.state[:6], value.state[7]
-    require(type(flags) is int and -128 <= flags < 256, _WRONG_FLAGS)
-    flags &= 0xFF
-    # (joblib asks them, and not the fields, whether a pickle follows)
-    require(bool(flags & _HAS_OBJECT) == item[1], _WRONG_FLAGS)
-    if kind == 'V' and subarray is None and names is not None:
-        require(not flags & ~_OF_FIELDS, _WRONG_FLAGS)
-    elif kind != 'V' or subarray is None:
-        require(flags == {'O': _OF_OBJECTS, 'U': _OF_TEXTS}.get(kind, 0), _WRONG_FLAGS)
-    return item
+    size, flags = _of_pickled(value, 0)
+    return size, bool(flags & _HAS_OBJECT)
+
+
+def _of_pickled(value: Any, depth: int) -> Tuple[int, int]:
+    """The size of an item, and those of its flags that an item that has it as a part gets."""
+    require(depth < 20, 'items of items of items')
+    kind, number, state = _made(value)
+    _, _, subarray, names, fields, size, alignment = state[:7]
+    require(kind == 'V' or names is None and subarray is None and fields is None, 'parts of items that have none')
+    require(type(size) is int and alignment in _ALIGNMENTS, 'items of an odd size')
+    if kind not in 'SUV':
+        size, flags = (8 if kind == 'O' else number), _OF_OBJECTS if kind == 'O' else 0
+        require((kind == 'O' or number in _SIZES[kind]) and state[5] in (-1, size), 'items of an odd size')
+    elif subarray is not None:
+        flags = _of_subarray(subarray, size, depth)
+    elif names is not None:
+        flags = _of_fields(names, fields, size, depth)
+    else:
+        require(fields is None and 0 <= size < _LARGEST_ITEM and number in (None, size // (4 if kind == 'U' else 1)), 'items of an odd size')
+        require(kind != 'U' or size % 4 == 0, 'items of an odd size')
+        flags = _OF_TEXTS if kind == 'U' else 0
+    # (numpy and joblib ask the flags, and not the fields, whether there are objects)
+    any_of_these = 0 if (subarray, names) == (None, None) else _OF_STRUCTURE
+    if subarray is not None and flags & _HAS_OBJECT:  # (it has all that its base has)
+        any_of_these |= _OF_OBJECTS & ~_HANDED_ON
+    require(type(state[7]) is int and -128 <= state[7] < 256 and (state[7] & 0xFF ^ flags) & ~any_of_these == 0, _WRONG_FLAGS)
+    return size, flags & _HANDED_ON
 
 
 def _as_text(value: Any) -> str:
@@ -101,102 +123,84 @@ def _as_text(value: Any) -> str:
     return value if isinstance(value, str) else value.decode('latin-1') if isinstance(value, OldText) else ''
 
 
-def _of_state(value: Any, depth: int) -> Item:
-    require(depth < 20, 'items of items of items')
+def _made(value: Any) -> Tuple[str, Optional[int], Tuple[Any, ...]]:
+    """The letter of a kind of items, the number behind it, if it has one, and the state that it gets."""
     if not isinstance(value, Made) or value.function != Global('numpy', 'dtype') or not isinstance(value.arguments, tuple):
         wrong('items that are no numpy.dtype')
     code, *others = value.arguments or (None,)
     # (not aligned, and a copy: a state changes nothing of numpy's own one)
     require(others == [False, True] and all(type(other) in (bool, int) for other in others), 'a numpy.dtype with other arguments')
-    found = re.fullmatch(r'([biufcSUVmMO])([0-9]{1,9})', _as_text(code))
-    require(found is not None, 'items of an unknown kind')
-    assert found is not None
-    kind, number, state = found[1], int(found[2]), value.state
+    found = re.fullmatch(r'([biufcSUVmMO])([0-9]{1,9})', _as_text(code)) if code not in _RECORDS else None
+    require(found is not None or code in _RECORDS, 'items of an unknown kind')
+    state = value.state
     if not isinstance(state, tuple) or len(state) not in (8, 9):
         wrong('a numpy.dtype with another state')
     require(type(state[0]) is int and (state[0], len(state)) in _STATES, 'a numpy.dtype whose state has another version')
-    _, _, subarray, names, fields, size = state[:6]
-    require(kind == 'V' or names is None and subarray is None and fields is None, 'parts of items that have none')
-    if kind == 'O':
-        return 8, True
-    if kind not in 'SUV':
-        require(number in _SIZES[kind] and size in (-1, number), 'items of an odd size')
-        return number, False
-    require(type(size) is int and 0 <= size < 2 ** 31, 'items of an odd size')
-    if kind != 'V':
-        require(size == number * (4 if kind == 'U' else 1), 'items of an odd size')
-        return size, False
-    if subarray is not None:
-        return _of_subarray(subarray, size, depth)
-    if names is None:
-        require(size == number and fields is None, 'items of an odd size')
-        return size, False
-    return size, _have_objects(names, fields, size, depth)
+    return ('V', None, state) if found is None else (found[1], int(found[2]), state)
 
 
-def _of_subarray(subarray: Any, size: int, depth: int) -> Item:
+def _of_subarray(subarray: Any, size: int, depth: int) -> int:
+    """The flags of an item that is several of another kind."""
     require(isinstance(subarray, tuple) and len(subarray) == 2, 'items of an odd shape')
     shape = subarray[1] if isinstance(subarray[1], tuple) else (subarray[1],)
-    base, has_objects = item_of_pickled(subarray[0], depth + 1)
-    require(base * count_of_shape(shape) == size, 'items of an odd size')
-    return size, has_objects
+    base, flags = _of_pickled(subarray[0], depth + 1)
+    require(base * count_of_shape(shape) == size < _LARGEST_ITEM, 'items of an odd size')
+    return flags
 
 
-def _have_objects(names: Any, fields: Any, size: int, depth: int) -> bool:
-    """Whether a field holds objects. Each one lies within the item."""
+def _of_fields(names: Any, fields: Any, size: int, depth: int) -> int:
+    """The flags of an item with fields. Each one lies within the item, and none over objects of another."""
     if not isinstance(names, tuple) or not isinstance(fields, PDict):
         wrong('fields of an odd form')
     described = fields.by_text()
-    has_objects = False
-    for name in names:
-        field = described.get(_as_text(name))
-        if not isinstance(field, tuple) or len(field) not in (2, 3) or type(field[1]) is not int:
-            wrong('fields of an odd form')
-        length, has = item_of_pickled(field[0], depth + 1)
-        require(0 <= field[1] and field[1] + length <= size, 'a field that is not within its item')
-        has_objects = has_objects or has
-    return has_objects
+    titles = {_as_text(field[2]) for field in described.values() if isinstance(field, tuple) and len(field) == 3}
+    known = set(map(_as_text, names))
+    require(fields.is_whole and len(fields) == 2 * len(described) and len(known) == len(names), 'fields of an odd form')
+    require(known <= set(described) <= known | titles and size < _LARGEST_ITEM, 'fields of an odd form')
+    flags, end, end_of_objects = 0, 0, 0
+    for at, length, of_field in sorted(_field(described[name], depth) for name in known):
+        require(0 <= at and at + length <= size, 'a field that is not within its item')
+        require(at >= (end if of_field & _HAS_OBJECT else end_of_objects) or not length, 'a field over the objects of another')
+        end = max(end, at + length)
+        end_of_objects = end if of_field & _HAS_OBJECT else end_of_objects
+        flags |= of_field
+    return flags
+
+
+def _field(described: Any, depth: int) -> Tuple[int, int, int]:
+    """Where a field begins, its size and its flags."""
+    if not isinstance(described, tuple) or len(described) not in (2, 3) or type(described[1]) is not int:
+        wrong('fields of an odd form')
+    return (described[1], *_of_pickled(described[0], depth + 1))
 
 
 def arrays_fit(blob: Blob, budget: Budget) -> bool:
-    """Whether in pickles in a row no kind of items has parts that are objects, and says that it holds none, and no state makes an array of an
-    object. Where half of the time that is left does not suffice, nobody knows it."""
+    """Whether in pickles in a row all kinds of items are as numpy describes them, and no state makes an array of an object, or gives one another
+    number of objects than it has. Where half of the time that is left does not suffice, nobody knows it."""
     at = 0
     try:
         with budget.half():
             while at < blob.size:
                 pickle = read_pickle(blob, at, None, budget)
-                if pickle.has_odd_states or any(_may_hold_objects(kind) and not _says_so(kind.state) for kind in pickle.kinds):
+                if pickle.has_odd_states:
                     return False
+                _require_kinds(pickle)
                 at = pickle.end
     except (NotCanonical, LimitMet):
         return False
     return True
 
 
-def _says_so(state: Any) -> bool:
-    return isinstance(state, tuple) and len(state) > 7 and type(state[7]) is int and state[7] & _HAS_OBJECT != 0
-
-
-def _may_hold_objects(value: Any, depth: int = 0) -> bool:
-    """Whether items may be objects or have some, as far as they are described as picklers do."""
-    if depth == 20 or not isinstance(value, Made) or value.function != Global('numpy', 'dtype'):
-        return True
-    if not isinstance(value.arguments, tuple) or not value.arguments:
-        return True
-    code = value.arguments[0]
-    kind = 'V' if code in _RECORDS else _as_text(code)[:1]
-    if kind != 'V':
-        return kind not in _SIZES and kind not in ('S', 'U')
-    if not isinstance(value.state, tuple) or len(value.state) < 5:
-        return value.state is not None
-    subarray, _, fields = value.state[2:5]
-    if subarray is not None:
-        return not isinstance(subarray, tuple) or not subarray or _may_hold_objects(subarray[0], depth + 1)
-    if fields is None:
-        return False
-    return not isinstance(fields, PDict) or not fields.is_whole or any(
-        not isinstance(described, tuple) or not described or _may_hold_objects(described[0], depth + 1) for described in fields[1::2])
+def _require_kinds(pickle: Pickle) -> None:
+    """Has all kinds of items as numpy describes them, and nothing else that could change their fields: numpy keeps the very dictionary."""
+    states = [kind.state for kind in pickle.kinds if kind.state is not None]
+    for kind in pickle.kinds:
+        if kind.state is not None:
+            item_of_pickled(kind)
+    used = Counter(id(state[4]) for state in states)
+    for state in states:
+        if isinstance(state[4], PDict):
+            require(id(state) not in pickle.gets and pickle.gets.get(id(state[4]), 0) + 1 == used[id(state[4])], 'fields that something else has')
 
 
 _RECORDS = (Global('numpy', 'record'), Global('numpy', 'void'))

@@ -11,9 +11,10 @@ from __future__ import annotations
 import codecs
 import re
 import struct
-from pickletools import opcodes
 from dataclasses import dataclass, field
-from typing import Any, Callable, Dict, List, NoReturn, Optional, Set, Tuple
+from math import prod
+from pickletools import opcodes
+from typing import Any, Callable, Dict, List, NoReturn, Optional, Set, Tuple, Type
 
 from ..blobs import CHUNK, STEPS, Blob, Budget, JoinedBlob
 from .formed import require_form
@@ -42,9 +43,13 @@ class Global:
     name: str
     # What a call of it makes decides how many bytes follow, so its arguments and its state are kept.
     is_kept: bool = field(init=False, compare=False)
+    # What a call of it makes, where that is known: 'bytes', an 'array', one over a 'buffer', or perhaps a 'kind' of items.
+    makes: str = field(init=False, compare=False)
 
     def __post_init__(self) -> None:
         object.__setattr__(self, 'is_kept', (self.module, self.name) in _KEPT)
+        kind = 'kind' if self.module.startswith('numpy') and 'DType' in self.name else ''
+        object.__setattr__(self, 'makes', _MAKERS.get((self.module, self.name), kind))
 
 
 class Made:
@@ -63,9 +68,16 @@ class OldText(bytes):
 
 
 class PList(List[Any]):
-    """A list, as far as its items are kept."""
+    """A list, as far as its items are kept. `left_out` counts the others; `is_set` says that an item was put in place of another, as no pickler
+    does."""
 
-    is_whole = True
+    left_out = 0
+    is_set = False
+
+    @property
+    def is_whole(self) -> bool:
+        """Whether all of its items are kept."""
+        return not self.left_out
 
 
 class PDict(PList):
@@ -92,6 +104,13 @@ _DATA = _Opaque()
 _MAY_BE_KIND = _Opaque()
 # What any other call made.
 _MADE = _Opaque()
+class _Array(_Opaque):
+    """What numpy makes for an array. One of numbers is no state of another array."""
+
+    def __init__(self, may_hold_objects: bool) -> None:
+        self.may_hold_objects = may_hold_objects
+
+
 # The attributes by which numpy takes an object for an array.
 _OF_ARRAYS = ('__array_interface__', '__array_struct__', '__array__')
 # What the memo has where there is nothing.
@@ -106,6 +125,8 @@ _MADE_AT_ONCE = re.compile(rb'(\x94|q.|r.{4}|p[0-9]{1,10}\n)?(\x95.{8})?\)\x81',
 _LONGEST_MAKING = 24
 
 _KEPT = _WRAPPERS | {('numpy', 'dtype')}
+_MAKERS = {('_codecs', 'encode'): 'bytes', **{(f'numpy.{core}.{name}', function): made for core in ('core', '_core') for name, function, made in (
+    ('numeric', '_frombuffer', 'buffer'), ('multiarray', '_reconstruct', 'array'))}}
 # What picklers call with a kind of items, and what leaves it as it is.
 _TAKE_KINDS = frozenset(Global(f'numpy.{core}.{name}', function) for core in ('core', '_core') for name, function in (
     ('multiarray', 'scalar'), ('numeric', '_frombuffer'), ('multiarray', '_reconstruct')))
@@ -118,7 +139,8 @@ class Pickle:
     `raw` are the ranges within it that are no opcodes, as offset and end; of these `inner` are pickles with a memo of their own. `counts`
     is set where it takes things from the memo that stand there in the order in which they came: another memo gives it other things. `kinds`
     are numpy's kinds of items that it makes. `has_odd_states` says that a state has a key by which numpy takes an object for an array, or
-    one that is worked out.
+    one that is worked out, or may give an array another number of objects than it has items. `gets` counts how often a tuple, list or
+    dictionary was taken from the memo, by its id: something else may have changed it.
     """
 
     offset: int
@@ -131,9 +153,14 @@ class Pickle:
     value: Any = None
     kinds: List['Made'] = field(default_factory=list)
     has_odd_states: bool = False
+    gets: Dict[int, int] = field(default_factory=dict)
 
 
 _MOST_DIGITS = 4000
+# The flag of a kind of items whose arrays get a list (NPY_LIST_PICKLE).
+_TAKES_LIST = 2
+# What the memo gives that can be changed, or hold what can.
+_HOLDERS = frozenset((tuple, PList, PDict, Made))
 
 _STOP = 0x2E
 _BINGET, _BINPUT, _MEMOIZE, _BININT1, _BINFLOAT, _SHORT_BINUNICODE = 0x68, 0x71, 0x94, 0x4B, 0x47, 0x8C
@@ -148,9 +175,18 @@ def _has_kind(values: Any, depth: int = 0) -> bool:
     return depth < 3 and isinstance(values, (tuple, PList)) and any(_has_kind(value, depth + 1) for value in values)
 
 
+def _has_dtype(arguments: Any) -> bool:
+    """Whether numpy.dtype itself is among arguments: a call may make a kind of items by it."""
+    if isinstance(arguments, tuple):
+        for each in arguments:
+            if type(each) is Global and each.is_kept:
+                return True
+    return False
+
+
 def _may_be_of_kind(state: Any) -> bool:
     """Whether numpy.dtype takes such a state: a version, an order of bytes, and so on."""
-    return isinstance(state, tuple) and 5 <= len(state) <= 9 and type(state[0]) is int and not isinstance(state[1], (tuple, Global))
+    return isinstance(state, tuple) and 5 <= len(state) <= 9 and type(state[0]) is int and isinstance(state[1], (str, bytes, _Opaque))
 
 
 def _has_odd_key(state: Any) -> bool:
@@ -158,7 +194,28 @@ def _has_odd_key(state: Any) -> bool:
     if isinstance(state, PDict):
         keys = (key.decode('latin-1') if isinstance(key, OldText) else key for key in state[::2])
         return not state.is_whole or any(key in _OF_ARRAYS if isinstance(key, str) else isinstance(key, _Opaque) for key in keys)
-    return state is _MADE or isinstance(state, tuple) and len(state) == 2 and any(map(_has_odd_key, state))
+    if isinstance(state, _Opaque):
+        return state.may_hold_objects if isinstance(state, _Array) else state is not _DATA
+    return isinstance(state, tuple) and len(state) == 2 and any(map(_has_odd_key, state))
+
+
+def _count_of(shape: Any) -> Optional[int]:
+    """How many items an array of this shape has, where the shape is plain."""
+    is_plain = isinstance(shape, tuple) and all(type(length) is int and length >= 0 for length in shape)
+    return prod(shape) if is_plain else None
+
+
+def _may_be(kind: Type[Any], value: Any) -> bool:
+    """Whether a value is of this class, or a call may have made one that is."""
+    return isinstance(value, kind) or isinstance(value, _Opaque) and value is not _DATA and not isinstance(value, _Array)
+
+
+def _may_take_list(kind: Any) -> bool:
+    """Whether an array of this kind may take a list, without counting."""
+    if not isinstance(kind, Made):
+        return kind is _MAY_BE_KIND
+    state = kind.state
+    return not isinstance(state, tuple) or len(state) < 8 or type(state[7]) is not int or state[7] & _TAKES_LIST != 0
 
 
 def _is_wrapper(value: Any) -> bool:
@@ -279,6 +336,8 @@ class Reader:
                 top.append(memo[window[at + 1]])
                 self._has_gets = True
                 at += 2
+                if type(top[-1]) in _HOLDERS:
+                    self._count_get(top[-1])
             elif code == _BININT1:
                 top.append(window[at + 1])
                 at += 2
@@ -383,9 +442,18 @@ class Reader:
         value = self._memo[key]
         self._has_gets = True
         self._top.append(value)
+        if type(value) in _HOLDERS:
+            self._count_get(value)
         if type(value) is Made and _is_wrapper(value.function):
             self.fail("an object of joblib's class of arrays that is used twice")
         self._check_wrapper(value)
+
+    def _count_get(self, value: Any) -> None:
+        """Counts it. A kind of items that is used before its state may change under an array."""
+        if type(value) is Made:
+            self.pickle.has_odd_states = self.pickle.has_odd_states or value.state is None
+        else:
+            self.pickle.gets[id(value)] = self.pickle.gets.get(id(value), 0) + 1
 
     def put(self, key: int) -> None:
         """Keys come in order; those of Python 2 leave one out."""
@@ -452,7 +520,15 @@ class Reader:
         self._unfilled += is_kept and _is_wrapper(function)
         has_kind = _has_kind(arguments)
         self.gives_kinds = self.gives_kinds or has_kind and not (isinstance(function, Global) and function in _TAKE_KINDS)
-        self._top.append(Made(function, arguments) if is_kept else _MAY_BE_KIND if has_kind else _MADE)
+        makes = function.makes if isinstance(function, Global) else ''
+        if is_kept:
+            self._top.append(Made(function, arguments))
+        elif makes in ('array', 'buffer'):
+            self._top.append(_Array(makes == 'array'))
+        elif makes == 'bytes':
+            self._top.append(_DATA)
+        else:
+            self._top.append(_MAY_BE_KIND if has_kind or makes or _has_dtype(arguments) else _MADE)
         if is_kept and not _is_wrapper(function):
             self.pickle.kinds.append(self._top[-1])
 
@@ -486,7 +562,26 @@ class Reader:
         elif isinstance(target, Made) or target is _MAY_BE_KIND or _may_be_of_kind(state):
             self.fail('a state of what may be a kind of items')
         else:
-            self.pickle.has_odd_states = self.pickle.has_odd_states or _has_odd_key(state)
+            self.pickle.has_odd_states = self.pickle.has_odd_states or _has_odd_key(state) or self._is_odd_array(state)
+            if isinstance(target, _Array):
+                kinds = state[1:3] if isinstance(state, tuple) else ()
+                target.may_hold_objects = not any(isinstance(kind, Made) for kind in kinds) or any(map(_may_take_list, kinds))
+
+    def _is_odd_array(self, state: Any) -> bool:
+        """Whether numpy may take this as the state of an array, and so many objects from a list, without counting, as the list has not.
+
+        The state is a version, a shape, a kind of items, an order, and bytes or a list; masked arrays go on, and old ones have no version.
+        """
+        if type(state) not in (tuple, PList) or len(state) < 4:
+            return False
+        return self._is_odd_list(state, *state[:4]) or len(state) > 4 and self._is_odd_list(state, *state[1:5])
+
+    def _is_odd_list(self, state: Any, shape: Any, kind: Any, _: Any, items: Any) -> bool:
+        if not _may_be(tuple, shape) or not _may_be(PList, items) or not _may_take_list(kind):
+            return False
+        if not isinstance(items, PList) or items.is_set or id(items) in self.pickle.gets or id(state) in self.pickle.gets:
+            return True
+        return _count_of(shape) != len(items) + items.left_out
 
     def persistent(self, key: Any) -> None:
         self.pickle.persistent.append(key)
@@ -572,7 +667,7 @@ class Reader:
             self._left -= len(items)
             target += items
         else:
-            target.is_whole = False
+            target.left_out += len(items)
 
     def append(self, items: List[Any]) -> None:
         target = self.peek()
@@ -587,6 +682,8 @@ class Reader:
         target = self.peek()
         if isinstance(target, PDict):
             self._fill(target, items)
+        elif type(target) is PList:
+            target.is_set = True
 
     def set_one(self) -> None:
         value, key = self.pop(), self.pop()
