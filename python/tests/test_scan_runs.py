@@ -22,7 +22,7 @@ from typing import Callable, Dict, List
 from pickles import chosen
 from picklestep.program import find_program
 from picklestep.scan import Options, cluster, look, pool
-from scan_support import HOSTILE, MODELS, ScanCase, environment, names_of, python_with
+from scan_support import HARMLESS, HOSTILE, MODELS, ScanCase, environment, names_of, python_with
 
 # A number of seconds by which a sleeping process is told from others.
 SLEEP = f'61.{os.getpid()}'
