@@ -417,7 +417,8 @@ def _look_at_file(looker: Looker, path: str) -> Result:
 
 def _look_at_pipe(looker: Looker, file: FileIO, path: str) -> Result:
     """What a pipe gives is held in memory, and where it is too much for that, the first of it."""
-    os.set_blocking(file.fileno(), True)
+    if hasattr(os, 'set_blocking'):  # (Windows has none, and no flag against waiting either)
+        os.set_blocking(file.fileno(), True)
     holder = Unpacked()
     copy = spooled(holder.first(iter(lambda: file.read(CHUNK), b''), looker.budget.most_held()))
     with copy.file:
