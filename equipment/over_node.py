@@ -32,6 +32,7 @@ NOT_THERE = {
     "test_runs.NothingLeft.test_after_a_kill_of_the_interpreter": "only Linux ends what neither reads nor writes",
     "test_runs.Sources.test_without_files_in_memory": "no file is in memory there",
     "test_scan_hostile.HostileFolders.test_each_ends_in_a_line_of_its_own": "Windows has no FIFOs",
+    "test_scan_runs.Opened.test_each_is_looked_at": "Windows has no /dev/fd",
     "test_scan_runs.Runs.test_ctrl_c": "only Linux ends what neither reads nor writes",
     "test_sessions.Words.test_large_pages": "Windows has no glibc",
     "test_source_alone": "the page is a browser's; what it is compared with is tried by test_source",
