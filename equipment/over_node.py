@@ -31,6 +31,7 @@ NOT_THERE = {
     "test_runs.Errors.test_a_program_that_ends_by_a_signal": "Windows ends no program by a signal",
     "test_runs.NothingLeft.test_after_a_kill_of_the_interpreter": "only Linux ends what neither reads nor writes",
     "test_runs.Sources.test_without_files_in_memory": "no file is in memory there",
+    "test_scan_hostile.HostileFolders.test_a_fifo_that_is_named": "Windows has no FIFOs",
     "test_scan_hostile.HostileFolders.test_each_ends_in_a_line_of_its_own": "Windows has no FIFOs",
     "test_scan_runs.Opened.test_each_is_looked_at": "Windows has no /dev/fd",
     "test_scan_runs.Runs.test_ctrl_c": "only Linux ends what neither reads nor writes",
