@@ -24,6 +24,7 @@ _PLAIN_CODES = frozenset('?bBhHiIlLqQeufdgFDGcSaUVMm')
 _WIDTHS = {'S': 1, 'a': 1, 'U': 4, 'V': 1}
 # An object gets something, or its attributes as an argument: the bytes show what.
 _OBJECT = re.compile(r"(?m)^ *([0-9]+): ((?:state|set|append|add) .*|call 'types' 'SimpleNamespace' \(.*)")
+_MAKE_TEXTS = ("'UserString'", "'dtype' ('U", "'dtype' ('<U", "'str_'", 'StringDType')
 Line = Tuple[int, str, str]
 
 
@@ -39,6 +40,8 @@ class ItemKinds:
         self._of_array: Optional[Line] = None
         self._of_object: Optional[Line] = None
         self._has_numpy = False
+        # Whether what is no text of the pickle may be one, or as good as one.
+        self.makes_texts = False
 
     @property
     def unsure(self) -> Optional[Line]:
@@ -58,6 +61,7 @@ class ItemKinds:
     def read(self, text: str, start: int, end: int, part: str) -> None:
         """Reads lines, which stand in this part of an answer."""
         self._has_numpy = self._has_numpy or _NUMPY in text
+        self.makes_texts = self.makes_texts or any(sign in text for sign in _MAKE_TEXTS)
         if self._of_object is None:
             found = _OBJECT.search(text, start, end)
             self._of_object = (int(found[1]), found[2], part) if found else None

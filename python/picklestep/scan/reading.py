@@ -21,6 +21,7 @@ from .begins import is_dotted
 from .blobs import CHUNK, Blob, Budget, FileBlob, Spooled, spooled
 from .canonical.formed import content_of
 from .canonical.items import oddness
+from .canonical.pickles import names_methods
 from .canonical.joblib import SIGN
 from .item_kinds import ItemKinds
 from .results import ODD, Call, Import, Pickle, Place
@@ -99,7 +100,7 @@ class Summary:
 
     def ask_oddness(self, blob: Blob, budget: Budget) -> None:
         """Asks the bytes where lines do not show whether what numpy gets fits, or what loaders call."""
-        if self._kinds.unsure is not None:
+        if self._kinds.unsure is not None and (self._kinds.of_numpy or self._kinds.makes_texts or names_methods(blob)):
             self.oddness = oddness(blob, budget, self._kinds.of_numpy)
 
     @property

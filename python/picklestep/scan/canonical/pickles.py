@@ -20,7 +20,7 @@ from ..blobs import CHUNK, STEPS, Blob, Budget, JoinedBlob
 from .formed import require_form
 from .forms import NotCanonical, wrong
 
-__all__ = ['Global', 'Hook', 'Made', 'OldText', 'PDict', 'PList', 'Pickle', 'Reader', 'read_pickle']
+__all__ = ['Global', 'Hook', 'Made', 'OldText', 'PDict', 'PList', 'Pickle', 'Reader', 'names_methods', 'read_pickle']
 
 # Longer texts are no names, codes or keys: nothing needs to be known of them.
 _LONGEST_TEXT = 256
@@ -81,7 +81,11 @@ class PList(List[Any]):
 
 
 class PDict(PList):
-    """A dictionary: its keys and values in turn, as far as they are kept."""
+    """A dictionary: its keys and values in turn, as far as they are kept. `has_called` says that something is under a name that loaders call,
+    and `has_called_item` so of what takes its items for attributes."""
+
+    has_called = False
+    has_called_item = False
 
     def by_text(self) -> Dict[str, Any]:
         """The values by their keys, where these are texts."""
@@ -118,6 +122,11 @@ _OF_ARRAYS = ('__array_interface__', '__array_struct__', '__array__')
 _CALLED_ALONE = frozenset(('__setstate__', '__new__', '__init__', '__getinitargs__', '_build_f', '_hook_for_profile', '_simple_new', 'from_arrays'))
 _CALLED_OF_ITEMS = frozenset(('append', 'extend', 'add'))
 _CALLED = _CALLED_OF_ITEMS | {'keys', 'values', 'items', 'pop', 'setdefault'}
+# Such a name as picklers write it.
+_METHOD_TEXT = re.compile(b'|'.join(
+    b'[\x8cU]%b%b|X%b%b|V%b\n|S[\'"]%b[\'"]' % (bytes([len(name)]), name, struct.pack('<I', len(name)), name, name, name)
+    for name in map(str.encode, sorted(_CALLED_ALONE | _CALLED))), re.DOTALL)
+_LONGEST_METHOD = 32
 # What the memo has where there is nothing.
 _NOTHING = _Opaque()
 
@@ -213,8 +222,18 @@ def _has_odd_key(state: Any) -> bool:
 def _gives_method(state: Any, of_items: bool = False) -> bool:
     """Whether a state, or items, have something under a name that loaders call."""
     if isinstance(state, PDict):
-        return not (state.is_whole or of_items) or any(_is_method(*pair, of_items) for pair in zip(state[::2], state[1::2]))
+        return state.has_called_item if of_items else state.has_called
     return isinstance(state, tuple) and len(state) == 2 and any(_gives_method(each, of_items) for each in state)
+
+
+def names_methods(blob: Blob) -> bool:
+    """Whether a pickle in the form that picklers write may have a text that is a name which loaders call."""
+    tail = b''
+    for chunk in blob.chunks():
+        if _METHOD_TEXT.search(tail + chunk):
+            return True
+        tail = chunk[-_LONGEST_METHOD:]
+    return False
 
 
 def _is_method(key: Any, value: Any, is_item: bool = False) -> bool:
@@ -719,6 +738,10 @@ class Reader:
         target = self.peek()
         if isinstance(target, PDict):
             self._fill(target, items)
+            for key, value in zip(items[::2], items[1::2]):
+                if (type(value) is Global or value is _MADE) and _is_method(key, value):
+                    target.has_called = True
+                    target.has_called_item = target.has_called_item or _is_method(key, value, True)
         elif type(target) is PList:
             target.is_set = True
         elif target is not _DICTIONARY and not self.pickle.gives_methods:  # (some classes take their items for attributes)
