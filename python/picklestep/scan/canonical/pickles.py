@@ -122,10 +122,9 @@ _OF_ARRAYS = ('__array_interface__', '__array_struct__', '__array__')
 _CALLED_ALONE = frozenset(('__setstate__', '__new__', '__init__', '__getinitargs__', '_build_f', '_hook_for_profile', '_simple_new', 'from_arrays'))
 _CALLED_OF_ITEMS = frozenset(('append', 'extend', 'add'))
 _CALLED = _CALLED_OF_ITEMS | {'keys', 'values', 'items', 'pop', 'setdefault'}
-# Such a name as picklers write it.
-_METHOD_TEXT = re.compile(b'|'.join(
-    b'[\x8cU]%b%b|X%b%b|V%b\n|S[\'"]%b[\'"]' % (bytes([len(name)]), name, struct.pack('<I', len(name)), name, name, name)
-    for name in map(str.encode, sorted(_CALLED_ALONE | _CALLED))), re.DOTALL)
+# Such names, each with what picklers write right before it (of lines the sign of a text, or a quote).
+_METHODS = tuple((name, (b'\x8c%c' % len(name), b'U%c' % len(name), b'X' + struct.pack('<I', len(name)), b'V', b"'", b'"'))
+                 for name in map(str.encode, sorted(_CALLED_ALONE | _CALLED)))
 _LONGEST_METHOD = 32
 # What the memo has where there is nothing.
 _NOTHING = _Opaque()
@@ -230,8 +229,13 @@ def names_methods(blob: Blob) -> bool:
     """Whether a pickle in the form that picklers write may have a text that is a name which loaders call."""
     tail = b''
     for chunk in blob.chunks():
-        if _METHOD_TEXT.search(tail + chunk):
-            return True
+        content = tail + chunk
+        for name, before in _METHODS:
+            at = content.find(name)
+            while at >= 0:
+                if content.endswith(before, 0, at):
+                    return True
+                at = content.find(name, at + 1)
         tail = chunk[-_LONGEST_METHOD:]
     return False
 
