@@ -6,6 +6,7 @@ does what is read as these. And a number of a kind of objects is that object its
 
 from __future__ import annotations
 
+import re
 from typing import Dict, Optional, Tuple, Union
 
 from ..texts import ItemKind, KindState, NumberOfKind, kinds_in
@@ -21,6 +22,9 @@ _FLAGS = {'O': 63, 'U': 8}
 _PLAIN_CODES = frozenset('?bBhHiIlLqQeufdgFDGcSaUVMm')
 # The bytes of a letter, where an item has some.
 _WIDTHS = {'S': 1, 'a': 1, 'U': 4, 'V': 1}
+# An object gets something, or its attributes as an argument: the bytes show what.
+_OBJECT = re.compile(r"(?m)^ *([0-9]+): ((?:state|set|append|add) .*|call 'types' 'SimpleNamespace' \(.*)")
+_MAKE_TEXTS = ("'UserString'", "'dtype' ('U", "'dtype' ('<U", "'str_'", 'StringDType')
 Line = Tuple[int, str, str]
 
 
@@ -34,19 +38,33 @@ class ItemKinds:
         self._codes: Dict[int, str] = {}
         self._of_kind: Optional[Line] = None
         self._of_array: Optional[Line] = None
+        self._of_object: Optional[Line] = None
         self._has_numpy = False
+        # Whether what is no text of the pickle may be one, or as good as one.
+        self.makes_texts = False
 
     @property
     def unsure(self) -> Optional[Line]:
-        return self._of_kind or (self._of_array if self._has_numpy else None)
+        return self._of_kind or self._of_array or self._of_object
 
-    def name(self) -> str:
-        """What numpy makes of it."""
+    @property
+    def of_numpy(self) -> bool:
+        """Whether numpy may get any of it."""
+        return self._of_kind is not None or self._of_array is not None and self._has_numpy
+
+    def name(self, oddness: str) -> str:
+        """What numpy or a loader makes of it."""
+        if self.odd is None and (oddness == 'attribute' or not self.of_numpy):
+            return 'attribute'
         return 'numpy.dtype' if self.odd is not None or self._of_kind is not None else 'numpy.ndarray'
 
     def read(self, text: str, start: int, end: int, part: str) -> None:
         """Reads lines, which stand in this part of an answer."""
         self._has_numpy = self._has_numpy or _NUMPY in text
+        self.makes_texts = self.makes_texts or any(sign in text for sign in _MAKE_TEXTS)
+        if self._of_object is None:
+            found = _OBJECT.search(text, start, end)
+            self._of_object = (int(found[1]), found[2], part) if found else None
         if not self._codes and not any(sign in text for sign in _SIGNS):
             return
         for offset, line, what in kinds_in(text, start, end):

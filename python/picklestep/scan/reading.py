@@ -20,7 +20,8 @@ from ..texts import IN_FORM, given_in, headings_in, offset_of_item, with_offset
 from .begins import is_dotted
 from .blobs import CHUNK, Blob, Budget, FileBlob, Spooled, spooled
 from .canonical.formed import content_of
-from .canonical.items import arrays_fit
+from .canonical.items import oddness
+from .canonical.pickles import names_methods
 from .canonical.joblib import SIGN
 from .item_kinds import ItemKinds
 from .results import ODD, Call, Import, Pickle, Place
@@ -95,12 +96,12 @@ class Summary:
         self._part = ''
         self._leads_nowhere = False
         self._kinds = ItemKinds()
-        self.arrays_fit = False
+        self.oddness = ''
 
-    @property
-    def may_have_odd_kinds(self) -> bool:
-        """Whether lines do not show if what numpy gets fits (`arrays_fit`)."""
-        return self._kinds.unsure is not None
+    def ask_oddness(self, blob: Blob, budget: Budget) -> None:
+        """Asks the bytes where lines do not show whether what numpy gets fits, or what loaders call."""
+        if self._kinds.unsure is not None and (self._kinds.of_numpy or self._kinds.makes_texts or names_methods(blob)):
+            self.oddness = oddness(blob, budget, self._kinds.of_numpy)
 
     @property
     def is_empty(self) -> bool:
@@ -249,10 +250,10 @@ class Summary:
             if found.what != 'import':
                 first, count = done.get((found.what, name, part), (found, 0))
                 done[found.what, name, part] = first, count + found.count
-        odd = self._kinds.odd or (None if self.arrays_fit else self._kinds.unsure)
+        odd = self._kinds.odd or (self._kinds.unsure if self.oddness else None)
         if odd is not None:
             offset, text, part = odd
-            name = self._kinds.name()
+            name = self._kinds.name(self.oddness)
             done[ODD, name, part] = _Found(ODD, name, self._place(offset), text, part, 1), 1
         return Pickle(where, size, tuple(Import(first.name, count, first.offset, first.part) for first, count in imports.values()),
                       tuple(Call(first.what, first.name, count, first.offset, first.text, first.part) for first, count in done.values()),
@@ -354,8 +355,7 @@ class Asked:
                 summary.take(text[at:at + CHUNK] for at in range(0, len(text), CHUNK))
             except Enough as limit:
                 summary.trouble = f'{limit}: the rest of it is not looked at'
-        if summary.may_have_odd_kinds:
-            summary.arrays_fit = arrays_fit(self._blob, budget)
+        summary.ask_oddness(self._blob, budget)
         return summary
 
     def offset_of_item(self, item: int, budget: Budget) -> Optional[int]:

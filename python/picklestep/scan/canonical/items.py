@@ -13,7 +13,7 @@ from ..blobs import Blob, Budget, LimitMet
 from .forms import NotCanonical, require, wrong
 from .pickles import Global, Made, OldText, PDict, Pickle, read_pickle
 
-__all__ = ['Item', 'arrays_fit', 'count_of_shape', 'item_of_description', 'item_of_pickled']
+__all__ = ['Item', 'count_of_shape', 'item_of_description', 'item_of_pickled', 'oddness']
 
 _WRONG_FLAGS = 'flags of a numpy.dtype that do not fit its fields'
 # Bytes of an item, and whether it holds objects.
@@ -174,21 +174,24 @@ def _field(described: Any, depth: int) -> Tuple[int, int, int]:
     return (described[1], *_of_pickled(described[0], depth + 1))
 
 
-def arrays_fit(blob: Blob, budget: Budget) -> bool:
-    """Whether in pickles in a row all kinds of items are as numpy describes them, and no state makes an array of an object, or gives one another
-    number of objects than it has. Where half of the time that is left does not suffice, nobody knows it."""
-    at = 0
+def oddness(blob: Blob, budget: Budget, of_numpy: bool = True) -> str:
+    """What is odd in pickles in a row: 'attribute' where an object gets what is imported under a name that loaders call, 'array' where kinds of
+    items are not as numpy describes them, or a state makes an array of an object, or gives one another number of objects than it has.
+    Where half of the time that is left does not suffice, nobody knows it."""
+    at, is_odd = 0, False
     try:
         with budget.half():
             while at < blob.size:
-                pickle = read_pickle(blob, at, None, budget)
-                if pickle.has_odd_states:
-                    return False
-                _require_kinds(pickle)
+                pickle = read_pickle(blob, at, None, budget, of_numpy)
+                if pickle.gives_methods:
+                    return 'attribute'
+                if of_numpy:
+                    is_odd = is_odd or pickle.has_odd_states
+                    _require_kinds(pickle)
                 at = pickle.end
     except (NotCanonical, LimitMet):
-        return False
-    return True
+        is_odd = True
+    return 'array' if is_odd else ''
 
 
 def _require_kinds(pickle: Pickle) -> None:

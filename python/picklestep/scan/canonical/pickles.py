@@ -20,7 +20,7 @@ from ..blobs import CHUNK, STEPS, Blob, Budget, JoinedBlob
 from .formed import require_form
 from .forms import NotCanonical, wrong
 
-__all__ = ['Global', 'Hook', 'Made', 'OldText', 'PDict', 'PList', 'Pickle', 'Reader', 'read_pickle']
+__all__ = ['Global', 'Hook', 'Made', 'OldText', 'PDict', 'PList', 'Pickle', 'Reader', 'names_methods', 'read_pickle']
 
 # Longer texts are no names, codes or keys: nothing needs to be known of them.
 _LONGEST_TEXT = 256
@@ -43,7 +43,7 @@ class Global:
     name: str
     # What a call of it makes decides how many bytes follow, so its arguments and its state are kept.
     is_kept: bool = field(init=False, compare=False)
-    # What a call of it makes, where that is known: 'bytes', an 'array', one over a 'buffer', or perhaps a 'kind' of items.
+    # What a call of it makes, where that is known: 'bytes', a 'dictionary', an 'array', one over a 'buffer', or perhaps a 'kind' of items.
     makes: str = field(init=False, compare=False)
 
     def __post_init__(self) -> None:
@@ -81,7 +81,11 @@ class PList(List[Any]):
 
 
 class PDict(PList):
-    """A dictionary: its keys and values in turn, as far as they are kept."""
+    """A dictionary: its keys and values in turn, as far as they are kept. `has_called` says that something is under a name that loaders call,
+    and `has_called_item` so of what takes its items for attributes."""
+
+    has_called = False
+    has_called_item = False
 
     def by_text(self) -> Dict[str, Any]:
         """The values by their keys, where these are texts."""
@@ -102,8 +106,9 @@ class _Opaque:
 _DATA = _Opaque()
 # What a call made that was given a kind of items: it may be that itself, as of `numpy.dtype(kind)`.
 _MAY_BE_KIND = _Opaque()
-# What any other call made.
+# What any other call made; a dictionary, whose items are no attributes.
 _MADE = _Opaque()
+_DICTIONARY = _Opaque()
 class _Array(_Opaque):
     """What numpy makes for an array. One of numbers is no state of another array."""
 
@@ -113,6 +118,14 @@ class _Array(_Opaque):
 
 # The attributes by which numpy takes an object for an array.
 _OF_ARRAYS = ('__array_interface__', '__array_struct__', '__array__')
+# What loaders call under such a name of an object, with what the pickle gives: unpicklers, and `__setstate__` and makers in the sets' libraries.
+_CALLED_ALONE = frozenset(('__setstate__', '__new__', '__init__', '__getinitargs__', '_build_f', '_hook_for_profile', '_simple_new', 'from_arrays'))
+_CALLED_OF_ITEMS = frozenset(('append', 'extend', 'add'))
+_CALLED = _CALLED_OF_ITEMS | {'keys', 'values', 'items', 'pop', 'setdefault'}
+# Such names, each with what picklers write right before it (of lines the sign of a text, or a quote).
+_METHODS = tuple((name, (b'\x8c%c' % len(name), b'U%c' % len(name), b'X' + struct.pack('<I', len(name)), b'V', b"'", b'"'))
+                 for name in map(str.encode, sorted(_CALLED_ALONE | _CALLED)))
+_LONGEST_METHOD = 32
 # What the memo has where there is nothing.
 _NOTHING = _Opaque()
 
@@ -124,12 +137,16 @@ _WRAPPERS = frozenset((module, name) for module in ('joblib.numpy_pickle', 'jobl
 _MADE_AT_ONCE = re.compile(rb'(\x94|q.|r.{4}|p[0-9]{1,10}\n)?(\x95.{8})?\)\x81', re.DOTALL)
 _LONGEST_MAKING = 24
 
+_BUILTINS = ('builtins', '__builtin__')
 _KEPT = _WRAPPERS | {('numpy', 'dtype')}
-_MAKERS = {('_codecs', 'encode'): 'bytes', **{(f'numpy.{core}.{name}', function): made for core in ('core', '_core') for name, function, made in (
+_MAKERS = {('_codecs', 'encode'): 'bytes', **{('collections', name): 'dictionary' for name in ('OrderedDict', 'defaultdict', 'Counter')}, **{(f'numpy.{core}.{name}', function): made for core in ('core', '_core') for name, function, made in (
     ('numeric', '_frombuffer', 'buffer'), ('multiarray', '_reconstruct', 'array'))}}
 # What picklers call with a kind of items, and what leaves it as it is.
 _TAKE_KINDS = frozenset(Global(f'numpy.{core}.{name}', function) for core in ('core', '_core') for name, function in (
     ('multiarray', 'scalar'), ('numeric', '_frombuffer'), ('multiarray', '_reconstruct')))
+
+# What takes attributes as its argument (Python 3.13).
+_TAKE_ATTRIBUTES = (Global('types', 'SimpleNamespace'),)
 
 
 @dataclass
@@ -139,7 +156,8 @@ class Pickle:
     `raw` are the ranges within it that are no opcodes, as offset and end; of these `inner` are pickles with a memo of their own. `counts`
     is set where it takes things from the memo that stand there in the order in which they came: another memo gives it other things. `kinds`
     are numpy's kinds of items that it makes. `has_odd_states` says that a state has a key by which numpy takes an object for an array, or
-    one that is worked out, or may give an array another number of objects than it has items. `gets` counts how often a tuple, list or
+    one that is worked out, or may give an array another number of objects than it has items. `gives_methods` says that an object gets what
+    is imported under a name that loaders call. `gets` counts how often a tuple, list or
     dictionary was taken from the memo, by its id: something else may have changed it.
     """
 
@@ -153,6 +171,7 @@ class Pickle:
     value: Any = None
     kinds: List['Made'] = field(default_factory=list)
     has_odd_states: bool = False
+    gives_methods: bool = False
     gets: Dict[int, int] = field(default_factory=dict)
 
 
@@ -199,6 +218,40 @@ def _has_odd_key(state: Any) -> bool:
     return isinstance(state, tuple) and len(state) == 2 and any(map(_has_odd_key, state))
 
 
+def _gives_method(state: Any, of_items: bool = False) -> bool:
+    """Whether a state, or items, have something under a name that loaders call."""
+    if isinstance(state, PDict):
+        return state.has_called_item if of_items else state.has_called
+    return isinstance(state, tuple) and len(state) == 2 and any(_gives_method(each, of_items) for each in state)
+
+
+def names_methods(blob: Blob) -> bool:
+    """Whether a pickle in the form that picklers write may have a text that is a name which loaders call."""
+    tail = b''
+    for chunk in blob.chunks():
+        content = tail + chunk
+        for name, before in _METHODS:
+            at = content.find(name)
+            while at >= 0:
+                if content.endswith(before, 0, at):
+                    return True
+                at = content.find(name, at + 1)
+        tail = chunk[-_LONGEST_METHOD:]
+    return False
+
+
+def _is_method(key: Any, value: Any, is_item: bool = False) -> bool:
+    """Whether a loader may call this by its name. The names of methods of lists and dictionaries also stand for settings, which are values, or
+    kinds of them, and for items."""
+    if isinstance(key, OldText):
+        key = key.decode('latin-1')
+    if not isinstance(key, str):
+        return type(value) is Global and isinstance(key, _Opaque) and key is not _DATA and not is_item
+    if key in _CALLED_ALONE:
+        return type(value) is Global or value is _MADE
+    return key in (_CALLED_OF_ITEMS if is_item else _CALLED) and type(value) is Global and value.module not in _BUILTINS
+
+
 def _count_of(shape: Any) -> Optional[int]:
     """How many items an array of this shape has, where the shape is plain."""
     is_plain = isinstance(shape, tuple) and all(type(length) is int and length >= 0 for length in shape)
@@ -233,9 +286,10 @@ class Reader:
     an opcode with an argument of a fixed length is at hand as a whole, and nothing has to be looked at between opcodes.
     """
 
-    def __init__(self, blob: Blob, at: int = 0, on_build: Optional[Hook] = None, budget: Optional[Budget] = None) -> None:
+    def __init__(self, blob: Blob, at: int = 0, on_build: Optional[Hook] = None, budget: Optional[Budget] = None, of_numpy: bool = True) -> None:
         self.blob = blob
         self.on_build = on_build
+        self._of_numpy = of_numpy
         self.budget = budget
         self.pickle = Pickle(at)
         self.frame_end: Optional[int] = None
@@ -519,6 +573,9 @@ class Reader:
         is_kept = isinstance(function, Global) and function.is_kept
         self._unfilled += is_kept and _is_wrapper(function)
         has_kind = _has_kind(arguments)
+        if isinstance(arguments, tuple) and not self.pickle.gives_methods:
+            is_state = function in _TAKE_ATTRIBUTES
+            self.pickle.gives_methods = any(_gives_method(each, not is_state) for each in arguments)
         self.gives_kinds = self.gives_kinds or has_kind and not (isinstance(function, Global) and function in _TAKE_KINDS)
         makes = function.makes if isinstance(function, Global) else ''
         if is_kept:
@@ -527,6 +584,8 @@ class Reader:
             self._top.append(_Array(makes == 'array'))
         elif makes == 'bytes':
             self._top.append(_DATA)
+        elif makes == 'dictionary':
+            self._top.append(_DICTIONARY)
         else:
             self._top.append(_MAY_BE_KIND if has_kind or makes or _has_dtype(arguments) else _MADE)
         if is_kept and not _is_wrapper(function):
@@ -551,6 +610,7 @@ class Reader:
 
     def build(self) -> None:
         state, target = self.pop(), self.peek()
+        self.pickle.gives_methods = self.pickle.gives_methods or _gives_method(state)
         if isinstance(target, Made) and not _has_kind(target.arguments):
             if target.state is not None:
                 self.fail("an object of joblib's class of arrays, or a kind of items, that gets a second state")
@@ -559,7 +619,7 @@ class Reader:
             target.state = state
             if self.on_build is not None:
                 self.on_build(self, target)
-        elif isinstance(target, Made) or target is _MAY_BE_KIND or _may_be_of_kind(state):
+        elif self._of_numpy and (isinstance(target, Made) or target is _MAY_BE_KIND or _may_be_of_kind(state)):
             self.fail('a state of what may be a kind of items')
         else:
             self.pickle.has_odd_states = self.pickle.has_odd_states or _has_odd_key(state) or self._is_odd_array(state)
@@ -682,8 +742,14 @@ class Reader:
         target = self.peek()
         if isinstance(target, PDict):
             self._fill(target, items)
+            for key, value in zip(items[::2], items[1::2]):
+                if (type(value) is Global or value is _MADE) and _is_method(key, value):
+                    target.has_called = True
+                    target.has_called_item = target.has_called_item or _is_method(key, value, True)
         elif type(target) is PList:
             target.is_set = True
+        elif target is not _DICTIONARY and not self.pickle.gives_methods:  # (some classes take their items for attributes)
+            self.pickle.gives_methods = any(_is_method(*pair, True) for pair in zip(items[::2], items[1::2]))
 
     def set_one(self) -> None:
         value, key = self.pop(), self.pop()
@@ -751,9 +817,9 @@ for _each in opcodes:
     _DO[ord(_each.code)] = _OPCODES.get(_each.name, Reader.refuse)
 
 
-def read_pickle(blob: Blob, at: int = 0, on_build: Optional[Hook] = None, budget: Optional[Budget] = None) -> Pickle:
-    """The pickle that begins here, in the form that picklers write."""
-    pickle = Reader(blob, at, on_build, budget).read()
+def read_pickle(blob: Blob, at: int = 0, on_build: Optional[Hook] = None, budget: Optional[Budget] = None, of_numpy: bool = True) -> Pickle:
+    """The pickle that begins here, in the form that picklers write. Without `of_numpy` nothing in it is a kind of numpy's items."""
+    pickle = Reader(blob, at, on_build, budget, of_numpy).read()
     whole = blob if at == 0 and pickle.end == blob.size else blob.part(at, pickle.end - at)
     require_form(JoinedBlob(whole, [(start - at, end - at) for start, end in pickle.raw]) if pickle.raw else whole, budget, at)
     return pickle
