@@ -21,7 +21,8 @@ RULES = {
     'denied': 'It imports a name of the list of --deny.',
     'not-allowed': 'It imports a name that no list of --allow has.',
     'not-allowed-done': 'It does something with an allowed name that no list of --allow says may be done with it.',
-    'odd': 'It says of kinds of items or arrays what numpy believes and does not write, so that memory may be overwritten; or loaders call what it imports.',
+    'odd': 'It says of kinds of items or arrays what numpy believes and does not write, so that memory may be overwritten; or loaders call '
+           'what it imports.',
     'not-read': 'It was not read to its end (STOP), and a loader may go on.',
     'not-looked-at': 'Something in it was not looked at.',
     'cannot-be-read': 'The file cannot be read.',
@@ -69,7 +70,8 @@ def import_text(found: Import, why: Optional[str]) -> str:
 def call_text(done: Call) -> str:
     """What a pickle does with one thing, with the program's line for the first time."""
     if done.what == ODD and done.name == 'attribute':
-        return f'perhaps an import, or what a call made, as a method that loaders call, first at {done.offset}{_in_part(done.part)}: {shown(done.text)}'
+        what = 'perhaps an import, or what a call made, as a method that loaders call'
+        return f'{what}, first at {done.offset}{_in_part(done.part)}: {shown(done.text)}'
     if done.what == ODD:
         return f'{done.name} as numpy never writes it, first at {done.offset}{_in_part(done.part)}: {shown(done.text)}'
     what = f'{done.what} {shown(done.name)}' if done.name else _WITHOUT_NAME.get(done.what, done.what)

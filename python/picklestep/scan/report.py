@@ -154,7 +154,7 @@ class Report:
                             ('not-allowed', 'import not allowed', 'imports not allowed'), ('denied', 'import denied', 'imports denied'),
                             ('known', 'import to look at', 'imports to look at'),
                             ('not-allowed-done', 'thing done that is not allowed', 'things done that are not allowed'),
-                            ('odd', 'thing that numpy believes and never writes', 'things that numpy believes and never writes'),
+                            ('odd', 'thing that no library writes', 'things that no library writes'),
                             ('worked-out', 'import worked out while loading', 'imports worked out while loading')):
             if counts[key]:
                 told.append(count_of(counts[key], *words))

@@ -139,8 +139,9 @@ _LONGEST_MAKING = 24
 
 _BUILTINS = ('builtins', '__builtin__')
 _KEPT = _WRAPPERS | {('numpy', 'dtype')}
-_MAKERS = {('_codecs', 'encode'): 'bytes', **{('collections', name): 'dictionary' for name in ('OrderedDict', 'defaultdict', 'Counter')}, **{(f'numpy.{core}.{name}', function): made for core in ('core', '_core') for name, function, made in (
-    ('numeric', '_frombuffer', 'buffer'), ('multiarray', '_reconstruct', 'array'))}}
+_MAKERS = {('_codecs', 'encode'): 'bytes', **{('collections', name): 'dictionary' for name in ('OrderedDict', 'defaultdict', 'Counter')},
+           **{(f'numpy.{core}.{name}', function): made for core in ('core', '_core') for name, function, made in (
+               ('numeric', '_frombuffer', 'buffer'), ('multiarray', '_reconstruct', 'array'))}}
 # What picklers call with a kind of items, and what leaves it as it is.
 _TAKE_KINDS = frozenset(Global(f'numpy.{core}.{name}', function) for core in ('core', '_core') for name, function in (
     ('multiarray', 'scalar'), ('numeric', '_frombuffer'), ('multiarray', '_reconstruct')))
