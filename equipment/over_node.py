@@ -2,7 +2,7 @@
 
     python3 -B equipment/over_node.py [--system windows | macos] [CLASS..]
 
-Without classes all of them. Each class is an interpreter of its own, four of them at once; each prints how many of its tests passed, were
+Without classes all of them. Each class is an interpreter of its own, at most four of them at once; each prints how many of its tests passed, were
 skipped and failed, and its processor time. What cannot run there is in `NOT_THERE`, with its reason. The gate runs all others but the classes
 in `DEAR`. Status 1 where a test failed.
 """
@@ -49,7 +49,8 @@ NOT_THERE = {
 }
 # Classes that the gate leaves out, with the processor seconds that they take.
 DEAR = {"test_scan_runs.Cluster": 38, "test_shell.AtATerminal": 38, "test_stores_files.Bytes": 110, "test_stores_files.Libraries": 33}
-AT_ONCE = 4
+# (the clock counts as processor time there: with more of them than processors, files would be told for their time)
+AT_ONCE = min(4, os.cpu_count() or 1)
 SECONDS = 7200
 
 
