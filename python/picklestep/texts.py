@@ -17,9 +17,9 @@ from .records import Argument, Change, End, Item, Mark, Object, Opcode, OtherFor
 __all__ = ['BYTES_CUT', 'Closing', 'FRAME_SIZE', 'HELD', 'Heading', 'HeldObject', 'IN_FORM', 'ITEMS', 'ITEM_IN_BYTES', 'ItemKind', 'KindState',
            'Line', 'LineReader', 'LinesError', 'MARK', 'MOST_OFFSET', 'NAMED_BY_TEXTS', 'NumberOfKind', 'OBJECTS', 'OFFSET_IN_BYTES', 'OPCODES',
            'REACH', 'REACH_BEGINS', 'REACH_WORD', 'SHOWN', 'ShownStorage', 'TEXT_NEXT', 'UNIT', 'VALUES_CUT', 'argument_at', 'as_made',
-           'before_headings', 'begins_with_offset', 'broken_places', 'closing_of', 'container_in', 'counts_in', 'end_of', 'frames_in', 'given_in',
-           'headings_in', 'held_in', 'holding', 'key_in', 'kinds_in', 'left_in', 'line_of', 'lines_with_offsets', 'lowered', 'made_by', 'memo_of',
-           'number_of', 'object_of', 'offset_of_item', 'opcode_of', 'other_form', 'pattern_of_line', 'persistent_lines', 'readonly_count',
+           'before_headings', 'begins_with_offset', 'broken_places', 'closing_of', 'container_in', 'counts_in', 'end_of', 'filled_in', 'frames_in',
+           'given_in', 'headings_in', 'held_in', 'holding', 'key_in', 'kinds_in', 'left_in', 'line_of', 'lines_with_offsets', 'lowered', 'made_by',
+           'memo_of', 'number_of', 'object_of', 'offset_of_item', 'opcode_of', 'other_form', 'pattern_of_line', 'persistent_lines', 'readonly_count',
            'results_in', 'stack_of', 'storage_of', 'stored_under', 'unnumbered', 'unquoted', 'where_of', 'with_offset']
 
 Record = TypeVar('Record')
@@ -648,6 +648,20 @@ def kinds_in(text: str, start: int, end: int) -> Iterator[Tuple[int, str, Union[
             what = KindState(int(given), found is not None, has_parts, size, flags, state[0] == '#' or state.count(',') == 1,
                              int(of_array[1]) if of_array else None)
         yield int(offset), said, what
+
+
+# An object gets something, or its attributes as an argument.
+_FILLED = re.compile(r"^ *([0-9]+): ((?:state|set|append|add) .*|call 'types' 'SimpleNamespace' \(.*)", re.MULTILINE)
+
+
+def filled_in(text: str, start: int, end: int) -> Optional[Tuple[int, str]]:
+    """The first line of `calls` that gives an object something, with its offset.
+
+    >>> filled_in("33: new 'a' 'B' () as #4\\n410: state #5 to #4\\n", 0, 50)
+    (410, 'state #5 to #4')
+    """
+    found = _FILLED.search(text, start, end)
+    return None if found is None else (int(found[1]), found[2])
 
 
 # What calls (or makes, with `new`) one of the things that it is given: which of them.

@@ -6,10 +6,9 @@ does what is read as these. And a number of a kind of objects is that object its
 
 from __future__ import annotations
 
-import re
 from typing import Dict, Optional, Tuple, Union
 
-from ..texts import ItemKind, KindState, NumberOfKind, kinds_in
+from ..texts import ItemKind, KindState, NumberOfKind, filled_in, kinds_in
 
 __all__ = ['ItemKinds']
 
@@ -22,8 +21,7 @@ _FLAGS = {'O': 63, 'U': 8}
 _PLAIN_CODES = frozenset('?bBhHiIlLqQeufdgFDGcSaUVMm')
 # The bytes of a letter, where an item has some.
 _WIDTHS = {'S': 1, 'a': 1, 'U': 4, 'V': 1}
-# An object gets something, or its attributes as an argument: the bytes show what.
-_OBJECT = re.compile(r"(?m)^ *([0-9]+): ((?:state|set|append|add) .*|call 'types' 'SimpleNamespace' \(.*)")
+# What makes texts that do not stand in the pickle.
 _MAKE_TEXTS = ("'UserString'", "'dtype' ('U", "'dtype' ('<U", "'str_'", 'StringDType')
 Line = Tuple[int, str, str]
 
@@ -63,8 +61,8 @@ class ItemKinds:
         self._has_numpy = self._has_numpy or _NUMPY in text
         self.makes_texts = self.makes_texts or any(sign in text for sign in _MAKE_TEXTS)
         if self._of_object is None:
-            found = _OBJECT.search(text, start, end)
-            self._of_object = (int(found[1]), found[2], part) if found else None
+            found = filled_in(text, start, end)
+            self._of_object = (*found, part) if found else None
         if not self._codes and not any(sign in text for sign in _SIGNS):
             return
         for offset, line, what in kinds_in(text, start, end):

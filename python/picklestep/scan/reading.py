@@ -21,7 +21,7 @@ from .begins import is_dotted
 from .blobs import CHUNK, Blob, Budget, FileBlob, Spooled, spooled
 from .canonical.formed import content_of
 from .canonical.items import oddness
-from .canonical.pickles import names_methods
+from .canonical.methods import names_methods
 from .canonical.joblib import SIGN
 from .item_kinds import ItemKinds
 from .results import ODD, Call, Import, Pickle, Place

@@ -3,9 +3,9 @@
 from __future__ import annotations
 
 from dataclasses import dataclass
-from typing import Dict, NoReturn, Optional, Tuple
+from typing import Any, Dict, NoReturn, Optional, Tuple
 
-__all__ = ['Form', 'Member', 'NotCanonical', 'WRITERS', 'require', 'wrong']
+__all__ = ['Form', 'Member', 'NotCanonical', 'WRITERS', 'count_of_shape', 'require', 'wrong']
 
 # Who writes the forms of pickles, as a line names it. (`containers` has those of containers.)
 WRITERS: Dict[str, str] = {
@@ -35,6 +35,20 @@ def require(holds: bool, reason: str, offset: int = -1) -> None:
     """Raises NotCanonical unless something holds."""
     if not holds:
         raise NotCanonical(reason, offset)
+
+
+_LARGEST = 2 ** 63
+
+
+def count_of_shape(shape: Any) -> int:
+    """How many items an array of this shape has. A shape is a tuple of whole numbers."""
+    is_shape = isinstance(shape, tuple) and all(type(length) is int and 0 <= length < _LARGEST for length in shape)
+    require(is_shape, 'a shape of other things than numbers')
+    product = 1
+    for length in shape:
+        product *= length
+        require(product < _LARGEST, 'a shape that is too large')
+    return product
 
 
 @dataclass(frozen=True)

@@ -10,10 +10,10 @@ from collections import Counter
 from typing import Any, Optional, Tuple
 
 from ..blobs import Blob, Budget, LimitMet
-from .forms import NotCanonical, require, wrong
+from .forms import NotCanonical, count_of_shape, require, wrong
 from .pickles import Global, Made, OldText, PDict, Pickle, read_pickle
 
-__all__ = ['Item', 'count_of_shape', 'item_of_description', 'item_of_pickled', 'oddness']
+__all__ = ['Item', 'item_of_description', 'item_of_pickled', 'oddness']
 
 _WRONG_FLAGS = 'flags of a numpy.dtype that do not fit its fields'
 # Bytes of an item, and whether it holds objects.
@@ -21,7 +21,6 @@ Item = Tuple[int, bool]
 
 _CODE = re.compile(r'([<>|=]?)([biufcSUVmMO])([0-9]*)(\[[0-9]*[A-Za-z]+(?:/[0-9]+)?\])?')
 _SIZES = {'b': (1,), 'i': (1, 2, 4, 8), 'u': (1, 2, 4, 8), 'f': (2, 4, 8, 12, 16), 'c': (8, 16, 24, 32), 'm': (8,), 'M': (8,)}
-_LARGEST = 2 ** 63
 # The flags of numpy.dtype: of texts and of objects.
 _HAS_OBJECT = 1
 _OF_TEXTS, _OF_OBJECTS = 8, 63
@@ -73,17 +72,6 @@ def _word(text: str) -> Item:
     require(number in _SIZES[kind] and (not unit or kind in 'mM'), f'items {text!a}')
     require(order in ('<', '>') or number == 1 and order == '|', f'items {text!a}')
     return number, False
-
-
-def count_of_shape(shape: Any) -> int:
-    """How many items an array of this shape has. A shape is a tuple of whole numbers."""
-    is_shape = isinstance(shape, tuple) and all(type(length) is int and 0 <= length < _LARGEST for length in shape)
-    require(is_shape, 'a shape of other things than numbers')
-    product = 1
-    for length in shape:
-        product *= length
-        require(product < _LARGEST, 'a shape that is too large')
-    return product
 
 
 def item_of_pickled(value: Any) -> Item:

@@ -9,8 +9,8 @@ from __future__ import annotations
 
 from typing import Any, Dict
 
-from .forms import NotCanonical
-from .items import count_of_shape, item_of_pickled
+from .forms import NotCanonical, count_of_shape
+from .items import item_of_pickled
 from .pickles import Global, Made, PDict, Reader, read_pickle
 
 __all__ = ['SIGN', 'on_build']

@@ -11,8 +11,8 @@ import re
 from typing import Optional, Tuple
 
 from ..blobs import Blob, Budget
-from .forms import Form, Member, require, wrong
-from .items import Item, count_of_shape, item_of_description
+from .forms import Form, Member, count_of_shape, require, wrong
+from .items import Item, item_of_description
 
 __all__ = ['verify']
 

@@ -12,15 +12,15 @@ import codecs
 import re
 import struct
 from dataclasses import dataclass, field
-from math import prod
 from pickletools import opcodes
 from typing import Any, Callable, Dict, List, NoReturn, Optional, Set, Tuple, Type
 
 from ..blobs import CHUNK, STEPS, Blob, Budget, JoinedBlob
 from .formed import require_form
-from .forms import NotCanonical, wrong
+from .forms import NotCanonical, count_of_shape, wrong
+from .methods import CALLED, CALLED_ALONE, CALLED_OF_ITEMS
 
-__all__ = ['Global', 'Hook', 'Made', 'OldText', 'PDict', 'PList', 'Pickle', 'Reader', 'names_methods', 'read_pickle']
+__all__ = ['Global', 'Hook', 'Made', 'OldText', 'PDict', 'PList', 'Pickle', 'Reader', 'read_pickle']
 
 # Longer texts are no names, codes or keys: nothing needs to be known of them.
 _LONGEST_TEXT = 256
@@ -109,6 +109,8 @@ _MAY_BE_KIND = _Opaque()
 # What any other call made; a dictionary, whose items are no attributes.
 _MADE = _Opaque()
 _DICTIONARY = _Opaque()
+
+
 class _Array(_Opaque):
     """What numpy makes for an array. One of numbers is no state of another array."""
 
@@ -118,14 +120,6 @@ class _Array(_Opaque):
 
 # The attributes by which numpy takes an object for an array.
 _OF_ARRAYS = ('__array_interface__', '__array_struct__', '__array__')
-# What loaders call under such a name of an object, with what the pickle gives: unpicklers, and `__setstate__` and makers in the sets' libraries.
-_CALLED_ALONE = frozenset(('__setstate__', '__new__', '__init__', '__getinitargs__', '_build_f', '_hook_for_profile', '_simple_new', 'from_arrays'))
-_CALLED_OF_ITEMS = frozenset(('append', 'extend', 'add'))
-_CALLED = _CALLED_OF_ITEMS | {'keys', 'values', 'items', 'pop', 'setdefault'}
-# Such names, each with what picklers write right before it (of lines the sign of a text, or a quote).
-_METHODS = tuple((name, (b'\x8c%c' % len(name), b'U%c' % len(name), b'X' + struct.pack('<I', len(name)), b'V', b"'", b'"'))
-                 for name in map(str.encode, sorted(_CALLED_ALONE | _CALLED)))
-_LONGEST_METHOD = 32
 # What the memo has where there is nothing.
 _NOTHING = _Opaque()
 
@@ -158,8 +152,8 @@ class Pickle:
     is set where it takes things from the memo that stand there in the order in which they came: another memo gives it other things. `kinds`
     are numpy's kinds of items that it makes. `has_odd_states` says that a state has a key by which numpy takes an object for an array, or
     one that is worked out, or may give an array another number of objects than it has items. `gives_methods` says that an object gets what
-    is imported under a name that loaders call. `gets` counts how often a tuple, list or
-    dictionary was taken from the memo, by its id: something else may have changed it.
+    is imported under a name that loaders call. `gets` counts how often a tuple, list or dictionary was taken from the memo, by its id:
+    something else may have changed it.
     """
 
     offset: int
@@ -226,21 +220,6 @@ def _gives_method(state: Any, of_items: bool = False) -> bool:
     return isinstance(state, tuple) and len(state) == 2 and any(_gives_method(each, of_items) for each in state)
 
 
-def names_methods(blob: Blob) -> bool:
-    """Whether a pickle in the form that picklers write may have a text that is a name which loaders call."""
-    tail = b''
-    for chunk in blob.chunks():
-        content = tail + chunk
-        for name, before in _METHODS:
-            at = content.find(name)
-            while at >= 0:
-                if content.endswith(before, 0, at):
-                    return True
-                at = content.find(name, at + 1)
-        tail = chunk[-_LONGEST_METHOD:]
-    return False
-
-
 def _is_method(key: Any, value: Any, is_item: bool = False) -> bool:
     """Whether a loader may call this by its name. The names of methods of lists and dictionaries also stand for settings, which are values, or
     kinds of them, and for items."""
@@ -248,15 +227,9 @@ def _is_method(key: Any, value: Any, is_item: bool = False) -> bool:
         key = key.decode('latin-1')
     if not isinstance(key, str):
         return type(value) is Global and isinstance(key, _Opaque) and key is not _DATA and not is_item
-    if key in _CALLED_ALONE:
+    if key in CALLED_ALONE:
         return type(value) is Global or value is _MADE
-    return key in (_CALLED_OF_ITEMS if is_item else _CALLED) and type(value) is Global and value.module not in _BUILTINS
-
-
-def _count_of(shape: Any) -> Optional[int]:
-    """How many items an array of this shape has, where the shape is plain."""
-    is_plain = isinstance(shape, tuple) and all(type(length) is int and length >= 0 for length in shape)
-    return prod(shape) if is_plain else None
+    return key in (CALLED_OF_ITEMS if is_item else CALLED) and type(value) is Global and value.module not in _BUILTINS
 
 
 def _may_be(kind: Type[Any], value: Any) -> bool:
@@ -642,7 +615,7 @@ class Reader:
             return False
         if not isinstance(items, PList) or items.is_set or id(items) in self.pickle.gets or id(state) in self.pickle.gets:
             return True
-        return _count_of(shape) != len(items) + items.left_out
+        return count_of_shape(shape) != len(items) + items.left_out
 
     def persistent(self, key: Any) -> None:
         self.pickle.persistent.append(key)

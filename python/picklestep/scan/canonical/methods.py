@@ -1,0 +1,33 @@
+"""Names of methods that loaders call of what a pickle makes."""
+
+from __future__ import annotations
+
+import struct
+
+from ..blobs import Blob
+
+__all__ = ['CALLED', 'CALLED_ALONE', 'CALLED_OF_ITEMS', 'names_methods']
+
+# What loaders call under such a name of an object, with what the pickle gives: unpicklers, and `__setstate__` and makers in the sets' libraries.
+CALLED_ALONE = frozenset(('__setstate__', '__new__', '__init__', '__getinitargs__', '_build_f', '_hook_for_profile', '_simple_new', 'from_arrays'))
+CALLED_OF_ITEMS = frozenset(('append', 'extend', 'add'))
+CALLED = CALLED_OF_ITEMS | {'keys', 'values', 'items', 'pop', 'setdefault'}
+# Such names, each with what picklers write right before it (of lines the sign of a text, or a quote).
+_METHODS = tuple((name, (b'\x8c%c' % len(name), b'U%c' % len(name), b'X' + struct.pack('<I', len(name)), b'V', b"'", b'"'))
+                 for name in map(str.encode, sorted(CALLED_ALONE | CALLED)))
+_LONGEST_METHOD = 32
+
+
+def names_methods(blob: Blob) -> bool:
+    """Whether a pickle in the form that picklers write may have a text that is a name which loaders call."""
+    tail = b''
+    for chunk in blob.chunks():
+        content = tail + chunk
+        for name, before in _METHODS:
+            at = content.find(name)
+            while at >= 0:
+                if content.endswith(before, 0, at):
+                    return True
+                at = content.find(name, at + 1)
+        tail = chunk[-_LONGEST_METHOD:]
+    return False
