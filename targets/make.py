@@ -269,7 +269,7 @@ def make_all(to: Path) -> None:
             for done in [pool.submit(make, made / file) for make, file in makes]:
                 done.result()
         shutil.copy(HERE / 'picklestep.mjs', made / PROGRAMS[4])
-        (made / page.NAME).write_bytes(page.make((made / PROGRAMS[2]).read_bytes()))
+        (made / page.NAME).write_bytes(page.make(made, to / page.NAME))
         (made / 'SHA256SUMS').write_text(''.join(f'{hashlib.sha256((made / file).read_bytes()).hexdigest()}  {file}\n' for file in MADE))
         (made / 'TOOLS').write_text(tools)
         for file in (*MADE, 'SHA256SUMS', 'TOOLS'):

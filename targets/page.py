@@ -1,10 +1,10 @@
-"""Makes the page that needs no server: one file with the module, the page and its scripts in it.
+"""Makes the page that needs no server: one file with the program, the library, the page and its scripts in it.
 
-    python3 targets/page.py FOLDER          makes FOLDER/picklestep.html of FOLDER/picklestep.wasm, and puts its sum into FOLDER/SHA256SUMS
+    python3 targets/page.py FOLDER          makes FOLDER/picklestep.html of the two modules there, and puts its sum into FOLDER/SHA256SUMS
     python3 targets/page.py --check FOLDER  only compares; status 1 where the page is not the one that would be made
 
-The page is that of `picklestep view` (python/picklestep/view), with a worker in the place of the server. The same sources give the same bytes:
-nothing is compressed, and no time and no path is in it.
+The page is that of `picklestep view` (python/picklestep/view), with a worker in the place of the server. No time and no path is in it. Other
+versions of zlib pack a module in another way: what is packed in the page that is there stays, where it is the same module.
 """
 
 from __future__ import annotations
@@ -14,6 +14,7 @@ import hashlib
 import json
 import re
 import sys
+import zlib
 from pathlib import Path
 
 ROOT = Path(__file__).resolve().parent.parent
@@ -25,9 +26,11 @@ from picklestep.view.opcodes import opcode_table, source_facts  # noqa: E402
 VIEW = ROOT / 'python/picklestep/view'
 NAME = 'picklestep.html'
 MOST = 3_000_000
+# The modules, by the elements that hold them.
+MODULES = {'module': 'picklestep.wasm', 'library': 'libpicklestep.wasm'}
 # The scripts of the worker; those of the page are what page.html names, with these in the place of the server.
 WORKER = ('bytes.js', 'texts.js', 'words.js', *(f'alone/{name}.js' for name in (
-    'wasi', 'session', 'lines', 'reaches', 'literals', 'source_nodes', 'source_names', 'source_builder', 'source', 'document', 'containers',
+    'wasi', 'library', 'session', 'lines', 'reaches', 'literals', 'source_nodes', 'source_names', 'source_builder', 'source', 'document', 'containers',
     'worker')))
 ALONE = ('alone/examples.js', 'alone/opening.js')
 # What the page may do: its own script and style, the module, a worker and a download of its own; no request to anywhere.
@@ -51,8 +54,21 @@ def element(tag: str, text: str, attributes: str = '') -> str:
     return f'<{tag}{attributes}>{text}</{tag}>'
 
 
-def make(module: bytes) -> bytes:
-    """The page."""
+def packed(name: str, module: bytes, before: str) -> str:
+    """The element of a name with a module in it; the one of the page `before`, where that holds the same."""
+    found = re.search(rf'<template id="{name}">([A-Za-z0-9+/=]*)</template>', before)
+    try:
+        if found and zlib.decompress(base64.b64decode(found[1])) == module:
+            return found[0]
+    except (ValueError, zlib.error):
+        pass
+    # (as a text of that length in a script, it would take most of the time in which the page starts)
+    return element('template', base64.b64encode(zlib.compress(module, 9)).decode('ascii'), f' id="{name}"')
+
+
+def make(folder: Path, before: Path) -> bytes:
+    """The page of the modules in a folder, where there may be a page `before`."""
+    kept = before.read_text(encoding='utf-8', errors='replace') if before.exists() else ''
     page = read('page.html')
     scripts = [name for name in re.findall(r'<script src="([a-z]+\.js)" defer></script>\n', page) if name != 'server.js']
     script, style = read(*scripts, *ALONE), read('style.css')
@@ -62,8 +78,7 @@ def make(module: bytes) -> bytes:
     data = [element('script', read(*WORKER), ' type="text/plain" id="worker-code"'),
             *(element('script', json.dumps(facts, separators=(',', ':')), f' type="application/json" id="{name}"')
               for name, facts in (('opcodes', opcode_table()), ('source-facts', source_facts()))),
-            # (as a text of that length in a script, it would take most of the time in which the page starts)
-            element('template', base64.b64encode(module).decode('ascii'), ' id="module"')]
+            *(packed(name, (folder / file).read_bytes(), kept) for name, file in MODULES.items())]
     for old, new in (('<meta charset="utf-8">', f'<meta charset="utf-8">\n<meta http-equiv="Content-Security-Policy" content="{policy}">'),
                      ('href="icon.svg"', f'href="data:image/svg+xml;base64,{icon}"'),
                      ('<link rel="stylesheet" href="style.css">', element('style', style)),
@@ -104,7 +119,7 @@ def main() -> int:
         return 2
     folder = Path(name)
     try:
-        made = make((folder / 'picklestep.wasm').read_bytes())
+        made = make(folder, folder / NAME)
         if not options:
             put(folder, made)
         elif not (folder / NAME).exists() or (folder / NAME).read_bytes() != made:

@@ -373,6 +373,27 @@ class Alone(Driven):
         self.said('undone 2: replace BINUNICODE at 2')
         self.assertEqual(self.requests(), [])
 
+    def test_edits_are_shown_without_saving(self) -> None:
+        """The library is asked of a small pickle as an edit leaves it; where it has no memory, and of a larger one, the program."""
+        self.load()
+        small, large = self.file('small.pickle', SYSTEM), self.file('large.pickle', b'(' + b'K\x01' * 40_000 + b't.')
+        with_little = base64.b64encode(with_memory((PAGE.parent / 'libpicklestep.wasm').read_bytes(), 0)).decode('ascii')
+        without_functions = base64.b64encode(b'\0asm\1\0\0\0').decode('ascii')
+        shown = []
+        for library, path, said in (('', small, 'edited 0'), (with_little, small, 'edited 0'), (without_functions, small, 'not done: '),
+                                    (without_functions, large, 'edited 0')):
+            if library:
+                self.browser.js(f"""(async () => {{ worker.program.library = await WebAssembly.compile(latin(atob('{library}')));
+                    endThread(worker.thread); worker.thread = newThread(); }})()""")
+            self.give(path)
+            self.browser.key('Delete')
+            self.said(said)
+            self.browser.js(SETTLED)
+            shown.append(self.browser.js(SEEN)['rows'])
+        self.assertEqual(shown[0], shown[1])
+        self.assertIn('10, STOP', shown[0]['4'][1])
+        self.assertIn('24, STOP', shown[2]['5'][1])
+
     def test_worked_examples(self) -> None:
         self.load()
         examples = self.browser.js('EXAMPLES')
@@ -738,10 +759,15 @@ class Alone(Driven):
 class Made(unittest.TestCase):
     """The file itself."""
 
+    def modules(self, name: str) -> Path:
+        """A folder with the modules."""
+        for file in ('picklestep.wasm', 'libpicklestep.wasm'):
+            (Path(name) / file).write_bytes((PAGE.parent / file).read_bytes())
+        return Path(name)
+
     def test_it_is_made_again_byte_for_byte(self) -> None:
         with tempfile.TemporaryDirectory() as name:
-            folder = Path(name)
-            (folder / 'picklestep.wasm').write_bytes((PAGE.parent / 'picklestep.wasm').read_bytes())
+            folder = self.modules(name)
             command = [sys.executable, '-I', '-B', str(ROOT / 'targets' / 'page.py')]
             for options in ([], [], ['--check']):
                 self.assertEqual(subprocess.run([*command, *options, name], capture_output=True, check=False).returncode, 0)
@@ -755,8 +781,7 @@ class Made(unittest.TestCase):
     def test_its_sum_stays_where_it_is(self) -> None:
         """Among other sums it has the same place, whether the page is made alone or with all that is released."""
         with tempfile.TemporaryDirectory() as name:
-            folder, sums = Path(name), 'aa  picklestep.wasm\nbb  picklestep.html\ncc  libpicklestep.wasm\n'
-            (folder / 'picklestep.wasm').write_bytes((PAGE.parent / 'picklestep.wasm').read_bytes())
+            folder, sums = self.modules(name), 'aa  picklestep.wasm\nbb  picklestep.html\ncc  libpicklestep.wasm\n'
             (folder / 'SHA256SUMS').write_text(sums)
             subprocess.run([sys.executable, '-I', '-B', str(ROOT / 'targets' / 'page.py'), name], check=True)
             self.assertEqual((folder / 'SHA256SUMS').read_text(), sums.replace('bb', hashlib.sha256(PAGE.read_bytes()).hexdigest()))

@@ -1,6 +1,7 @@
 -- What a function of the library leaves in its caller's memory.
 -- Source: own.
-use Rattle.std.specs.Prelude.{◌≡◌, ◌≢◌, ◌≤◌, ◌<◌, ◌↔◌, ◌⊎◌, ℕ, Bool, List, [], length, take, drop, Option, Some, None, MatchBool}
+use Rattle.std.specs.Prelude.{◌≡◌, ◌≢◌, ◌≤◌, ◌<◌, ◌↔◌, ◌⊎◌, ℕ, Bool, false, ◌||◌, List, [], ◌∷◌, length, take, drop, eqb, Option, Some, None, MatchBool}
+use Rattle.std.specs.List.{starts_with}
 use Rattle.pickle_io.specs.Device.{Told}
 use Rattle.pickle_doc.specs.Document.{size_limit, document_bytes}
 use Rattle.pickle_holes.specs.declared.hole.Hole.{Hole}
@@ -11,6 +12,8 @@ use Rattle.pickle_show.specs.Manner.{manner}
 use Rattle.pickle_further.specs.declared.way.Pickles.{Pickles}
 use Rattle.pickle_script.specs.Output.{CompletesText, CompletesFile}
 use Rattle.pickle_script.specs.Conversation.{Finishes}
+use Rattle.pickle_script.specs.ReplyText.{syntax_line}
+use Rattle.pickle_script.specs.declared.line.Syntax.TheVariants as syntax
 use Rattle.pickle_script.specs.declared.texts.Text.{Text}
 use Rattle.picklestep_library.specs.declared.fill.Written.{Written}
 use Rattle.picklestep_library.specs.Asked.{are_modes}
@@ -37,7 +40,13 @@ pub record IsTalkOf (many loose : Bool) (bytes script written : List ℕ) (statu
   pub rest : List ℕ
   pub finishes : Finishes begun after status (Some script) (Some rest) (took []) (took written)
 
--- these bytes are the whole text of the document that a session of an input has after the lines of a script, and this is its status
+-- somewhere in these answers stands that of a line for which memory ran out
+abbrev pub has_run_out : List ℕ → Bool
+has_run_out [] = false
+has_run_out (byte ∷ bytes) = starts_with eqb (byte ∷ bytes) (syntax_line syntax.Memory) || has_run_out bytes
+
+-- these bytes are the whole text of the document that a session of an input has after the lines of a script, for none of which memory ran out,
+-- and this is its status
 pub record IsTextAfter (text : Text) (many loose : Bool) (bytes script written : List ℕ) (status : ℕ) : Type 0 where
   pub begun : SessionState
   pub opened : IsOpenedIn many loose bytes begun
@@ -46,6 +55,7 @@ pub record IsTextAfter (text : Text) (many loose : Bool) (bytes script written :
   pub answers : List ℕ
   pub answered : ℕ
   pub finishes : Finishes begun after answered (Some script) (Some rest) (took []) (took answers)
+  pub had_memory : has_run_out answers ≡ false
   pub completes :
       CompletesText text after.session.document.many after.session.document.loose (document_bytes after.session.document) (took []) (took written) status
 

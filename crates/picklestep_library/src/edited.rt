@@ -1,12 +1,12 @@
 //! The texts of a document as the lines of a script leave it, in memory.
 
-ghost use Rattle.std.specs.Prelude.{[], false, IfOk};
+ghost use Rattle.std.specs.Prelude.{◌≡◌, [], false, IfOk};
 ghost use Rattle.pickle_doc.specs.Document.{document_bytes};
 ghost use Rattle.pickle_show.specs.declared.naming.Detail.TheVariants as detail;
 ghost use Rattle.pickle_script.specs.Output.{CompletesText};
 ghost use Rattle.pickle_script.specs.declared.texts.Text.TheVariants as asked_text;
 ghost use Rattle.picklestep_library.specs.Asked.{is_many, is_loose, pickles_of, detail_of};
-ghost use Rattle.picklestep_library.specs.Answer.{took, IsTextAfter, Fills, FillsIn, FillsOf};
+ghost use Rattle.picklestep_library.specs.Answer.{took, has_run_out, IsTextAfter, Fills, FillsIn, FillsOf};
 
 use crate::asked;
 use crate::fill::{NO_TASK, ROOM, Written, number_of, put};
@@ -19,6 +19,23 @@ use pickle_session::{Past, Session};
 use pickle_show::Detail;
 use std::alloc::Global;
 
+/// The answer to a line for which memory ran out.
+const RAN_OUT: &[u8] = b"refused: M out of memory\n";
+
+/// Whether that stands in these answers.
+fn has_run_out(answers: &[u8]) -> bool
+    ensures { result ≡ has_run_out answers.now }
+{
+    let mut left = answers;
+    while let [_, rest @ ..] = left {
+        if left.starts_with(RAN_OUT) {
+            return true;
+        }
+        left = rest;
+    }
+    false
+}
+
 /// A text of the document of a session, and its status.
 fn text_of<P: Past>(alloc: Global, text: Text, session: &Session<P>) -> Result<(Vec<u8>, u8), Stop>
     ensures { IfOk result (λ r. CompletesText text session.now.session.document.many session.now.session.document.loose
@@ -30,7 +47,8 @@ fn text_of<P: Past>(alloc: Global, text: Text, session: &Session<P>) -> Result<(
     Ok((page.into_inner().into_inner(), status))
 }
 
-/// A text of the document after the lines of a script, in a session of an input, and its status.
+/// A text of the document after the lines of a script, in a session of an input, and its status. `Memory` comes also where memory ran out
+/// for one of the lines: the text would be that of the others.
 fn text_after(
     alloc: Global,
     text: Text,
@@ -42,7 +60,10 @@ fn text_after(
     ensures { IfOk result (λ r. IsTextAfter text many loose bytes.now script.now r.0.items r.1) }
 {
     let mut session = open(alloc, many, loose, bytes)?;
-    let _answers = answers_to(alloc, &mut session, script)?;
+    let (answers, _) = answers_to(alloc, &mut session, script)?;
+    if has_run_out(answers.as_slice()) {
+        return Err(Stop::Memory);
+    }
     text_of(alloc, text, &session)
 }
 

@@ -40,14 +40,14 @@ class TooLong extends Error {}
 class Document {
   // Opens a pickle. Where it has many opcodes, only the first of them are opened unless it is `isWhole`: the document is a part.
   static async open(program, file, name, many, isWhole, progress, reaches) {
-    const document = Document.of(program, file, many, progress), { module, isLive } = program;
+    const document = Document.of(program, file, many, progress);
     Object.assign(document, { name, reaches, breaks: new Set(), edits: [], undone: [], version: 0, place: 0 });
     progress('opening');
     document.lines = isWhole ? document.list(MOST_READ) : document.listFirst();
     document.isPart = document.content.length < file.length;
     document.unknown = document.isPart ? 'what the rest imports and calls is not known yet' : '';
     progress('debug: reading the opcodes');
-    document.session = await Session.open(module, document.content, many, isLive);
+    document.session = await Session.open(program, document.content, many);
     await document.read().catch((error) => { document.session.close(); throw error; });
     document.pickle = document.version; // (its edits have others)
     if (document.isPart) document.lines.closing = [document.said()];
@@ -78,7 +78,7 @@ class Document {
   }
 
   list(most = Infinity) {
-    const least = 4 * this.content.length + MOST_DEEP; // (a byte of a text has up to four letters)
+    const least = 4 * (this.content?.length ?? 0) + MOST_DEEP; // (a byte of a text has up to four letters)
     const check = (lines) => {
       if (lines.length > most) throw new Enough(`more than ${most.toLocaleString('en')} opcodes are not read here (picklestep view shows them)`, lines, most);
       if (lines.whole > least + MOST_LINE * lines.length) throw new Enough('too many marks are open at once to be shown', lines, Math.floor(0.7 * lines.length));
@@ -108,7 +108,7 @@ class Document {
 
   async read() {
     if (this.session.edits.length || this.version) {
-      this.content = this.session.bytes();
+      this.content = null;
       this.lines = this.list();
     }
     const { places, place } = await this.session.where();
@@ -138,10 +138,22 @@ class Document {
     return new Reaches(calls, false);
   }
 
-  // Runs a task over the pickle as it is, and says how far it is. `check` may throw to end it.
+  // The bytes of the pickle as it is: after an edit they are saved when they are asked for.
+  bytes() {
+    this.content ??= this.session.bytes();
+    return this.content;
+  }
+
+  // Does a task over the pickle as it is, and says how far it is. `check` may throw to end it.
   run(words, into, check = () => {}) {
+    const text = this.content ? null : this.session.textOf(words);
+    if (text) {
+      into.feed(text);
+      check(into);
+      return;
+    }
     let told = 0;
-    runTask(this.module, [words[0], 'file', ...words.slice(1)], this.content, (bytes) => {
+    runTask(this.module, [words[0], 'file', ...words.slice(1)], this.bytes(), (bytes) => {
       into.feed(bytes);
       check(into);
       if (into.length - told < 200000) return;
@@ -329,12 +341,12 @@ class Document {
 
   // The pickle as Python source, as much of it as is shown, and how many lines more there are.
   source() {
-    const isLong = this.lines.length > MOST_SOURCE || this.content.length > MOST_SOURCE_BYTES || this.reaches.isPart;
+    const isLong = this.lines.length > MOST_SOURCE || this.bytes().length > MOST_SOURCE_BYTES || this.reaches.isPart;
     if (isLong) return { source: [], more: 0, isLong: true };
     const offsets = new Numbers();
     for (let place = 0; place < this.listed; place += 1) offsets.add(this.lines.offset(place));
     const { opcodes, facts } = this, saidAt = (offset) => this.reaches.saidAt(offset);
-    const lines = sourceOf(this.content, offsets, this.lines.closing, { opcodes, facts, saidAt }).split('\n').slice(0, -1);
+    const lines = sourceOf(this.bytes(), offsets, this.lines.closing, { opcodes, facts, saidAt }).split('\n').slice(0, -1);
     const shown = lines.slice(0, MOST_SOURCE_LINES);
     if (this.isPart) shown.push('# The rest of the pickle is not read.');
     return { source: shown, more: Math.max(0, lines.length - MOST_SOURCE_LINES), isLong: false };
@@ -378,8 +390,8 @@ class Document {
   cutWith(bytes, place) {
     const cut = new TextEncoder().encode(' bytes more');
     for (let at = this.lines.seek(cut, this.lines.start(Math.min(place, this.lines.length))); at >= 0; at = this.lines.seek(cut, at + 1)) {
-      const found = this.lines.numberAt(at), end = found + 1 < this.lines.length ? this.lines.offset(found + 1) : this.content.length;
-      if (seekIn(this.content.subarray(this.lines.offset(found) + 1, end), bytes, 0) >= 0) return found;
+      const found = this.lines.numberAt(at), end = found + 1 < this.lines.length ? this.lines.offset(found + 1) : this.bytes().length;
+      if (seekIn(this.bytes().subarray(this.lines.offset(found) + 1, end), bytes, 0) >= 0) return found;
     }
     return null;
   }
@@ -389,7 +401,7 @@ class Document {
   // The whole argument of the opcode at a place, in hexadecimal; none where it is long.
   argument(place) {
     const start = this.lines.offset(place) + 1, next = place + 1 < this.lines.length ? this.lines.offset(place + 1) : start;
-    return { raw: next - start > MOST_ARGUMENT ? null : hexOf(this.content.subarray(start, next)) };
+    return { raw: next - start > MOST_ARGUMENT ? null : hexOf(this.bytes().subarray(start, next)) };
   }
 
   async edit(what, place, name, raw, count) {

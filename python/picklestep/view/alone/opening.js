@@ -38,11 +38,9 @@ const host = {
     wireOpening();
     worker.code = URL.createObjectURL(new Blob([by('worker-code').textContent], { type: 'text/javascript' }));
     view.opcodes = JSON.parse(by('opcodes').textContent);
-    const module = latin(atob(by('module').content.textContent));
-    by('module').remove();
     worker.program = { opcodes: view.opcodes, facts: JSON.parse(by('source-facts').textContent), isLive: 'Suspending' in WebAssembly };
     try {
-      worker.program.module = await WebAssembly.compile(module);
+      [worker.program.module, worker.program.library] = await Promise.all(['module', 'library'].map(compiled));
     } catch (error) {
       say(`the module does not start: ${error.message}`, true);
       return;
@@ -53,6 +51,14 @@ const host = {
     by('opening').dataset.ready = 'yes';
   },
 };
+
+// A module that the page holds packed.
+function compiled(name) {
+  const packed = new Blob([latin(atob(by(name).content.textContent))]);
+  by(name).remove();
+  const stream = packed.stream().pipeThrough(new DecompressionStream('deflate'));
+  return WebAssembly.compileStreaming(new Response(stream, { headers: { 'Content-Type': 'application/wasm' } }));
+}
 
 // --- Workers ---
 

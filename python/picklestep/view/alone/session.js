@@ -103,9 +103,9 @@ class Replayed {
 
 // A pickle that is stepped, looked at and edited. What the program refuses is thrown as Refused, and changes nothing.
 class Session {
-  static async open(module, file, many, isLive) {
+  static async open({ module, library, isLive }, file, many) {
     const session = new Session();
-    Object.assign(session, { module, file, words: ['picklestep', 'debug', 'file', ...(many ? ['--many'] : [])], edits: [], undone: [] });
+    Object.assign(session, { module, library, file, words: ['picklestep', 'debug', 'file', ...(many ? ['--many'] : [])], edits: [], undone: [] });
     session.talk = await (isLive ? Live : Replayed).start(module, session.words, file);
     return session;
   }
@@ -149,10 +149,20 @@ class Session {
     return place;
   }
 
-  // The pickle with the edits that are not undone: a second run makes them and saves.
+  // The lines that make the edits that are not undone.
+  script() {
+    return lineOf(this.edits.join('\n'));
+  }
+
+  // What the program writes with these words of the pickle with these edits, without a run that saves it; null where that is needed.
+  textOf(words) {
+    return textOfEdits(this.library, words, this.words.includes('--many'), this.file, this.script());
+  }
+
+  // The pickle with these edits: a second run makes them and saves.
   bytes() {
     if (!this.edits.length) return this.file;
-    const parts = [new TextEncoder().encode(this.edits.join('\n') + '\n')];
+    const parts = [this.script()];
     const saved = [];
     const host = new Host([...this.words, '--save', 'out'], this.file, { input: () => parts.shift() || NONE, output: () => {}, out: (bytes) => saved.push(bytes) });
     host.run(this.module);

@@ -36,7 +36,7 @@ const ANSWERS = {
     const { bytes, members } = page.archive;
     return load(await memberBytes(bytes, members[number]), members[number].name, false);
   },
-  again: async ({ many }) => open(page.document.content, page.document.name, many),
+  again: async ({ many }) => open(page.document.bytes(), page.document.name, many),
   open: () => after('open'),
   lines: ({ start, count }) => ({ version: page.document.version, lines: page.document.slice(start, count) }),
   objects: ({ start, count }) => ({ objects: page.document.objects(start, count) }),
@@ -55,7 +55,7 @@ const ANSWERS = {
   redo: async () => after(await page.document.redo()),
   bytes: () => {
     if (page.document.isPart) throw new Error('saving waits until the rest is read');
-    return { bytes: page.document.content };
+    return { bytes: page.document.bytes() };
   },
 };
 
