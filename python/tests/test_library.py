@@ -151,6 +151,18 @@ class InProcess(unittest.TestCase):
         self.assertIsNotNone(library.edited(['calls'], False, False, b'N.', lines))
         self.assertIsNone(library.edited(['calls'], False, False, b'N' * (half + 8) + b'.', lines))
 
+    def test_where_memory_runs_out_no_edit_is_missing(self) -> None:
+        """A line for which memory runs out is refused, and no text is that of the other lines."""
+        script = b'insert 0 NONE\n' * 30
+        for content in (b'N' * 65_000 + b'.', b']\x94' * 32_000 + b'.'):
+            wanted = library.edited(['list'], False, False, content, script)
+            answers = {library.edited(['list'], False, False, content, script, memory) for memory in range(8 * MB, 16 * MB, MB // 4)}
+            self.assertLessEqual(answers, {None, wanted})
+        with picklestep.Session(b'N' * 65_000 + b'.', memory=14 * MB) as session:
+            for _ in range(30):
+                session.insert(0, 'NONE')
+            self.assertEqual(len(session.listing()), 65_031)
+
     def test_a_limit_of_memory_stays_an_answer(self) -> None:
         self.assertIsNone(library.answer(['calls'], SQUARE))
         many = b'N' * 65_000 + b'.'
