@@ -4,7 +4,8 @@
     python3 -m trials --program FILE --folder FOLDER NAME..
     python3 -m trials --program FILE --folder FOLDER --proofs LOG STATUS SECONDS
 
-The folder is for files, and is empty. LOG is what `rt ci` wrote.
+The folder is for files, and is empty. LOG is what `rt ci` wrote. The groups `devices`, `memory` and `saves` load a library before FILE, which a
+static program does not let them.
 """
 
 from __future__ import annotations

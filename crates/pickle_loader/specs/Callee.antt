@@ -1,4 +1,4 @@
--- What the line of a call says is called: lines of calls that are one line call what is said in the same words, and no other line begins so.
+-- What the line of a call says is called: of two lines that are one, both call what is said in the same words, or neither is of a call.
 -- Source: own.
 use Rattle.std.specs.Prelude.{◌≡◌, ℕ, ◌^◌, ◌<◌, List, slice_get, Option, Some, None}
 use Rattle.pickle_ops.specs.declared.kind.Kind.{Kind}
