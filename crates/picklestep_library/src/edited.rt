@@ -27,11 +27,11 @@ fn has_run_out(answers: &[u8]) -> bool
     ensures { result ≡ has_run_out answers.now }
 {
     let mut left = answers;
-    while let [_, rest @ ..] = left {
+    while !left.is_empty() {
         if left.starts_with(RAN_OUT) {
             return true;
         }
-        left = rest;
+        left = &left[1..];
     }
     false
 }
