@@ -10,3 +10,4 @@ pub mod Texts
 pub mod Arguments
 pub mod ObjectLines
 pub mod Says
+pub mod Letters
