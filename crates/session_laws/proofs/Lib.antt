@@ -3,6 +3,7 @@ pub mod Readings
 pub mod Answers
 pub mod Transcripts
 pub mod Saves
+pub mod Numbers
 pub mod Shown
 pub mod Lacks
 pub mod Pieces

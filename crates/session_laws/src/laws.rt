@@ -32,7 +32,8 @@ pub fn saved_whole<P: Past>(session: &Session<P>)
     let _machine = session.machine();
 }
 
-/// Makes an edit that is not refused, as `Document::apply` does. What is shown of the items before its place is what was shown of them.
+/// Makes an edit that is not refused, as `Document::apply` does. What is shown of the items before its place stays, but for the number of one
+/// FRAME, of the frame that its place is in.
 pub fn edit_and_lines(document: &mut Document, edit: Edit<Op>) -> Result<EditRecord, AllocError>
     requires { edit_fault edit document.old.contents ≡ None }
     ensures { OnOk result (ShowSame (edit_place edit) document.old.contents document.new.contents) }
