@@ -3,12 +3,8 @@
 import { readFileSync } from 'node:fs';
 import { setFlagsFromString } from 'node:v8';
 
-function set(flag) {
-    try { setFlagsFromString(flag); } catch { /* another Node has no such flag */ }
-}
-
-// Node 20 breaks in the fast calls of its WASI after a longer run.
-set('--no-turbo-fast-api-calls');
+// Node 20 breaks in the fast calls of its WASI after a longer run. (A Node without such a flag says so among the errors, and goes on.)
+setFlagsFromString('--no-turbo-fast-api-calls');
 // A limit of memory in bytes, for the module alone.
 const most = Number(process.env.PICKLESTEP_MEMORY);
 if (most > 0) setFlagsFromString(`--wasm-max-mem-pages=${Math.floor(most / 65536)}`);
@@ -34,7 +30,7 @@ function reader(read, memory) {
         const status = read(file, parts, count, moved);
         if (status === 0 && total < LARGE) {
             total += new DataView(memory().buffer).getUint32(moved >>> 0, true);
-            if (total >= LARGE) set('--no-liftoff');
+            if (total >= LARGE) setFlagsFromString('--no-liftoff');
         }
         return status;
     };

@@ -3,6 +3,7 @@ pub mod Readings
 pub mod Answers
 pub mod Transcripts
 pub mod Saves
+pub mod Numbers
 pub mod Shown
 pub mod Lacks
 pub mod Pieces
@@ -10,3 +11,4 @@ pub mod Texts
 pub mod Arguments
 pub mod ObjectLines
 pub mod Says
+pub mod Letters

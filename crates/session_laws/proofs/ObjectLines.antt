@@ -14,10 +14,10 @@ use Rattle.pickle_ops.specs.declared.object.Change.{Change}
 use Rattle.pickle_ops.specs.declared.object.Change.TheVariants as change
 use Rattle.pickle_ops.specs.Object.{Object}
 use Rattle.pickle_show.specs.Column.{newline}
-use Rattle.pickle_show.specs.ObjectText.{id_text, kind_text, next_text, some_parts, parts_text, set_text, change_text, object_text, object_line}
+use Rattle.pickle_show.specs.ObjectText.{id_text, kind_text, next_text, some_parts, parts_text, set_text, change_text}
 use Rattle.session_laws.specs.Lines.{most, AreNumbers, IsNumbered}
 use Rattle.session_laws.proofs.Lacks.{IsNoDigit, lacks, first_holds, second_holds, lacks_decimal, blank_no_digit, newline_no_digit, no_digit_by}
-use Rattle.session_laws.proofs.Arguments.{Where, Outside, IsCalm, Passes, Ends, front, ends, moved, is_false, cancelled, one_front, passes_on, passes_join, passes_word, passes_quoted, passes_decimal, passes_signed, passes_float, passes_long}
+use Rattle.session_laws.proofs.Arguments.{Outside, IsCalm, Passes, Ends, front, ends, moved, is_false, cancelled, one_front, passes_on, passes_word, passes_quoted, passes_decimal, passes_signed, passes_float, passes_long}
 
 -- ---- a kind ends at a newline, or at a blank before one of these marks
 

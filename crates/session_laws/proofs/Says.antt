@@ -76,7 +76,7 @@ offset_lacks offset = lacks_right 58 5 (decimal offset) refl (lacks_decimal 58 o
 
 -- ---- the code
 
-cells : Opcode → List ℕ
+pub cells : Opcode → List ℕ
 cells o = left_aligned 4 (code_text (code_of o))
 
 digit : ℕ → ℕ
@@ -99,10 +99,10 @@ code_read _ more = refl
 -- ---- the line of an item
 
 -- what is behind the code's column
-rest_of : Operation → ℕ → Option Note → List ℕ
+pub rest_of : Operation → ℕ → Option Note → List ℕ
 rest_of o marks n = 32 ∷ (blanks (4 * marks) ++ (named o n ++ newline))
 
-parts : (o : Operation) (offset marks : ℕ) (n : Option Note) → item_line o offset marks n ≡ offset_column offset ++ 58 ∷ (32 ∷ (cells o.opcode ++ rest_of o marks n))
+pub parts : (o : Operation) (offset marks : ℕ) (n : Option Note) → item_line o offset marks n ≡ offset_column offset ++ 58 ∷ (32 ∷ (cells o.opcode ++ rest_of o marks n))
 unfolding item_line code_column ◌⧺◌ cells rest_of
 parts o offset marks n =
     let c : List ℕ = left_aligned 4 (code_text (code_of o.opcode)) in

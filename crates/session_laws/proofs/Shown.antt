@@ -11,13 +11,14 @@ use Rattle.pickle_ops.specs.Spelling.{Operation}
 use Rattle.pickle_doc.specs.declared.item.Item.{Item}
 use Rattle.pickle_doc.specs.DocUnit.{operations}
 use Rattle.pickle_doc.specs.Alike.{AreAlike, AgreeBefore}
-use Rattle.pickle_doc.specs.Document.{Contents, IsDocument, items_of}
+use Rattle.pickle_doc.specs.Document.{Contents, IsDocument, items_of, document_bytes, size_limit}
 use Rattle.pickle_doc.specs.Place.{ops_of, item_at, offset_of}
 use Rattle.pickle_doc.specs.declared.edit.Edit.{Edit}
 use Rattle.pickle_doc.specs.declared.record.EditRecord.{EditRecord}
-use Rattle.pickle_doc.specs.Edit.{adds_item, edit_place, raised_next, raised_next_by}
+use Rattle.pickle_doc.specs.Edit.{adds_item, edit_place, edit_fault, edited, raised_next, raised_next_by}
 use Rattle.pickle_doc.specs.Swap.{EditLeads, record_place}
 use Rattle.pickle_doc.proofs.Alikes.{leads_back}
+use Rattle.pickle_doc.proofs.Deletions.{Sound, sound}
 use Rattle.pickle_doc.proofs.SwappedItems.{some-at, place_within}
 use Rattle.pickle_machine.specs.State.{State, Marked, start}
 use Rattle.pickle_machine.specs.Move.{fresh, begun, move}
@@ -37,6 +38,7 @@ use Rattle.pickle_show.specs.Calls.{entry_at, entry_on, naming_at, naming_on, co
 use Rattle.pickle_show.specs.Listing.{line_at, line_on, topmost_offset}
 use Rattle.pickle_show.specs.ObjectText.{objects_text}
 use Rattle.session_laws.specs.Edits.{ShowSame}
+use Rattle.session_laws.proofs.Numbers.{OneNumber, of_edit}
 
 -- ---- operations that are alike
 
@@ -185,9 +187,12 @@ items_alike d e i o a f = go (item_at d i) (item_at e i) a f
     go (Some q) None a f = absurd a
     go (Some q) (Some p) a f = let same : q ≡ o = cc in (p, refl, subst (λ (r : Operation). AreAlike r p) same a)
 
-show_same : (k : ℕ) (d e : Contents) → e.many ≡ d.many → AgreeOps k d e → SameOffsets k d e → ShowSame k d e
-show_same k d e m a offsets = record {
-  items = λ i o h f. items_alike d e i o (a i h) f;
+show_same : (k : ℕ) (d e : Contents) → OneNumber k d e → e.many ≡ d.many → AgreeOps k d e → SameOffsets k d e → ShowSame k d e
+show_same k d e one m a offsets = record {
+  frame = one.frame;
+  around = one.around;
+  items = one.items;
+  alike = λ i o h f. items_alike d e i o (a i h) f;
   offsets = offsets;
   listed = λ i h same. listed k i d e h m a offsets same;
   objects = λ i h. ap (option_map (λ (s : State). objects_text s.heap)) (same_state d e k i h m a);
@@ -211,9 +216,9 @@ within_also (suc n) xs ys h a =
     omega (arith, slice_get_within ys n y.0 y.1)
 
 -- a record leads back from the edited document, with its place
-pub edit_shows : (e : Edit Operation) (r : EditRecord) (d new : Contents) → record_place r ≡ edit_place e → IsDocument d → IsDocument new → EditLeads r new (raised_next_by e d)
-    → ShowSame (edit_place e) d new
-edit_shows e r d new at old_is new_is leads =
+pub edit_shows : (e : Edit Operation) (r : EditRecord) (d new : Contents) → OneNumber (edit_place e) d new → record_place r ≡ edit_place e → IsDocument d → IsDocument new
+    → EditLeads r new (raised_next_by e d) → ShowSame (edit_place e) d new
+edit_shows e r d new one at old_is new_is leads =
     let g = given e d in
     let before : AgreeBefore (edit_place e) (items_of d) (items_of new)
     = subst (λ (k : ℕ). AgreeBefore k (items_of d) (items_of new)) at (subst (λ (xs : List Item). AgreeBefore r.place xs (items_of new)) g.0 (leads_back leads)) in
@@ -221,11 +226,14 @@ edit_shows e r d new at old_is new_is leads =
     let back : AgreeBefore (edit_place e) (items_of new) (items_of d)
     = subst (λ (k : ℕ). AgreeBefore k (items_of new) (items_of d)) at (subst (λ (xs : List Item). AgreeBefore r.place (items_of new) xs) g.0 leads.before) in
     let within : edit_place e ≤ len_of d = within_also (edit_place e) (items_of new) (items_of d) there back in
-    show_same (edit_place e) d new (leads.many ∙ g.1) (agree_ops (edit_place e) d new within before)
+    show_same (edit_place e) d new one (leads.many ∙ g.1) (agree_ops (edit_place e) d new within before)
     (λ i h. size_alike d new i (edit_place e) (offset_of d i) old_is new_is (omega (arith, h, within)) h before refl)
 
 -- of an edit that was made
-pub made_shows : {E : Type 0} (result : Result EditRecord E) (e : Edit Operation) (d new : Contents) → IsDocument d → OnOk result (IsDocument new)
+pub made_shows : {E : Type 0} (result : Result EditRecord E) (e : Edit Operation) (d new : Contents) → edit_fault e d ≡ None → Sound d
+    → OnOk result (new ≡ edited e d) → OnOk result (IsDocument new) → OnOk result (length (document_bytes new) ≤ size_limit)
     → IfOk result (λ r. record_place r ≡ edit_place e) → IfOk result (λ r. EditLeads r new (raised_next_by e d)) → OnOk result (ShowSame (edit_place e) d new)
-made_shows (Ok r) e d new old_is new_is at leads = edit_shows e r d new at old_is new_is leads
-made_shows (Err x) e d new old_is new_is at leads = tt
+made_shows (Ok r) e d new none s is new_is small at leads =
+    let one : OneNumber (edit_place e) d new = subst (OneNumber (edit_place e) d) (sym is) (of_edit e d s (subst Sound is (sound new new_is small)) none) in
+    edit_shows e r d new one at s.document new_is leads
+made_shows (Err x) e d new none s is new_is small at leads = tt

@@ -1,12 +1,12 @@
 -- What an edit leaves of the lines of the items before its place.
--- Source: own. The edit may change the number of the one FRAME that is open at its place: its line in a listing shows another number then,
--- and no other line does.
-use Rattle.std.specs.Prelude.{◌≡◌, ◌<◌, ◌≤◌, ℕ, List, Option, Some}
+-- Source: own. The edit may change the number of one FRAME, of the frame that its place is in: its line in a listing shows another number
+-- then, and no other line does.
+use Rattle.std.specs.Prelude.{◌≡◌, ◌≢◌, ◌⊎◌, ◌<◌, ◌≤◌, ℕ, List, Option, Some}
 use Rattle.std.specs.Option.{option_map}
 use Rattle.pickle_ops.specs.Spelling.{Operation}
 use Rattle.pickle_doc.specs.Alike.{AreAlike}
 use Rattle.pickle_doc.specs.Document.{Contents}
-use Rattle.pickle_doc.specs.Place.{item_at, offset_of}
+use Rattle.pickle_doc.specs.Place.{item_at, offset_of, frame_at}
 use Rattle.pickle_machine.specs.State.{State}
 use Rattle.pickle_session.specs.Session.{state_at}
 use Rattle.pickle_show.specs.Manner.{Manner}
@@ -20,8 +20,12 @@ objects_at d k = option_map (λ (s : State). objects_text s.heap) (state_at d k)
 
 -- before this place two documents show the same
 pub record ShowSame (k : ℕ) (d e : Contents) : Type 0 where
-  -- the same item at each place, or two FRAMEs, and each begins at the same offset
-  pub items : (i : ℕ) (o : Operation) → i < k → item_at d i ≡ Some o → (p : Operation) × (item_at e i ≡ Some p) × AreAlike o p
+  -- the place of one FRAME, if any: item k is in its frame, before the edit or after it
+  pub frame : Option ℕ
+  pub around : (i : ℕ) → frame ≡ Some i → (frame_at d k ≡ Some i) ⊎ (frame_at e k ≡ Some i)
+  -- but for it the items are the same, and it is a FRAME in both; each begins at the same offset
+  pub items : (i : ℕ) → i < k → frame ≢ Some i → item_at e i ≡ item_at d i
+  pub alike : (i : ℕ) (o : Operation) → i < k → item_at d i ≡ Some o → (p : Operation) × (item_at e i ≡ Some p) × AreAlike o p
   pub offsets : (i : ℕ) → i ≤ k → offset_of e i ≡ offset_of d i
   -- `list`: the line of each item that is the same
   pub listed : (i : ℕ) → i < k → item_at e i ≡ item_at d i → line_at e i ≡ line_at d i

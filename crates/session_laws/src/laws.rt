@@ -3,7 +3,7 @@
 ghost use Rattle.std.specs.Prelude.{◌≡◌, None, OnOk};
 ghost use Rattle.pickle_doc.specs.Edit.{edit_fault, edit_place};
 ghost use Rattle.session_laws.specs.Edits.{ShowSame};
-ghost use Rattle.session_laws.specs.Lines.{PiecesAreLines, TextsAreLines, ItemLineSays, ObjectLineSays};
+ghost use Rattle.session_laws.specs.Lines.{PiecesAreLines, TextsAreLines, LinesApart, ItemLineSays, ObjectLineSays};
 ghost use Rattle.session_laws.specs.Saved.{IsSavedWhole};
 ghost use Rattle.session_laws.specs.Transcripts.{OneTranscript, OneOpening};
 
@@ -32,7 +32,8 @@ pub fn saved_whole<P: Past>(session: &Session<P>)
     let _machine = session.machine();
 }
 
-/// Makes an edit that is not refused, as `Document::apply` does. What is shown of the items before its place is what was shown of them.
+/// Makes an edit that is not refused, as `Document::apply` does. What is shown of the items before its place stays, but for the number of one
+/// FRAME, of the frame that its place is in.
 pub fn edit_and_lines(document: &mut Document, edit: Edit<Op>) -> Result<EditRecord, AllocError>
     requires { edit_fault edit document.old.contents ≡ None }
     ensures { OnOk result (ShowSame (edit_place edit) document.old.contents document.new.contents) }
@@ -46,9 +47,15 @@ pub fn pieces_are_lines()
     ensures { PiecesAreLines }
 {}
 
-/// A listing and a report are lines, each with its newline, and nothing else. So they are cut into lines in one way, as all bytes are.
+/// Cut behind its newlines, a listing is the line of each item and of what STOP left, in order, and its closing lines. A report is the line of
+/// each object, in order, and of each result, and its closing line.
 pub fn texts_are_lines()
     ensures { TextsAreLines }
+{}
+
+/// No line of an item or of an object begins with a letter. Each other line of a listing or a report does, and so is none of theirs.
+pub fn lines_apart()
+    ensures { LinesApart }
 {}
 
 /// Of two opcodes with the same line in a listing the opcode is the same, and so are the text of its argument and the offset.

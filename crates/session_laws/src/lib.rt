@@ -5,6 +5,6 @@
 mod laws;
 
 pub use laws::{
-    edit_and_lines, item_line_says, object_line_says, one_opening, one_transcript,
+    edit_and_lines, item_line_says, lines_apart, object_line_says, one_opening, one_transcript,
     pieces_are_lines, saved_whole, texts_are_lines,
 };
