@@ -4,6 +4,8 @@ from __future__ import annotations
 
 from typing import Dict, List, Sequence, Tuple
 
+from ..replies import is_mark
+
 __all__ = ['EFFECTS', 'EXPLAINED', 'taken']
 
 EXPLAINED: Dict[str, str] = {
@@ -161,13 +163,13 @@ def taken(name: str, stack: Sequence[str]) -> List[Tuple[str, Sequence[str]]]:
     words = EFFECTS[name][0].split(', ')
     place = len(stack) - len(words)
     if 'mark' in words:
-        place = next((at for at in range(len(stack) - 1, -1, -1) if stack[at][0] == '('), -1) - words.index('mark')
+        place = next((at for at in range(len(stack) - 1, -1, -1) if is_mark(stack[at])), -1) - words.index('mark')
     if place < 0:
         return []
     found: List[Tuple[str, Sequence[str]]] = []
     for word in words:
         end = len(stack) if word.endswith(_ANY_NUMBER) else place + 1
-        if word != 'object or mark' and any((entry[0] == '(') != (word == 'mark') for entry in stack[place:end]):
+        if word != 'object or mark' and any(is_mark(entry) != (word == 'mark') for entry in stack[place:end]):
             return []
         found.append((word[:-len(_ANY_NUMBER)] if word.endswith(_ANY_NUMBER) else word, stack[place:end]))
         place = end
