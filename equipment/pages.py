@@ -1,10 +1,11 @@
-"""Checks README.md and the pages of docs/: links, length, the examples of codes, and the checklists."""
+"""Checks README.md and the pages of docs/: links, length, the examples of codes, and the checklists; and that commits say what users see."""
 
 from __future__ import annotations
 
 import functools
 import itertools
 import re
+import shutil
 import subprocess
 import sys
 from collections.abc import Iterator
@@ -296,6 +297,34 @@ def fault_of_version(root: Path) -> str:
     return "" if len(set(told.values())) == 1 else ", ".join(f"{name} has {version}" for name, version in told.items())
 
 
+# --- Commits ---
+
+# What users see has a sentence in the body of its commit, from this day on.
+BODIES_SINCE = "2026-11-28"
+
+
+def fault_of_bodies(root: Path) -> str:
+    """Each commit that adds lines to the change log has a body. Where there is no git, or not the whole repository, there is nothing to look at."""
+    if not (root / ".git").exists() or shutil.which("git") is None:
+        return ""
+
+    def git(*words: str) -> str:
+        done = subprocess.run(["git", "-C", str(root), *words], capture_output=True, encoding="utf-8", errors="replace", timeout=60)
+        return done.stdout if done.returncode == 0 else ""
+
+    if git("rev-parse", "--is-shallow-repository").strip() != "false":  # (the first commit of a part seems to add all lines)
+        return ""
+    told = git("log", "--no-merges", f"--since={BODIES_SINCE}T00:00:00", "--date=short", "--numstat", "--format=%x00%h %ad%x00%b%x00", "--", "CHANGELOG.md")
+    _, *parts = told.split("\0")
+    faults = []
+    for commit, body, counts in zip(parts[::3], parts[1::3], parts[2::3]):
+        name, day = commit.split()
+        added = counts.split()[0]
+        if day >= BODIES_SINCE and added != "0" and not body.strip():
+            faults.append(name)
+    return f"no body, though the change log has more lines: {', '.join(faults)}" if faults else ""
+
+
 def fault_of_index(root: Path) -> str:
     """Each file of definitions has a head."""
     index = subprocess.run([sys.executable, str(root / "tools" / "definitions.py")], capture_output=True, text=True, timeout=60)
@@ -316,5 +345,6 @@ def trials(root: Path, program: str, folder: Path) -> list[Trial]:
         for checklist in checklists:
             found.append(Trial(f"the checklist '{checklist.heading}'", functools.partial(fault_of_checklist, root, page, checklist)))
     found.append(Trial("the version of the change log", functools.partial(fault_of_version, root)))
+    found.append(Trial("the bodies of commits", functools.partial(fault_of_bodies, root)))
     found.append(Trial("the index of definitions", functools.partial(fault_of_index, root)))
     return found
