@@ -1,14 +1,15 @@
-"""Checks README.md and the pages of docs/: links, length, the examples of codes, and the checklists."""
+"""Checks README.md and the pages of docs/: links, length, the examples of codes, and the checklists; and that commits say what users see."""
 
 from __future__ import annotations
 
 import functools
 import itertools
 import re
+import shutil
 import subprocess
 import sys
 from collections.abc import Iterator
-from dataclasses import dataclass
+from dataclasses import dataclass, field
 from pathlib import Path
 
 from trials.trial import Trial
@@ -17,48 +18,101 @@ WORDS = 16000
 WORDS_OF_README = 900
 COLUMNS = 100
 
-# What scan has.
-SCAN = ["python/picklestep/scan/**/*.py", "python/tests/*.py", "python/pyproject.toml"]
+# What the package and the tests from outside have.
+PACKAGE = ["python/picklestep/**/*"]
+OUTSIDE = ["equipment/*", "equipment/trials/*", "share/**/*", "targets/library/*"]
+SCAN = ["python/picklestep/scan/**/*", "python/tests/*.py", "python/pyproject.toml", "equipment/*"]
 
-# The checklists of the program, in docs/DESIGN.md: the heading, how the sample is named, and the files that are looked through.
+
+@dataclass(frozen=True)
+class Checklist:
+    """A numbered list of files: its heading, how its sample is named, and where files are looked for.
+
+    `others` are files that name the sample, but not as one of its kind, each with what they do: these are in no list.
+    """
+
+    heading: str
+    sample: str
+    patterns: list[str]
+    others: dict[str, str] = field(default_factory=dict)
+
+
+# The checklists of the program, in docs/DESIGN.md.
 CHECKLISTS = [
-    (
+    Checklist(
         "To add an opcode",
         r"(?m)^ +BinInt2 +\{|_of op\.BinInt2\b|'BININT2': (\('|')",
-        ["crates/*/src/**/*.rt", "crates/*/specs/**/*.antt", "bench/*", "equipment/**/*.py", "python/picklestep/**/*.py"],
+        ["crates/*/src/**/*.rt", "crates/*/specs/**/*.antt", "bench/*", *OUTSIDE, *PACKAGE],
+        {"python/picklestep/shell/explain.py": "has words of its own where those of pickletools do not do"},
     ),
-    (
+    Checklist(
+        "To add a number that picklers write",
+        r"\b(BININT2|BinInt2)\b",
+        ["crates/pickle_form/**/*.rt", "crates/pickle_form/**/*.antt", "equipment/*.py", *PACKAGE],
+        {
+            "equipment/measure_loaders.py": "a row has one in a frame",
+            "python/picklestep/arguments.py": "an example",
+            "python/picklestep/session.py": "an example",
+            "python/picklestep/shell/explain.py": "of any opcode",
+        },
+    ),
+    Checklist(
         "To add a word of the debugger",
         r"(?i)unframe(?![rd])",
-        ["crates/pickle_script/**/*.rt", "crates/pickle_script/**/*.antt", "share/**/*", "equipment/*.txt", "equipment/*.py", "python/picklestep/**/*",
-         "python/tests/test_sessions.py"],
+        ["crates/pickle_script/**/*.rt", "crates/pickle_script/**/*.antt", *OUTSIDE, *PACKAGE, "python/tests/test_sessions.py"],
     ),
-    (
+    Checklist(
         "To add an edit",
         r"\b(Edit::|edit\.)Unframe\b|\b(mod|pub fn) unframe\b|fn unframing\b",
         ["crates/*_tests/src/**/*.rt", "crates/real_pickles/src/*.rt", "crates/pickle_doc/src/*.rt", "crates/pickle_doc/specs/*.antt"],
     ),
-    (
+    Checklist(
         "To add a question of the debugger",
         r"(?m)\b(write_where|where_text|def where_of)\b|\bQuery::Where\b|\b(plain|query)\.Where\b|^debug> where$|^  where items|Ic where\b|(?<!obey\()(?<!type\()[\"']where(\\n)?[\"']|`where`: where",
-        ["crates/pickle*/src/**/*.rt", "crates/pickle*/specs/**/*.antt", "crates/pickle*/proofs/**/*.antt", "share/**/*", "equipment/*.txt", "equipment/*.py", "python/picklestep/*.py",
-         "python/picklestep/help/*", "python/tests/test_sessions.py"],
+        ["crates/pickle*/src/**/*.rt", "crates/pickle*/specs/**/*.antt", "crates/pickle*/proofs/**/*.antt", "crates/*_tests/src/**/*.rt", *OUTSIDE, *PACKAGE,
+         "python/tests/test_sessions.py"],
+        {
+            "crates/script_tests/src/conversations.rt": "has those that take no memory",
+            "equipment/trials/begins.py": "scan has a field of that name",
+            "equipment/trials/large.py": "asks it of a large pickle",
+            "python/picklestep/scan/results.py": "scan has a field of that name",
+            "python/picklestep/shell/words.py": "the shell has words of its own",
+            "python/picklestep/view/alone/opening.js": "the page has an element of that name",
+            "python/picklestep/view/alone/session.js": "asks it, as the page needs it",
+            "python/picklestep/view/page.html": "the page has an element of that name",
+            "python/picklestep/view/script.js": "the page has an element of that name",
+        },
     ),
-    (
+    Checklist(
         "To add a text or a command",
-        r"\b(?:Text|Task)::Calls\b|\btext\.Calls\b|\bIsCallsText\b|\bpub fn calls<|\bcalls\(alloc, pickles\b|[\"']calls[\"':]|Cm calls|objects calls",
-        ["crates/*/src/**/*.rt", "crates/*/specs/**/*.antt", "share/**/*", "equipment/*.py", "python/picklestep/*.py"],
+        r"(?m)\b(?:Text|Task)::Calls\b|\btext\.Calls\b|\bIsCallsText\b|\bpub fn calls<|\bcalls\(alloc, pickles\b|[\"']calls[\"':]|Cm calls|objects calls|\bpicklestep_calls\b|^usage: picklestep calls|^  calls  |objects, calls, form",
+        ["crates/*/src/**/*.rt", "crates/*/specs/**/*.antt", *OUTSIDE, *PACKAGE, "python/tests/*.py"],
+        {
+            "equipment/trials/begins.py": "asks it what bytes begin like",
+            "equipment/trials/groups.py": "a group of trials has that name",
+            "python/picklestep/scan/reading.py": "scan asks it",
+            "python/picklestep/scan/report.py": "scan has a field of that name",
+            "python/picklestep/scan/results.py": "scan has a field of that name",
+            "python/picklestep/shell/words.py": "the shell has words of its own",
+            "python/picklestep/view/alone/document.js": "the page shows it",
+            "python/picklestep/view/document.py": "the page shows it",
+            "python/picklestep/view/export.py": "the page shows it",
+            "python/picklestep/view/lines.py": "the page asks it",
+            "python/tests/test_gate.py": "scan has a field of that name",
+            "python/tests/test_shell.py": "the shell has words of its own",
+            "python/tests/test_view.py": "the page shows it",
+        },
     ),
 ]
 
 # Those of the package, in python/CONTRIBUTING.md.
 CHECKLISTS_OF_PACKAGE = [
-    ("To add a container", r"(?i)zfile", SCAN),
-    ("To add a source", r"(?i)memcached(?!_vanish)", SCAN),
-    (
+    Checklist("To add a container", r"(?i)(?<!t)zfile", SCAN),
+    Checklist("To add a source", r"(?i)memcached(?!_vanish)", SCAN),
+    Checklist(
         "To add a word of the package",
         r"(?m)['\"]mend['\":]|prog='picklestep mend'|Cm mend|diff mend |^  mend ",
-        ["share/**/*", "equipment/*.py", "python/picklestep/**/*", "python/tests/*.py"],
+        [*OUTSIDE, *PACKAGE, "python/tests/*.py"],
     ),
 ]
 
@@ -195,26 +249,34 @@ def listed(root: Path, page: str, heading: str) -> set[str]:
     return {f"crates/{name}" if (root / "crates" / name.split("/")[0]).is_dir() else name for name in names}
 
 
+@functools.lru_cache(maxsize=None)
+def text_of(file: Path) -> str:
+    return file.read_text(encoding="utf-8", errors="replace")
+
+
 def has_sample(file: Path, sample: str) -> bool:
-    return re.search(sample, file.read_text(encoding="utf-8", errors="replace")) is not None
+    return re.search(sample, text_of(file)) is not None
 
 
-def fault_of_checklist(root: Path, page: str, heading: str, sample: str, patterns: list[str]) -> str:
-    named = listed(root, page, heading)
+def fault_of_checklist(root: Path, page: str, checklist: Checklist) -> str:
+    named = listed(root, page, checklist.heading)
     found = set()
-    for pattern in patterns:
+    for pattern in checklist.patterns:
         for file in root.glob(pattern):
             name = str(file.relative_to(root))
             # (what was built of a crate has its sources once more)
             is_source = file.is_file() and file.suffix != ".pyc" and "out" not in file.relative_to(root).parts
-            if is_source and name != "equipment/pages.py" and has_sample(file, sample):
+            if is_source and name != "equipment/pages.py" and has_sample(file, checklist.sample):
                 found.add(name)
     for name in sorted(named - found):
         if not (root / name).is_file():
             return f"{name} is not there"
-        if not has_sample(root / name, sample):
+        if not has_sample(root / name, checklist.sample):
             return f"{name} is listed and does not name the sample"
-    missing = sorted(found - named)
+    others = set(checklist.others)
+    if others - found or others & named:
+        return f"{', '.join(sorted(others - found | others & named))}: it does not name the sample, or is listed, and is among others"
+    missing = sorted(found - named - others)
     return f"it lacks {', '.join(missing)}" if missing else "" if named else "it lists no file"
 
 
@@ -235,6 +297,34 @@ def fault_of_version(root: Path) -> str:
     return "" if len(set(told.values())) == 1 else ", ".join(f"{name} has {version}" for name, version in told.items())
 
 
+# --- Commits ---
+
+# What users see has a sentence in the body of its commit, from this day on.
+BODIES_SINCE = "2026-11-28"
+
+
+def fault_of_bodies(root: Path) -> str:
+    """Each commit that adds lines to the change log has a body. Where there is no git, or not the whole repository, there is nothing to look at."""
+    if not (root / ".git").exists() or shutil.which("git") is None:
+        return ""
+
+    def git(*words: str) -> str:
+        done = subprocess.run(["git", "-C", str(root), *words], capture_output=True, encoding="utf-8", errors="replace", timeout=60)
+        return done.stdout if done.returncode == 0 else ""
+
+    if git("rev-parse", "--is-shallow-repository").strip() != "false":  # (the first commit of a part seems to add all lines)
+        return ""
+    told = git("log", "--no-merges", f"--since={BODIES_SINCE}T00:00:00", "--date=short", "--numstat", "--format=%x00%h %ad%x00%b%x00", "--", "CHANGELOG.md")
+    _, *parts = told.split("\0")
+    faults = []
+    for commit, body, counts in zip(parts[::3], parts[1::3], parts[2::3]):
+        name, day = commit.split()
+        added = counts.split()[0]
+        if day >= BODIES_SINCE and added != "0" and not body.strip():
+            faults.append(name)
+    return f"no body, though the change log has more lines: {', '.join(faults)}" if faults else ""
+
+
 def fault_of_index(root: Path) -> str:
     """Each file of definitions has a head."""
     index = subprocess.run([sys.executable, str(root / "tools" / "definitions.py")], capture_output=True, text=True, timeout=60)
@@ -253,7 +343,8 @@ def trials(root: Path, program: str, folder: Path) -> list[Trial]:
     for name, checklists in (("docs/DESIGN.md", CHECKLISTS), ("python/CONTRIBUTING.md", CHECKLISTS_OF_PACKAGE)):
         page = (root / name).read_text(encoding="utf-8")
         for checklist in checklists:
-            found.append(Trial(f"the checklist '{checklist[0]}'", functools.partial(fault_of_checklist, root, page, *checklist)))
+            found.append(Trial(f"the checklist '{checklist.heading}'", functools.partial(fault_of_checklist, root, page, checklist)))
     found.append(Trial("the version of the change log", functools.partial(fault_of_version, root)))
+    found.append(Trial("the bodies of commits", functools.partial(fault_of_bodies, root)))
     found.append(Trial("the index of definitions", functools.partial(fault_of_index, root)))
     return found

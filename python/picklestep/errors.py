@@ -4,6 +4,7 @@ from __future__ import annotations
 
 from typing import List, Optional, Sequence
 
+from .texts import code_of
 from .wording import shown
 
 __all__ = ['NoResult', 'NotAllowed', 'OutOfMemory', 'PicklestepError', 'ProgramError', 'Refused', 'TimedOut', 'TooLarge']
@@ -37,7 +38,7 @@ class Refused(PicklestepError):
     def __init__(self, text: str) -> None:
         super().__init__(text)
         self.text = text
-        self.code = text.partition(' ')[0]
+        self.code = code_of(text)
 
 
 class NoResult(PicklestepError):

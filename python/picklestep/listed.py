@@ -13,7 +13,7 @@ from .errors import ProgramError
 from .program import Process
 from .records import End
 from .sources import Input
-from .texts import end_of
+from .texts import Closing
 
 __all__ = ['Listed', 'TooDeep', 'bounded', 'in_columns', 'offset_of']
 
@@ -119,15 +119,12 @@ class Listed:
 
     def end(self, places: int) -> End:
         """How reading ended, behind so many opcodes."""
-        if 'refused' in self._closing:
-            text = self._closing['refused']
-            return End('refused', text.partition(' ')[0], text, offset_of(self.refused), places)
-        return end_of(self._closing.get('fault', 'stopped'))
+        return Closing(self._closing).end_of_listing(lambda: (offset_of(self.refused), places))
 
     @property
     def kept(self) -> int:
         """How many bytes are after STOP."""
-        return int(self._closing.get('kept', '0').partition(' ')[0])
+        return Closing(self._closing).kept
 
 
 def in_columns(lines: List[AnyStr], colon: AnyStr) -> Iterator[Tuple[int, List[AnyStr]]]:

@@ -18,10 +18,11 @@ from .answers import Heap
 from .errors import PicklestepError, Refused
 from .program import run_program
 from .records import End, Mark, Object
+from .replies import opcode_refused_in, ran_of, refused_in
 from .session import Session
 from .sources import Input, OwnFile, Source, content_of
 from .tasks import modes
-from .texts import FRAME_SIZE
+from .texts import FRAME_SIZE, refused
 
 __all__ = ['Mended', 'TooCrooked', 'mended']
 
@@ -98,16 +99,15 @@ def _ending(content: bytes, many: bool) -> Tuple[End, int]:
     with Session(content, many=many) as session:
         text = _run(session)
         where = session.where()
-        return End('refused', text.partition(' ')[0], text, where.offset, where.place) if text else where.end, where.offset
+        return refused(text, where.offset, where.place) if text else where.end, where.offset
 
 
 def _run(session: Session) -> str:
     """Runs to the end, or to an opcode that is refused: then it answers why."""
     try:
-        ran = session.run()
+        return opcode_refused_in(session.run().text)
     except Refused as error:  # (it is the first one)
-        return error.text.partition(': ')[2]
-    return '' if ran.why == 'end' else ran.text.partition(', ')[2]
+        return opcode_refused_in(error.text)
 
 
 def _with_protocol(content: bytes, many: bool, offset: int, text: str, steps: List[str]) -> bytes:
@@ -152,7 +152,7 @@ def _closed(content: bytes, many: bool, steps: List[str]) -> bytes:
         script = ''.join(f'{line}\n' for line in (*closing.script, 'run'))
         words = ['debug', given.path, *modes(many), '--save', made.path]
         told = run_program(words, [*given.files, *made.files], script.encode('ascii')).decode('ascii').splitlines()
-        if not told[-1].partition(': ')[2].startswith('end,') or any(line.startswith('refused') for line in told):
+        if any(refused_in(line) is not None for line in told) or ran_of(told[-1]).why != 'end':
             raise PicklestepError(f'what was under way cannot be closed: {told[-1]}')
         return made.content()
 

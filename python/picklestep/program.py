@@ -25,6 +25,7 @@ from typing import IO, Dict, Generator, Iterable, Iterator, List, NoReturn, Opti
 
 from .errors import OutOfMemory, ProgramError, TimedOut, TooLarge
 from .place import find_program, is_module, program_words
+from .replies import complaint_of
 
 try:
     import fcntl
@@ -298,9 +299,7 @@ def _widen(pipe: int) -> None:
 
 def _raise_failure(status: int, errors: bytes, is_limited: bool) -> NoReturn:
     """Raises why a run failed, by its status and by what it wrote on standard error. Where its memory is limited, its stack may not grow either."""
-    words = errors.decode('utf-8', 'replace').strip()
-    if words.startswith('picklestep: '):
-        words = words[len('picklestep: '):]
+    words = complaint_of(errors.decode('utf-8', 'replace'))
     if status == -signal.SIGSEGV and is_limited:
         raise OutOfMemory(_WORDS, signal=-status)
     if status < 0:

@@ -11,7 +11,7 @@ import weakref
 from operator import index
 from typing import Dict, Iterator, List, Optional, Sequence, Tuple, Union, overload
 
-from . import library, texts
+from . import library, replies
 from .answers import Calls, Heap, Items, Listing, ShownObjects
 from .arguments import ArgumentValue, encoded
 from .errors import ProgramError, Refused, TimedOut
@@ -51,18 +51,20 @@ class _Talk:
         """The answer of one line to a line."""
         with self._lock:
             answer = self._exchange(line, b'')[:-1].decode('ascii')
-            if answer.startswith('refused: '):
-                raise Refused(answer[9:])
+            refused = replies.refused_in(answer)
+            if refused is not None:
+                raise Refused(refused)
             self._note(line, answer)
         return answer
 
     def lines(self, line: bytes) -> str:
         """The answer of any number of lines to a line. It ends where the answer of a `where` begins that is sent after the line."""
         with self._lock:
-            answer = self._exchange(line, b'at ', b'\nwhere')
+            answer = self._exchange(line, replies.WHERE_BEGINS, b'\nwhere')
         text = answer[:answer.rfind(b'\n', 0, -1) + 1].decode('ascii')
-        if text.startswith('refused: '):
-            raise Refused(text[9:-1])
+        refused = replies.refused_in(text)
+        if refused is not None:
+            raise Refused(refused)
         return text
 
     def edits(self) -> List[bytes]:
@@ -89,15 +91,15 @@ class _Talk:
 
     def _note(self, line: bytes, answer: str) -> None:
         """Keeps the edits that are not undone, each with the place that it was made at."""
-        word, _, place = answer.partition(' ')
-        if word == 'edited':
+        what, place = replies.edit_in(answer) or ('', 0)
+        if what == 'edited':
             words = line.split()
-            words[1] = place.encode('ascii')
+            words[1] = b'%d' % place
             self._edits.append(b' '.join(words) + b'\n')
             self._undone.clear()
-        elif word == 'undone':
+        elif what == 'undone':
             self._undone.append(self._edits.pop())
-        elif word == 'redone':
+        elif what == 'redone':
             self._edits.append(self._undone.pop())
 
     def _send(self, data: bytes, deadline: Optional[float]) -> None:
@@ -143,11 +145,6 @@ class _Talk:
 def _close(talk: _Talk, given: Input) -> None:
     talk.close()
     given.close()
-
-
-def _place_of(answer: str) -> int:
-    """The place that an answer of one line ends in."""
-    return int(answer.rpartition(' ')[2])
 
 
 class Session(contextlib.AbstractContextManager['Session']):
@@ -206,7 +203,7 @@ class Session(contextlib.AbstractContextManager['Session']):
         ...     session.step(), session.step()
         (1, 2)
         """
-        return _place_of(self._talk.line(b'step'))
+        return replies.place_in(self._talk.line(b'step'))
 
     def back(self) -> int:
         """Goes back over one opcode, and answers the place before it.
@@ -215,7 +212,7 @@ class Session(contextlib.AbstractContextManager['Session']):
         ...     session.step(), session.back()
         (1, 0)
         """
-        return _place_of(self._talk.line(b'back'))
+        return replies.place_in(self._talk.line(b'back'))
 
     def goto(self, place: Optional[int] = None, *, at: Optional[int] = None) -> int:
         """Goes to a place.
@@ -224,7 +221,7 @@ class Session(contextlib.AbstractContextManager['Session']):
         ...     session.goto(3), session.goto(at=2)
         (3, 1)
         """
-        return _place_of(self._talk.line(b'goto ' + _place(place, at)))
+        return replies.place_in(self._talk.line(b'goto ' + _place(place, at)))
 
     def run(self) -> Ran:
         """Steps on to the end, to a breakpoint, or to an opcode that the machine refuses.
@@ -233,8 +230,7 @@ class Session(contextlib.AbstractContextManager['Session']):
         ...     session.run()
         Ran(place=2, why='end', text='end, stopped')
         """
-        place, _, text = self._talk.line(b'run')[3:].partition(': ')
-        return Ran(int(place), text.partition(',')[0], text)
+        return replies.ran_of(self._talk.line(b'run'))
 
     def set_break(self, place: Optional[int] = None, *, at: Optional[int] = None) -> int:
         """Sets a breakpoint on the opcode at a place, and answers the place.
@@ -243,7 +239,7 @@ class Session(contextlib.AbstractContextManager['Session']):
         ...     session.set_break(2), session.run().why
         (2, 'breakpoint')
         """
-        return _place_of(self._talk.line(b'break ' + _place(place, at)))
+        return replies.place_in(self._talk.line(b'break ' + _place(place, at)))
 
     def clear_break(self, place: Optional[int] = None, *, at: Optional[int] = None) -> int:
         """Takes the breakpoint on the opcode at a place away, and answers the place.
@@ -252,7 +248,7 @@ class Session(contextlib.AbstractContextManager['Session']):
         ...     session.set_break(1), session.clear_break(1), session.run().why
         (1, 1, 'end')
         """
-        return _place_of(self._talk.line(b'clear ' + _place(place, at)))
+        return replies.place_in(self._talk.line(b'clear ' + _place(place, at)))
 
     # --- Edits ---
 
@@ -295,7 +291,7 @@ class Session(contextlib.AbstractContextManager['Session']):
         ...     session.delete(2), session.delete(0), session.bytes()
         (2, 0, b'N.')
         """
-        return _place_of(self._talk.line(b'delete ' + _place(place, at)))
+        return replies.place_in(self._talk.line(b'delete ' + _place(place, at)))
 
     def frame(self, place: Optional[int] = None, count: int = 0, *, at: Optional[int] = None) -> int:
         """Puts a frame around `count` opcodes from a place on, and answers the place.
@@ -304,7 +300,7 @@ class Session(contextlib.AbstractContextManager['Session']):
         ...     session.frame(0, 2), session.bytes()
         (0, b'\\x95\\x02\\x00\\x00\\x00\\x00\\x00\\x00\\x00N.')
         """
-        return _place_of(self._talk.line(b'frame %s %d' % (_place(place, at), index(count))))
+        return replies.place_in(self._talk.line(b'frame %s %d' % (_place(place, at), index(count))))
 
     def unframe(self, place: Optional[int] = None, *, at: Optional[int] = None) -> int:
         """Takes the FRAME at a place away and leaves what is in the frame, and answers the place.
@@ -313,7 +309,7 @@ class Session(contextlib.AbstractContextManager['Session']):
         ...     session.frame(0, 2), session.unframe(0), session.bytes()
         (0, 0, b'N.')
         """
-        return _place_of(self._talk.line(b'unframe ' + _place(place, at)))
+        return replies.place_in(self._talk.line(b'unframe ' + _place(place, at)))
 
     def undo(self) -> int:
         """Takes the latest edit back, and answers its place.
@@ -322,7 +318,7 @@ class Session(contextlib.AbstractContextManager['Session']):
         ...     session.insert(1, 'POP'), session.undo(), session.bytes()
         (1, 1, b'N.')
         """
-        return _place_of(self._talk.line(b'undo'))
+        return replies.place_in(self._talk.line(b'undo'))
 
     def redo(self) -> int:
         """Makes the edit again that was taken back last, and answers its place.
@@ -331,7 +327,7 @@ class Session(contextlib.AbstractContextManager['Session']):
         ...     session.insert(1, 'POP'), session.undo(), session.redo(), session.bytes()
         (1, 1, 1, b'N0.')
         """
-        return _place_of(self._talk.line(b'redo'))
+        return replies.place_in(self._talk.line(b'redo'))
 
     def _put(self, word: _Bytes, words: Sequence[ArgumentValue], at: Optional[int], raw: Optional[_Bytes]) -> int:
         """An edit that names an opcode: a place (unless it is named by `at`), the name, and its values."""
@@ -342,7 +338,7 @@ class Session(contextlib.AbstractContextManager['Session']):
             raise TypeError('an argument is given as values or as raw bytes, and not as both')
         argument = encoded(name, values) if raw is None else _Bytes(raw)
         where = _place(None if place is None else index(place), at)  # type: ignore[arg-type]
-        return _place_of(self._talk.line(b'%s %s %s %s' % (word, where, name.encode('utf-8'), argument.hex().encode('ascii'))))
+        return replies.place_in(self._talk.line(b'%s %s %s %s' % (word, where, name.encode('utf-8'), argument.hex().encode('ascii'))))
 
     # --- Questions ---
 
@@ -353,7 +349,7 @@ class Session(contextlib.AbstractContextManager['Session']):
         ...     session.step(), session.where().offset
         (1, 1)
         """
-        return texts.where_of(self._talk.line(b'where'))
+        return replies.where_of(self._talk.line(b'where'))
 
     def items(self) -> Items:
         """The opcodes with their places.
@@ -389,7 +385,7 @@ class Session(contextlib.AbstractContextManager['Session']):
         ...     session.goto(2), session.stack()
         (2, (Mark(place=0), Ref(number=0)))
         """
-        return texts.stack_of(self._talk.line(b'stack'))
+        return replies.stack_of(self._talk.line(b'stack'))
 
     def memo(self) -> Dict[int, int]:
         """The number of the object under each key of the memo.
@@ -398,7 +394,7 @@ class Session(contextlib.AbstractContextManager['Session']):
         ...     session.goto(2), session.memo()
         (2, {5: 0})
         """
-        return texts.memo_of(self._talk.line(b'memo'))
+        return replies.memo_of(self._talk.line(b'memo'))
 
     def ask(self, line: str) -> str:
         """The program's own answer to a line, as docs/USING.md has them.

@@ -15,8 +15,9 @@ from .errors import ProgramError
 from .listed import TooDeep, bounded
 from .program import Process, run_program
 from .records import OtherForm
+from .replies import other_form, where_of
 from .sources import Input, Source, small_content
-from .texts import MOST_OFFSET, OFFSET_IN_BYTES, frames_in, other_form, where_of
+from .texts import MOST_OFFSET, OFFSET_IN_BYTES, frames_in
 
 __all__ = ['AskedOfEdits', 'calls', 'calls_of', 'form', 'frames', 'frames_of', 'left_out', 'listing', 'listing_of', 'modes', 'objects']
 

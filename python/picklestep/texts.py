@@ -12,15 +12,16 @@ from dataclasses import dataclass, replace
 from itertools import islice
 from typing import Callable, Dict, Generic, Iterator, List, NamedTuple, Optional, Pattern, Sequence, Set, Tuple, TypeVar, Union
 
-from .records import Argument, Change, End, Item, Mark, Object, Opcode, OtherForm, Ref, Shown, Where
+from .records import Argument, Change, End, Item, Object, Opcode, Shown
 
-__all__ = ['BYTES_CUT', 'Closing', 'FRAME_SIZE', 'HELD', 'Heading', 'HeldObject', 'IN_FORM', 'ITEMS', 'ITEM_IN_BYTES', 'ItemKind', 'KindState',
-           'Line', 'LineReader', 'LinesError', 'MARK', 'MOST_OFFSET', 'NAMED_BY_TEXTS', 'NumberOfKind', 'OBJECTS', 'OFFSET_IN_BYTES', 'OPCODES',
-           'REACH', 'REACH_BEGINS', 'REACH_WORD', 'SHOWN', 'ShownStorage', 'TEXT_NEXT', 'UNIT', 'VALUES_CUT', 'argument_at', 'as_made',
-           'before_headings', 'begins_with_offset', 'broken_places', 'closing_of', 'container_in', 'counts_in', 'end_of', 'filled_in', 'frames_in',
-           'given_in', 'headings_in', 'held_in', 'holding', 'key_in', 'kinds_in', 'left_in', 'line_of', 'lines_with_offsets', 'lowered', 'made_by',
-           'memo_of', 'number_of', 'object_of', 'offset_of_item', 'opcode_of', 'other_form', 'pattern_of_line', 'persistent_lines', 'readonly_count',
-           'results_in', 'stack_of', 'storage_of', 'stored_under', 'unnumbered', 'unquoted', 'where_of', 'with_offset']
+__all__ = ['BYTES_CUT', 'Closing', 'FRAME_SIZE', 'HELD', 'Heading', 'HeldObject', 'ITEMS', 'ITEM_IN_BYTES', 'ItemKind', 'KindState', 'Line',
+           'LineReader', 'LinesError', 'MARK', 'MOST_OFFSET', 'NAMED_BY_TEXTS', 'NumberOfKind', 'OBJECTS', 'OFFSET_IN_BYTES', 'OPCODES', 'REACH',
+           'REACH_BEGINS', 'REACH_WORD', 'SHOWN', 'ShownStorage', 'TEXT_NEXT', 'UNIT', 'VALUES_CUT', 'argument_at', 'as_made', 'before_headings',
+           'begins_with_offset', 'behind_word', 'broken_places', 'closing_of', 'code_of', 'container_in', 'counts_in', 'end_of', 'end_of_line',
+           'end_of_texts', 'filled_in', 'frame_length', 'frames_in', 'given_in', 'has_key', 'headings_in', 'held_in', 'holding', 'is_object_at',
+           'key_in', 'kind_in', 'kinds_in', 'left_in', 'line_of', 'lines_with_offsets', 'lowered', 'made_by', 'moved_line', 'number_of',
+           'object_of', 'offset_at', 'offset_of_item', 'opcode_of', 'pattern_of_line', 'persistent_lines', 'readonly_count', 'refused',
+           'results_in', 'storage_of', 'unnumbered', 'unquoted', 'with_offset', 'without_left', 'without_number']
 
 Record = TypeVar('Record')
 
@@ -45,6 +46,7 @@ _ITEM = re.compile(r'^([> ])([* ]) *([0-9]+) +([0-9]+): ([A-Z][A-Z0-9_]*)(?: (.*
 # The offset, the name, and the argument behind its blank.
 ITEM_IN_BYTES = re.compile(rb'^[> ][* ] *[0-9]+ +([0-9]+): ([A-Z][A-Z0-9_]*)((?: .*)?)$', re.MULTILINE)
 _SHOWN = re.compile(r'^([0-9]+) (#[0-9]+)( .*)?$', re.MULTILINE)
+_LEFT_BEGINS = b'left: '
 _LEFT = re.compile(r'^left: ([0-9]+) objects, ([0-9]+) marks$', re.MULTILINE)
 _RESULT = re.compile(r'^result #([0-9]+)$', re.MULTILINE)
 # The place of an item that has a breakpoint.
@@ -56,37 +58,9 @@ _PUT_IN = re.compile(r' (?:[+&!]#|\[#).*')
 _HOW = {b'+': 'append', b'&': 'add', b'!': 'state', b'[': 'key', b'=': 'value'}
 _READONLY = re.compile(rb'^#[0-9]+ readonly ', re.MULTILINE)
 NAMED_BY_TEXTS = re.compile(rb'^#([0-9]+) stack-global \(#([0-9]+) #([0-9]+)\)', re.MULTILINE)
-_OTHER_FORM = re.compile(r'not in form: item ([0-9]+) at ([0-9]+): (.*)\n')
 _CONTAINER = re.compile(r'^begins like an? (.*): picklestep scan looks into it$', re.MULTILINE)
 _CLOSING = re.compile(r'(?:it (?=ends: ))?(refused|fault|unsure|left|kept|ends): (.*)|(highest protocol among opcodes) = (.*)|result #.*|'
                       r'[0-9]+ imports, .*|begins like .*')
-_WHERE = re.compile(r'at ([0-9]+) of ([0-9]+), offset ([0-9]+), buffers ([0-9]+), result (none|#[0-9]+(?: #[0-9]+)*), end (.*)')
-# What `form` answers where the pickle is in the form.
-IN_FORM = b'in form\n'
-
-
-def other_form(text: str) -> Optional[OtherForm]:
-    """What the answer of `form` says, or None where the pickle is in the form.
-
-    >>> other_form('not in form: item 0 at 0: a number that has a shorter form\\n').offset
-    0
-    """
-    if text == IN_FORM.decode():
-        return None
-    match = _OTHER_FORM.fullmatch(text)
-    if match is None:
-        raise LinesError('no answer of form')
-    return OtherForm(int(match[1]), int(match[2]), match[3])
-
-
-def stored_under(answer: str, key: int) -> Optional[int]:
-    """The object that an answer to `memo` has under a key.
-
-    >>> stored_under('memo 0=#1 1=#4', 1)
-    4
-    """
-    found = re.search(f' {key}=#([0-9]+)', answer)
-    return None if found is None else int(found[1])
 
 
 class LinesError(ValueError):
@@ -203,6 +177,56 @@ def key_in(line: str) -> str:
     return keys[-1]
 
 
+def has_key(line: Line, key: str) -> bool:
+    """Whether the opcode of a line stores an object in the memo under a key, or gets it from there.
+
+    >>> has_key(line_of('    2: \\\\x94 MEMOIZE    (as 0)'), '0'), has_key(line_of('    2: K    BININT1    0'), '0')
+    (True, False)
+    """
+    return line.name == 'MEMOIZE' and line.argument == f'(as {key})' or line.name.endswith(('PUT', 'GET')) and line.argument == key
+
+
+def frame_length(line: str) -> int:
+    """How many bytes are in the frame that the line of a FRAME begins.
+
+    >>> frame_length('    2: \\\\x95 FRAME      27')
+    27
+    """
+    return int(line.rpartition(' ')[2])
+
+
+def offset_at(listing: Union[bytes, bytearray], start: int) -> int:
+    """The offset in the line of an opcode that begins at a place of a listing.
+
+    >>> offset_at(b'    0: N    NONE\\n    1: .    STOP\\n', 17)
+    1
+    """
+    return int(listing[start:listing.index(b':', start)])
+
+
+def moved_line(line: str, offset: int, marks: int = 0) -> str:
+    """The line of an opcode as it is at another offset, and behind so many marks more that are open.
+
+    >>> moved_line('    0: N    NONE', 12, 1)
+    '   12: N        NONE'
+    """
+    rest = line[line.index(':'):]
+    return f'{offset:>5}{rest[:_TO_NAME]}{"    " * marks}{rest[_TO_NAME:]}' if marks else f'{offset:>5}{rest}'
+
+
+# Letters from the colon of a line to the blanks for marks.
+_TO_NAME = 7
+
+
+def end_of_line(name: bytes, number: int) -> bytes:
+    """How the line of an opcode ends that has a number for its argument, with its newline.
+
+    >>> end_of_line(b'BINGET', 7)
+    b'BINGET     7\\n'
+    """
+    return b'%-10b %d\n' % (name, number)
+
+
 def _item_at(match: 're.Match[str]') -> Item:
     cursor, flag, place, offset, name, rest = match.groups()
     return Item(int(place), int(offset), name, _argument(rest, 0)[0] if rest else None, cursor == '>', flag == '*')
@@ -227,6 +251,24 @@ def object_of(line: str) -> Object:
                   tuple(_change(change) for change in _CHANGE.finditer(line, parts.end() if parts else at)))
 
 
+def kind_in(line: str) -> str:
+    """The kind of an object, in its line or the beginning of that.
+
+    >>> kind_in('#3 list (#1')
+    'list'
+    """
+    return line.split(' ', 2)[1]
+
+
+def without_number(line: str) -> str:
+    """The line of an object without its number.
+
+    >>> without_number('#3 list (#1)')
+    'list (#1)'
+    """
+    return line.partition(' ')[2]
+
+
 def _numbers(text: str) -> Tuple[int, ...]:
     """The numbers of objects, with blanks between them."""
     return tuple(int(word[1:]) for word in text.split())
@@ -245,10 +287,28 @@ def end_of(text: str, item: Optional[int] = None) -> End:
     """
     if text in ('stopped', 'STOP'):
         return End('stopped')
-    code = text.partition(' ')[0]
+    code = code_of(text)
     if code[0] in _AT:
         return End(_AT[code[0]], code, text, offset=int(text.rpartition(' ')[2]))
     return End('refused', code, text, item=item)
+
+
+def code_of(words: str) -> str:
+    """The code that the words of a refusal or a fault begin with.
+
+    >>> code_of('S3 no memo entry 7')
+    'S3'
+    """
+    return words.partition(' ')[0]
+
+
+def refused(words: str, offset: Optional[int], item: Optional[int]) -> End:
+    """The end where an opcode is refused for what these words say.
+
+    >>> refused('S2 stack underflow', 4, 2)
+    End(how='refused', code='S2', text='S2 stack underflow', offset=4, item=2)
+    """
+    return End('refused', code_of(words), words, offset, item)
 
 
 # Codes that stand with an offset, by their letter.
@@ -266,7 +326,7 @@ def end_of_item(text: str, offset: Optional[int] = None) -> End:
     place, separator, words = text.partition(': ')
     if not separator:
         return End('refused', text=text)
-    return End('refused', words.partition(' ')[0], words, offset, int(place.rpartition(' ')[2]))
+    return refused(words, offset, int(place.rpartition(' ')[2]))
 
 
 @dataclass(frozen=True)
@@ -295,9 +355,8 @@ class Closing:
         """How reading ended, after a listing. Where the last opcode was refused, its offset and its place are asked for."""
         if not self.is_refused:
             return end_of(self.lines.get('fault', 'stopped'))
-        code = self.lines['refused']
         offset, place = last()
-        return End('refused', code.partition(' ')[0], code, offset, place)
+        return refused(self.lines['refused'], offset, place)
 
     def end(self, refused_at: Optional[int]) -> End:
         """How reading ended, after another answer. The lines of a part say it behind one word more."""
@@ -323,6 +382,15 @@ def closing_of(lines: Sequence[str]) -> Dict[str, str]:
     return closing
 
 
+def behind_word(lines: Sequence[str], word: str) -> Optional[str]:
+    """What the last of some closing lines that begins with a word says behind it; None where none does.
+
+    >>> behind_word(['kept: 3 bytes after STOP', 'begins like a zip archive'], 'kept')
+    '3 bytes after STOP'
+    """
+    return next((line[len(word) + 2:] for line in reversed(lines) if line.startswith(f'{word}: ')), None)
+
+
 def container_in(text: str, start: int, end: int) -> Optional[str]:
     """The container that bytes begin like, where a closing line says one.
 
@@ -331,38 +399,6 @@ def container_in(text: str, start: int, end: int) -> Optional[str]:
     """
     match = _CONTAINER.search(text, start, end)
     return None if match is None else match[1]
-
-
-def where_of(line: str) -> Where:
-    """What the line of `where` says.
-
-    >>> where_of('at 2 of 7, offset 11, buffers 0, result none, end stopped').place
-    2
-    """
-    match = _WHERE.fullmatch(line)
-    if match is None:
-        raise LinesError(line)
-    results = () if match[5] == 'none' else _numbers(match[5])
-    return Where(int(match[1]), int(match[2]), int(match[3]), int(match[4]), results, end_of(match[6]))
-
-
-def stack_of(line: str) -> Tuple[Union[Ref, Mark], ...]:
-    """What the line of `stack` says, from the bottom.
-
-    >>> stack_of('stack #0 (2 #1')
-    (Ref(number=0), Mark(place=2), Ref(number=1))
-    """
-    return tuple(Mark(int(word[1:])) if word[0] == '(' else Ref(int(word[1:])) for word in line.split()[1:])
-
-
-def memo_of(line: str) -> Dict[int, int]:
-    """What the line of `memo` says: the number of the object under each key.
-
-    >>> memo_of('memo 0=#0 5=#3')
-    {0: 0, 5: 3}
-    """
-    pairs = (word.split('=#') for word in line.split()[1:])
-    return {int(key): int(number) for key, number in pairs}
 
 
 # --- Lines of one kind, read one after another ---
@@ -437,6 +473,17 @@ def results_in(text: str, start: int) -> Tuple[int, ...]:
     return tuple(int(match[1]) for match in _RESULT.finditer(text, start))
 
 
+def without_left(listing: Union[bytes, bytearray]) -> Optional[bytes]:
+    """The lines of a listing but those of what a STOP left; None where it has none of these.
+
+    >>> without_left(b'    1: .    STOP\\nleft: 1 objects, 0 marks\\n')
+    b'    1: .    STOP\\n'
+    """
+    if b'\n' + _LEFT_BEGINS not in listing:
+        return None
+    return b''.join(line for line in bytes(listing).splitlines(keepends=True) if not line.startswith(_LEFT_BEGINS))
+
+
 def broken_places(text: str) -> Set[int]:
     """The places of items that have a breakpoint."""
     return {int(match[1]) for match in _BROKEN.finditer(text)}
@@ -474,6 +521,20 @@ def held_in(heap: Union[bytes, bytearray], start: int, end: int) -> Iterator[Hel
     [('', 1), ('append', 4)]
     """
     return (HeldObject(_HOW.get(match[1][-1:], ''), int(match[2])) for match in HELD.finditer(heap, start, end))
+
+
+def is_object_at(lines: Union[bytes, bytearray], start: int) -> bool:
+    """Whether the line that begins at a place is that of an object."""
+    return lines[start] == ord('#')
+
+
+def end_of_texts(heap: Union[bytes, bytearray], start: int, end: int) -> int:
+    """Where in a line the last quote is; the start of the line where it has none.
+
+    >>> end_of_texts(b"#3 global 'a' '#1' +#4", 0, 22)
+    17
+    """
+    return max(heap.rfind(b"'", start, end), start)
 
 
 def holding(number: int) -> 're.Pattern[bytes]':

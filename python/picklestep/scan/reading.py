@@ -15,8 +15,9 @@ from ..errors import OutOfMemory, PicklestepError, ProgramError, TimedOut
 from ..program import Process, time_to_wait
 from ..reaches import LineKey, line_of, number_in, offset_of, reach_of, reached_lines, text_of
 from ..records import End, Extension, Global, Name, Ref
+from ..replies import IN_FORM
 from ..session import Session
-from ..texts import IN_FORM, given_in, headings_in, offset_of_item, with_offset
+from ..texts import given_in, headings_in, offset_of_item, with_offset
 from .begins import is_dotted
 from .blobs import CHUNK, Blob, Budget, FileBlob, Spooled, spooled
 from .canonical.formed import content_of

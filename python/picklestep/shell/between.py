@@ -11,11 +11,13 @@ from __future__ import annotations
 import pickletools
 import sys
 from bisect import bisect_right
-from typing import Any, Callable, Dict, List, NamedTuple, Optional, Protocol, Sequence, Tuple
+from typing import Any, Dict, List, NamedTuple, Optional, Protocol, Sequence, Tuple
 
 from ..arguments import ArgumentValue, encoded
+from ..listed import offset_of
+from ..replies import is_mark
 from ..tasks import listing, objects
-from ..texts import MARK, key_in, line_of
+from ..texts import MARK, behind_word, end_of_line, frame_length, key_in, kind_in, line_of, moved_line, without_number
 from ..values import PLAIN_KINDS
 from ..view.document import MOST_EXACT, MOST_TEXT, Done, Reaches
 from ..view.lines import CODE_BY_NAME, Line, Lines, Makers, OpcodeLines, lines_of
@@ -39,7 +41,7 @@ _NEAR = [CODE_BY_NAME[name] for name in ('APPEND', 'SETITEM', 'BUILD', 'POP', 'D
 _PUSHES = frozenset(ord(each.code) for each in pickletools.opcodes if not each.stack_before and [*each.stack_after] not in ([], [pickletools.markobject]))
 _GETS = [(CODE_BY_NAME[name], name.encode('ascii')) for name in ('GET', 'BINGET', 'LONG_BINGET')]
 _POP, _FRAME, _READONLY = (CODE_BY_NAME[name] for name in ('POP', 'FRAME', 'READONLY_BUFFER'))
-_OF_CODE = 7  # (letters from the colon of a line to its name)
+_HEAD = 40  # (letters that have the number and the kind of an object)
 
 
 class Unknown(Exception):
@@ -137,7 +139,7 @@ class Between:
     @staticmethod
     def can_tell_of(lines: OpcodeLines, listed: int, reaches: Reaches, edits: Sequence[Done], codes: bytes) -> bool:
         """Whether something is known after these edits."""
-        return (listed == len(lines) and not any(line.startswith('refused') for line in lines.closing) and not reaches.is_part
+        return (listed == len(lines) and behind_word(lines.closing, 'refused') is None and not reaches.is_part
                 and len(edits) <= MOST_EDITS and _READONLY not in codes
                 and codes.find(_POP, min(edit.place for edit in edits)) < 0)
 
@@ -159,17 +161,15 @@ class Between:
         if place >= max(self.sure, self._first):
             self.sure = self._session.reach(place)
         if piece.put is not None:
-            rest = piece.put.line[piece.put.line.index(':'):]
-            line = f'{piece.offset:>5}{rest[:_OF_CODE]}{"    " * self._marks(place)}{rest[_OF_CODE:]}'
+            line = moved_line(piece.put.line, piece.offset, self._marks(place))
             return _whole(line, line)
-        line = self._lines.raw(piece.old + place - piece.place)
-        offset, _, rest = line.partition(':')
+        was = self._lines.raw(piece.old + place - piece.place)
+        offset = offset_of(was)
         if self._codes[place] == _FRAME:
-            self._frame(int(offset), int(rest.rpartition(' ')[2]))
-        mark = MARK.search(rest) if self._codes[place] not in _VALUE_CODES else None
-        if mark is not None:
-            rest = f'{rest[:mark.start(1)]}{self._moved(int(mark[1]))})'
-        return _whole(f'{int(offset) + piece.shift:>5}:{rest}', line if piece.shift else '')
+            self._frame(offset, frame_length(was))
+        mark = MARK.search(was) if self._codes[place] not in _VALUE_CODES else None
+        line = was if mark is None else f'{was[:mark.start(1)]}{self._moved(int(mark[1]))})'
+        return _whole(moved_line(line, offset + piece.shift), was if piece.shift else '')
 
     def at(self, place: int) -> Line:
         """An opcode."""
@@ -225,17 +225,17 @@ class Between:
             place = self.makers.place(number)
             piece = self._piece(place)
             if piece.put is not None:
-                return _whole(f'#{number}{piece.put.object[2:]}', piece.put.object)
+                return _whole(f'#{number} {without_number(piece.put.object)}', piece.put.object)
             old = self._lines.makers.before(piece.old + place - piece.place)
         if old >= len(self._final):
             raise Unknown
         begin, end = self._final.span(old)
-        head = self._final.text[begin:begin + 40].decode('ascii').split('\n')[0].split(' ')
-        is_told = self._is_same or head[1] in _STAY or head[1] == 'tuple' and number < self._made
+        kind = kind_in(self._final.text[begin:min(begin + _HEAD, end)].decode('ascii'))
+        is_told = self._is_same or kind in _STAY or kind == 'tuple' and number < self._made
         if not is_told and not (number < self._made and self._is_left(number)):
             raise Unknown
         line = self._final.brief(old) if end - begin > _LONGEST else self._final.raw(old)
-        return _whole(f'#{number}{line[len(head[0]):]}', line if number != old else '')
+        return _whole(f'#{number} {without_number(line)}', line if number != old else '')
 
     def _is_left(self, number: int) -> bool:
         """Whether an object that was made before the edits is surely not changed behind them, as it surely was not before there were any.
@@ -254,14 +254,14 @@ class Between:
             self._stack = self._session.stack_at(self._first)
         above = [self._stack[at + 1] if at + 1 < len(self._stack) else None for at, entry in enumerate(self._stack) if entry == word]
         is_pushed = self._first < len(self._codes) and {self._codes[self._first], self._lines.makers.codes[self._first]} <= _PUSHES
-        return all(is_pushed if entry is None else entry[0] == '#' for entry in above)
+        return all(is_pushed if entry is None else not is_mark(entry) for entry in above)
 
     def _is_got(self, number: int) -> bool:
         """Whether an object may be got from the memo behind the edits, or is stored there."""
         begin = self._lines.start(self._first)
         for place in self._session.stores_of(number):
             key = int(key_in(self._lines.raw(place)))
-            if place >= self._first or any(self._codes.find(code, self._first) >= 0 and self._lines.text.find(b'%-10b %d\n' % (name, key), begin) >= 0
+            if place >= self._first or any(self._codes.find(code, self._first) >= 0 and self._lines.text.find(end_of_line(name, key), begin) >= 0
                                            for code, name in _GETS if key < 256 or name != b'BINGET'):
                 return True
         return False
@@ -351,7 +351,7 @@ def _are_same(lines: OpcodeLines, final: Lines, edits: Sequence[Done]) -> bool:
         if edit.what != 'replace':
             return False
         number = lines.makers.before(edit.place)
-        if number >= len(final) or _kind(final.brief(number)) != _kind(edit.put.object):
+        if number >= len(final) or kind_in(final.brief(number)) != kind_in(edit.put.object):
             return False
     return True
 
@@ -361,7 +361,3 @@ def _whole(line: str, was: str) -> str:
     if max(len(line), len(was)) > _LONGEST and was:
         raise Unknown
     return line
-
-
-def _kind(line: str) -> str:
-    return line[:40].split(' ')[1]

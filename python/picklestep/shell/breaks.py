@@ -9,8 +9,9 @@ from heapq import merge
 from typing import Callable, Dict, Iterator, Optional
 
 from ..records import Extension, Global, Name, Ref
+from ..texts import has_key
 from ..view.document import around, in_a_line
-from ..view.lines import CODE_BY_NAME, Line
+from ..view.lines import CODE_BY_NAME
 from .opened import Opened
 
 __all__ = ['Break', 'BREAKS', 'next_break']
@@ -52,10 +53,7 @@ def _text(pickle: Opened, text: str, place: int, step: int) -> Iterator[int]:
 
 
 def _memo(pickle: Opened, text: str, place: int, step: int) -> Iterator[int]:
-    def is_key(line: Line) -> bool:
-        return line.name == 'MEMOIZE' and line.argument == f'(as {text})' or line.name.endswith(('PUT', 'GET')) and line.argument == text
-
-    return (at for at in around(pickle.lines, text.encode('ascii', 'replace'), place, step) if is_key(pickle.lines.at(at)))
+    return (at for at in around(pickle.lines, text.encode('ascii', 'replace'), place, step) if has_key(pickle.lines.at(at), text))
 
 
 def _depth(pickle: Opened, text: str, place: int, step: int) -> Iterator[int]:

@@ -2,9 +2,12 @@
 
 from __future__ import annotations
 
+import pickletools
 from typing import Dict, List, Sequence, Tuple
 
-__all__ = ['EFFECTS', 'EXPLAINED', 'taken']
+from ..replies import is_mark
+
+__all__ = ['EFFECTS', 'EXPLAINED', 'in_other_words', 'taken']
 
 EXPLAINED: Dict[str, str] = {
     'INT': 'Puts an integer from a line on the stack; the lines 00 and 01 are False and True.',
@@ -150,6 +153,25 @@ EFFECTS: Dict[str, Tuple[str, str]] = {
 }
 
 
+def in_other_words(opcode: 'pickletools.OpcodeInfo') -> Tuple[str, Tuple[str, str]]:
+    """What pickletools says of an opcode, as in EXPLAINED and in EFFECTS.
+
+    >>> in_other_words(pickletools.code2op['e'])
+    ('Extend a list by a slice of stack objects.', ('list, mark, items ..', 'list'))
+    """
+    sentence = ' '.join(opcode.doc.partition('.')[0].split()) + '.'
+    before, after = (', '.join(_OF_PICKLETOOLS.get(kind.name, kind.name) for kind in kinds) for kinds in (opcode.stack_before, opcode.stack_after))
+    return sentence, (before, after)
+
+
+_OF_PICKLETOOLS = {'any': 'object', 'stackslice': 'items ..'}
+
+# (a newer Python may have more of them)
+for _opcode in pickletools.opcodes:
+    if _opcode.name not in EXPLAINED:
+        EXPLAINED[_opcode.name], EFFECTS[_opcode.name] = in_other_words(_opcode)
+
+
 def taken(name: str, stack: Sequence[str]) -> List[Tuple[str, Sequence[str]]]:
     """What an opcode takes from a stack, whose entries are the words of `stack`: each by its word in EFFECTS. Nothing where it is refused.
 
@@ -161,13 +183,13 @@ def taken(name: str, stack: Sequence[str]) -> List[Tuple[str, Sequence[str]]]:
     words = EFFECTS[name][0].split(', ')
     place = len(stack) - len(words)
     if 'mark' in words:
-        place = next((at for at in range(len(stack) - 1, -1, -1) if stack[at][0] == '('), -1) - words.index('mark')
+        place = next((at for at in range(len(stack) - 1, -1, -1) if is_mark(stack[at])), -1) - words.index('mark')
     if place < 0:
         return []
     found: List[Tuple[str, Sequence[str]]] = []
     for word in words:
         end = len(stack) if word.endswith(_ANY_NUMBER) else place + 1
-        if word != 'object or mark' and any((entry[0] == '(') != (word == 'mark') for entry in stack[place:end]):
+        if word != 'object or mark' and any(is_mark(entry) != (word == 'mark') for entry in stack[place:end]):
             return []
         found.append((word[:-len(_ANY_NUMBER)] if word.endswith(_ANY_NUMBER) else word, stack[place:end]))
         place = end

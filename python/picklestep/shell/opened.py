@@ -13,9 +13,10 @@ from ..comparing import shown_value
 from ..errors import NoResult, Refused
 from ..python_source.shapes import BRACKETS
 from ..records import Global, Object, Reach, Ref
+from ..replies import opcode_refused_in, words_of
 from ..session import SHIFTS
 from ..sources import Input, Source
-from ..texts import LinesError, key_in, object_of
+from ..texts import LinesError, behind_word, key_in, object_of
 from ..values import PLAIN_KINDS, kind_value
 from ..view.document import Document, Done, Reaches, places_edited
 from ..view.lines import CODE_BY_NAME, Line, Lines, OpcodeLines
@@ -193,7 +194,7 @@ class Opened(Document):
     def stack_at(self, place: int) -> List[str]:
         """What is on the stack at a place, from the bottom."""
         with self._at(place):
-            return self.session.ask('stack').split()[1:]
+            return words_of(self.session.ask('stack'))
 
     def stores_of(self, number: int) -> List[int]:
         """The places at which an object is stored, as it was before edits that are not read yet."""
@@ -240,7 +241,7 @@ class Opened(Document):
             self._free.wait()
             return self._edition == edition
 
-        until = listed - any(line.startswith('refused') for line in lines.closing)
+        until = listed - int(behind_word(lines.closing, 'refused') is not None)
         return Later(lambda: History(lines, until, is_wanted))
 
     def content(self) -> bytes:
@@ -328,7 +329,8 @@ class Opened(Document):
     @property
     def kept(self) -> List[str]:
         """A line of the bytes after STOP, where there are some: nothing of them is in the session."""
-        return [f'{line} (try --many)' for line in self.lines.closing if line.startswith('kept: ')]
+        kept = behind_word(self.lines.closing, 'kept')
+        return [] if kept is None else [f'kept: {kept} (try --many)']
 
     def maker(self, number: int) -> Optional[int]:
         """The place of the opcode that makes an object, if there is such an object."""
@@ -465,7 +467,7 @@ class Opened(Document):
         try:
             self.session.step()
         except Refused as error:
-            return error.text.partition(': ')[2]
+            return opcode_refused_in(error.text)
         self.session.back()
         return ''
 

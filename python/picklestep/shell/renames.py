@@ -8,7 +8,7 @@ from __future__ import annotations
 from typing import Dict, Iterator, List, NamedTuple, Optional, Sequence, Set, Tuple
 
 from ..records import Global, Name
-from ..texts import HELD, NAMED_BY_TEXTS
+from ..texts import HELD, NAMED_BY_TEXTS, end_of_texts
 from .edits import OPCODES, EditError, of_value
 from .opened import Edit, Opened
 
@@ -125,7 +125,7 @@ class _Texts:
                 if match.start() >= end:
                     start, end = heap.rfind(b'\n', 0, match.start()) + 1, heap.index(b'\n', match.end())
                     named = NAMED_BY_TEXTS.match(heap, start)
-                    first = max(heap.rfind(b"'", start, end), named.end() if named else 0)
+                    first = max(end_of_texts(heap, start, end), named.end() if named else 0)
                 if match.start() >= first:
                     found.add(int(match[2]))
                     wanted.remove(match[2])

@@ -14,9 +14,10 @@ from ..diff import of_reaches
 from ..errors import NoResult, PicklestepError, Refused
 from ..records import Ref
 from ..python_source import source
+from ..replies import entry_of, is_mark, last_words, number_in_word, stored_under, words_of
 from ..session import SHIFTS
 from ..sources import Source
-from ..texts import LinesError, opcode_of, stored_under
+from ..texts import LinesError, opcode_of
 from ..view.document import Done
 from ..view.lines import line_of
 from .breaks import BREAKS, Break, next_break
@@ -222,9 +223,9 @@ class Shell:
 
     def _top(self) -> str:
         """The top of the stack, the highest first."""
-        words = self.pickle.session.ask('stack').split()[1:]
-        shown = [f'mark of {word[1:]}' if word[0] == '(' else self.pickle.described(int(word[1:])) for word in reversed(words[-_MOST_STACK:])]
-        more = [f'.. {len(words) - _MOST_STACK} more'] if len(words) > _MOST_STACK else []
+        words, before = last_words(self.pickle.session.ask('stack'), _MOST_STACK)
+        shown = [f'mark of {number_in_word(word)}' if is_mark(word) else self.pickle.described(number_in_word(word)) for word in reversed(words)]
+        more = [f'.. {before} more'] if before else []
         return ' | '.join(shown + more) or 'empty'
 
     def _now(self) -> Tuple[int, int]:
@@ -412,9 +413,9 @@ class Shell:
     def _taken(self, name: str) -> str:
         """What an opcode at the cursor takes from the stack."""
         shown = []
-        for word, entries in taken(name, self.pickle.session.ask('stack').split()[1:]):
-            if entries and entries[0][0] == '(':
-                shown.append(f'the mark of {entries[0][1:]}')
+        for word, entries in taken(name, words_of(self.pickle.session.ask('stack'))):
+            if entries and is_mark(entries[0]):
+                shown.append(f'the mark of {number_in_word(entries[0])}')
             elif entries:
                 shown.append(f'{word.partition(" or ")[0]} {self._numbered(entries)}')
         return ', '.join(shown)
@@ -422,7 +423,7 @@ class Shell:
     def _numbered(self, objects: Sequence[str]) -> str:
         """Objects by their numbers, the first of them."""
         more = [f'.. {len(objects) - _MOST_TAKEN} more'] if len(objects) > _MOST_TAKEN else []
-        return ', '.join([f'{each} {self.pickle.described(int(each[1:]), 0)}' for each in objects[:_MOST_TAKEN]] + more)
+        return ', '.join([f'{each} {self.pickle.described(number_in_word(each), 0)}' for each in objects[:_MOST_TAKEN]] + more)
 
     def _do_who(self, text: str) -> str:
         maker = self._maker(text)
@@ -454,15 +455,15 @@ class Shell:
 
     def _do_memo(self, text: str) -> str:
         self._here()
-        answer = self.pickle.session.ask('memo').rstrip('\n')
+        answer = self.pickle.session.ask('memo')
         if text:
             found = stored_under(answer, self._count(text))
             if found is None:
                 raise WordError(f'nothing is stored under {text}')
             return f'{text}: #{found} {self.pickle.described(found)}'
-        first, *shown = answer.rsplit(' ', _MOST_LINES) if answer.count(' ') > _MOST_LINES else ['', *answer.split(' ')[1:]]
-        rows = [f'{key}: #{number} {self.pickle.described(int(number))}' for key, _, number in (word.partition('=#') for word in shown)]
-        return '\n'.join(([f'.. {first.count(" ")} before'] if first else []) + rows) or 'empty'
+        shown, before = last_words(answer, _MOST_LINES)
+        rows = [f'{key}: #{number} {self.pickle.described(number)}' for key, number in map(entry_of, shown)]
+        return '\n'.join(([f'.. {before} before'] if before else []) + rows) or 'empty'
 
     def _do_objects(self, text: str) -> str:
         self._here()

@@ -12,10 +12,11 @@ from typing import Any, Callable, Dict, Iterator, List, NamedTuple, Optional, Se
 from ..answers import Calls
 from ..errors import Refused
 from ..python_source import source
+from ..replies import is_mark, last_words, number_in_word, words_of
 from ..session import SHIFTS, Session
 from ..sources import Input, Source
 from ..tasks import modes
-from ..texts import as_made, broken_places, held_in, holding, made_by
+from ..texts import as_made, broken_places, end_of_texts, held_in, holding, made_by, without_number
 from .lines import Lines, OpcodeLines, add_items, cut_text, lines_of, read_all, read_answers, silent
 
 __all__ = ['MOST_EXACT', 'MOST_TEXT', 'Document', 'Done', 'Fields', 'Reaches', 'around', 'in_a_line', 'places_edited']
@@ -277,7 +278,7 @@ class Document:
     def brief(self, number: int) -> str:
         """An object in a line: its kind, its text, and the first of what it holds."""
         heap = self._objects()
-        return heap.brief(number).partition(' ')[2] if 0 <= number < len(heap) else ''
+        return without_number(heap.brief(number)) if 0 <= number < len(heap) else ''
 
     def thing(self, number: int) -> Tuple[str, str]:
         """An object in a line, and what it imports or calls."""
@@ -306,40 +307,40 @@ class Document:
         if not 0 <= number < len(heap):
             return {'parts': [], 'more': 0}
         start, end = heap.span(number)
-        after = max(heap.text.rfind(b"'", start, end), start)
-        shown = [[*held, *self.thing(held.number)] for held in islice(held_in(heap.text, after + 1, end), _MOST_PARTS)]
-        return {'parts': shown, 'more': heap.text.count(b'#', after + 1, end) - len(shown)}
+        after = end_of_texts(heap.text, start, end) + 1
+        shown = [[*held, *self.thing(held.number)] for held in islice(held_in(heap.text, after, end), _MOST_PARTS)]
+        return {'parts': shown, 'more': heap.text.count(b'#', after, end) - len(shown)}
 
     def about(self, number: int) -> Fields:
         """The opcode that made an object, and where the object is: on the stack, in the memo, in other objects."""
         maker = self._makers.place(number) if 0 <= number < self._made() else None
-        stack = [at for at, word in enumerate(self.session.ask('stack').split()[1:]) if word == f'#{number}']
+        stack = [at for at, word in enumerate(words_of(self.session.ask('stack'))) if word == f'#{number}']
         memo = [key for key, other in self.session.memo().items() if other == number]
         return {'maker': maker, 'line': None if maker is None else self.lines.raw(maker).strip(), 'stack': stack[:_MOST_HOLDERS],
                 'memo': memo[:_MOST_HOLDERS], 'held': self._holders(number)}
 
     def effect(self) -> Fields:
         """The top of the stack before the opcode at the cursor and after it, as far as they differ; or why it is refused."""
-        before = self.session.ask('stack').split()[1:]
+        before = words_of(self.session.ask('stack'))
         try:
             self.session.step()
         except Refused as error:
             return {'place': self.place, 'refused': error.text}
-        after = self.session.ask('stack').split()[1:]
+        after = words_of(self.session.ask('stack'))
         self.session.back()
         kept = len(os.path.commonprefix([before, after]))
         kept -= int(kept == len(after) > 0)  # (what is on top then may have changed)
         return {'place': self.place, 'before': self._top(before[kept:]), 'after': self._top(after[kept:])}
 
     def _top(self, words: List[str]) -> Fields:
-        shown = [(word, *(self._thing_then(int(word[1:])) if word[0] == '#' else ('', ''))) for word in words[-_MOST_TOP:]]
+        shown = [(word, *(('', '') if is_mark(word) else self._thing_then(number_in_word(word)))) for word in words[-_MOST_TOP:]]
         return {'things': shown, 'more': len(words) - len(shown)}
 
     def _thing_then(self, number: int) -> Tuple[str, str]:
         """An object at the cursor, or the one that the opcode there makes, before anything is put into it."""
         if number < self._made() or number >= len(self._final):
             return self.thing(number)
-        return as_made(self._final.brief(number).partition(' ')[2]), self.reaches.text_of(number)
+        return as_made(without_number(self._final.brief(number))), self.reaches.text_of(number)
 
     def _holders(self, number: int) -> List[int]:
         """The objects that hold an object, the first of them."""
@@ -347,7 +348,7 @@ class Document:
         found: List[int] = []
         for match in holding(number).finditer(heap.text):
             holder = heap.number_at(match.start())
-            is_in_text = heap.text.find(b"'", match.end(), heap.span(holder)[1]) >= 0
+            is_in_text = end_of_texts(heap.text, *heap.span(holder)) > match.start()
             if holder >= made or len(found) == _MOST_HOLDERS:
                 break
             if not is_in_text and holder not in found:
@@ -374,7 +375,7 @@ class Document:
 
     def final_brief(self, number: int) -> str:
         """An object as it is at the end, in a line."""
-        return self._final.brief(number).partition(' ')[2]
+        return without_number(self._final.brief(number))
 
     # --- Moving ---
 
@@ -533,9 +534,8 @@ def around(lines: Lines, text: bytes, place: int, step: int) -> Iterator[int]:
 
 def _last(answer: str) -> Fields:
     """The last words of an answer of one line, and how many are before them."""
-    words = answer.rstrip('\n').rsplit(' ', _MOST_ENTRIES)
-    first, shown = (words[0], words[1:]) if len(words) > _MOST_ENTRIES else ('', words[1:])
-    return {'words': shown, 'more': first.count(' ')}
+    words, before = last_words(answer, _MOST_ENTRIES)
+    return {'words': words, 'more': before}
 
 
 def places_edited(edits: List[Done]) -> Set[int]:

@@ -15,7 +15,7 @@ from ..listed import bounded, in_columns
 from ..program import Process
 from ..sources import Input
 from ..tasks import left_out
-from ..texts import ITEM_IN_BYTES, Line, begins_with_offset, frames_in, line_of, readonly_count
+from ..texts import ITEM_IN_BYTES, Line, begins_with_offset, frames_in, is_object_at, line_of, offset_at, readonly_count, without_left
 
 __all__ = ['CODE_BY_NAME', 'CUT', 'Line', 'Lines', 'OpcodeLines', 'add_items', 'cut_text', 'line_of', 'lines_of', 'read_all', 'read_answers', 'shown_code', 'silent']
 
@@ -124,8 +124,7 @@ class OpcodeLines(Lines):
 
     def offset(self, place: int) -> int:
         """The offset of the opcode at a place."""
-        start = self.start(place)
-        return int(self.text[start:self.text.index(b':', start)])
+        return offset_at(self.text, self.start(place))
 
     def place_of(self, offset: int) -> int:
         """The place of the opcode that holds an offset."""
@@ -270,9 +269,10 @@ def _read_listing(blocks: Iterable[bytes], listing: OpcodeLines, told: Callable[
         listing.closing.insert(0, listing.drop_last())
     if not listing.closing:
         raise ProgramError('the program gave no whole listing')
-    if b'\nleft: ' in listing.text:  # (what a STOP left comes after it, also where another pickle follows)
+    opcodes = without_left(listing.text)
+    if opcodes is not None:  # (what a STOP left comes after it, also where another pickle follows)
         whole = OpcodeLines(None if listing.finds_codes else bytes(listing.makers.codes))
-        whole.add(b''.join(line for line in bytes(listing.text).splitlines(keepends=True) if not line.startswith(b'left: ')))
+        whole.add(opcodes)
         whole.whole, whole.closing = listing.whole, listing.closing
         return whole
     return listing
@@ -305,7 +305,7 @@ def add_items(listing: OpcodeLines, given: Input, options: Sequence[str] = ()) -
 def _read_objects(blocks: Iterable[bytes], told: Callable[[str], None]) -> Lines:
     objects = Lines()
     _read(objects, blocks, told, 'objects')
-    while len(objects) and objects.text[objects.start(len(objects) - 1)] != ord('#'):
+    while len(objects) and not is_object_at(objects.text, objects.start(len(objects) - 1)):
         objects.drop_last()
     return objects
 

@@ -82,7 +82,7 @@ function showHeader(state) {
   by('reached').textContent = `imports ${state.imports[0]} of ${state.imports[1]}, calls ${state.calls[0]} of ${state.calls[1]}` +
     (state.unknown ? ` in this part: ${state.unknown}` : '');
   by('closing').textContent = state.closing.join('; ');
-  by('read-on').hidden = !state.closing.some((line) => line.startsWith('kept: '));
+  by('read-on').hidden = !keptOf(state.closing);
   by('edit').disabled = by('save').disabled = Boolean(state.part);
   for (const word of ['undo', 'redo']) {
     by(word).disabled = !state[word];

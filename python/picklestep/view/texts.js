@@ -11,6 +11,15 @@ function unquoted(quotedText) {
   return latin(inner);
 }
 
+// The bytes of a name, and whether it is of a string of Python 2.
+function nameOf(name) {
+  const isRaw = name.startsWith('raw ');
+  return { isRaw, bytes: unquoted(isRaw ? name.slice(4) : name) };
+}
+
+// A number that is shown by its bytes: whether it is a float, and its bytes in hexadecimal.
+const numberBytes = (text) => ({ isFloat: text.startsWith('f8:'), hex: text.slice(3) });
+
 // A quoted text as it stands, but without quotes, also before signs that are escaped for them.
 const withoutQuotes = (quotedText) => quotedText.slice(1, -1).replace(/\\(['\\])/g, '$1');
 
@@ -83,6 +92,9 @@ const isLeft = (line) => line.startsWith('left: ');
 
 // What a closing line says behind a word, or nothing.
 const closingOf = (closing, word) => (closing.findLast((line) => line.startsWith(`${word}: `)) || '').slice(word.length + 2);
+
+// The code that the words of a refusal or a fault begin with.
+const codeOfWords = (words) => words.split(' ')[0];
 
 // How many bytes are after STOP, as closing lines say it.
 const keptOf = (closing) => Number(closingOf(closing, 'kept').split(' ')[0]);
@@ -203,6 +215,12 @@ const numberOf = (word) => Number(word.slice(1));
 function entryOf(word) {
   const [key, number] = word.split('=#');
   return { key, number: Number(number) };
+}
+
+// The last words of either, and how many are before them.
+function lastWords(answer, most) {
+  const words = wordsOf(answer);
+  return { words: words.slice(-most), more: Math.max(0, words.length - most) };
 }
 
 // The numbers of objects in words of either.

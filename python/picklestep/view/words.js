@@ -117,8 +117,9 @@ function pythonOfCut(beginning, kind) {
 const CONSTANTS = { none: 'None', true: 'True', false: 'False' };
 
 function pythonNumber(text) {
-  if (text.startsWith('f8:')) return pythonFloat(floatOfHex(text.slice(3)));
-  return text.length > 131 ? text : String(wholeOfHex(text.slice(3)));
+  const { isFloat, hex } = numberBytes(text);
+  if (isFloat) return pythonFloat(floatOfHex(hex));
+  return hex.length > 128 ? text : String(wholeOfHex(hex));
 }
 
 // The values in a line of the program, as Python writes them. The rest of the line stays.
@@ -148,8 +149,7 @@ const DOTTED = /^[\p{L}\p{Nl}_][\p{L}\p{Nl}\p{M}\p{Nd}\p{Pc}]*(\.[\p{L}\p{Nl}_][
 
 // A name of a module, or in it. What is no name is shown with quotes.
 function shownName(quotedText) {
-  const isRaw = quotedText.startsWith('raw ');
-  const bytes = unquoted(isRaw ? quotedText.slice(4) : quotedText), text = isRaw ? null : utf8(bytes);
+  const { isRaw, bytes } = nameOf(quotedText), text = isRaw ? null : utf8(bytes);
   if (text === null) return pythonBytes(bytes);
   return DOTTED.test(text) && !HIDDEN.test(text) ? text : pythonText(text);
 }

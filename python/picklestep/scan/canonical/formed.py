@@ -10,7 +10,8 @@ from typing import Optional
 from ... import library
 from ...errors import OutOfMemory, PicklestepError, TimedOut
 from ...program import run_program, time_to_wait
-from ...texts import IN_FORM, LinesError, other_form
+from ...replies import IN_FORM, other_form
+from ...texts import LinesError
 from ..blobs import Blob, Budget, FileBlob, JoinedBlob, PartMet, spooled
 from .forms import NotCanonical
 

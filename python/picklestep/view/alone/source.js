@@ -124,7 +124,7 @@ function sourceOf(content, offsets, closing, { opcodes, facts, saidAt }) {
   const writer = new Writer(builder.names);
   for (const event of builder.events) event.write(writer);
   if (early) {
-    writer.lines.push(`# ${early}: reading ends here${early.startsWith('F1 ') ? '' : facts.behind}, and the stack is`);
+    writer.lines.push(`# ${early}: reading ends here${codeOfWords(early) === 'F1' ? '' : facts.behind}, and the stack is`);
     writer.end(`stack = [${left.map(String).join(', ')}]`, null);
   }
   if (kept) writer.lines.push(`# ${kept} bytes after STOP are not read`);
