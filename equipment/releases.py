@@ -1,4 +1,4 @@
-"""Tries the released programs, from outside: in a fresh clone, where something was changed, installed, and with nothing but the C library.
+"""Tries the released programs, from outside: in a fresh clone, where something was changed, and installed.
 
 Another program that is tried takes the place of the released one for this machine, as a commit of the clone."""
 
@@ -29,7 +29,8 @@ LISTING = """\
    24: .    STOP
 highest protocol among opcodes = 1
 """
-DIST = "dist/linux-x86_64"
+# The program that users start on this machine, and the folder of the one that the proofs built.
+RELEASED, BUILT = "dist/linux-x86_64-static/picklestep", "dist/linux-x86_64"
 # What is on the path instead of the toolchain: it writes down that it was called, and builds what it is asked to.
 STAND_IN = """\
 #!/bin/bash
@@ -94,11 +95,12 @@ class Releases:
 
     def put_in(self, at: pathlib.Path) -> None:
         """Lets the program that is tried be the released one of a clone."""
-        there, content = at / DIST / "picklestep", self.program.read_bytes()
+        there, sums, content = at / RELEASED, at / "dist/SHA256SUMS", self.program.read_bytes()
         if content == there.read_bytes():
             return
         there.write_bytes(content)
-        (at / DIST / "SHA256SUMS").write_text(f"{hashlib.sha256(content).hexdigest()}  picklestep\n")
+        name = RELEASED.partition("/")[2]
+        sums.write_text(re.sub(f"(?m)^.*  {name}$", f"{hashlib.sha256(content).hexdigest()}  {name}", sums.read_text()))
         done = self.run("git", *COMMITTER, "commit", "-q", "-a", "-m", "Another program", at=at)
         if done.status != 0:
             raise OSError(f"git commit: {done.errors[:200]}")
@@ -233,12 +235,22 @@ def source_changed(releases: Releases) -> str:
 def program_changed(releases: Releases) -> str:
     at = releases.copy("program")
     releases.lists("./picklestep", at=at)
-    change_byte(at / DIST / "picklestep")
+    was = (at / RELEASED).read_bytes()
+    change_byte(at / RELEASED)
     why = is_refused(releases, at, "SHA256SUMS")
     if why:
         return why
-    (at / DIST / "picklestep").unlink()
-    return is_refused(releases, at, "SHA256SUMS")
+    (at / RELEASED).unlink()
+    why = is_refused(releases, at, "SHA256SUMS")
+    if why:
+        return why
+    (at / RELEASED).write_bytes(was)
+    (at / RELEASED).chmod(0o755)
+    change_byte(at / BUILT / "picklestep")
+    check = releases.run("./release", "--check", at=at)
+    if check.status != 1 or "SHA256SUMS" not in check.errors:
+        return f"what the proofs built: status {check.status}, errors {check.errors[:200]!r}"
+    return releases.lists("./picklestep", at=at)
 
 
 def crates_changed(releases: Releases) -> str:
@@ -286,8 +298,8 @@ def other_machine(releases: Releases) -> str:
 def release_again(releases: Releases) -> str:
     """From the program that the proofs built: where it is the released one nothing changes, else all that depends on it does."""
     at = releases.copy("again")
-    version = (at / DIST / "TOOLCHAIN").read_text().strip()
-    same = {"BUILT": str(releases.clone / DIST / "picklestep"), "VERSION": version}
+    version = (at / BUILT / "TOOLCHAIN").read_text().strip()
+    same = {"BUILT": str(releases.clone / BUILT / "picklestep"), "VERSION": version}
     for _ in range(2):
         run = releases.run_stand_in("./release", at=at, **same)
         if run.status != 0 or len(run.output.splitlines()) != 1:
@@ -297,9 +309,9 @@ def release_again(releases: Releases) -> str:
             return f"the same program: {status.output[:200]}"
     change_byte(at / "crates/picklestep/src/main.rt")
     other = releases.folder / "other"
-    other.write_bytes((releases.clone / DIST / "picklestep").read_bytes() + b"\n")
+    other.write_bytes((releases.clone / BUILT / "picklestep").read_bytes() + b"\n")
     run = releases.run_stand_in("./release", "--program", at=at, BUILT=str(other), VERSION=version)
-    if run.status != 0 or (at / DIST / "picklestep").read_bytes() != other.read_bytes():
+    if run.status != 0 or (at / BUILT / "picklestep").read_bytes() != other.read_bytes():
         return f"another program: status {run.status}, errors {run.errors[:200]!r}"
     check = releases.run("./release", "--check", at=at)
     if check.status != 1 or "dist/SOURCES" not in check.errors:
@@ -349,7 +361,7 @@ def builds(releases: Releases) -> str:
     """From nothing what earlier runs kept of the program's crates is taken away; else it stays."""
     at = releases.copy("built")
     of_product, of_tests = at / "crates/pickle_io/out/kept", at / "crates/unit_tests/out/kept"
-    same = {"BUILT": str(releases.clone / DIST / "picklestep")}
+    same = {"BUILT": str(releases.clone / BUILT / "picklestep")}
     ways: list[tuple[list[str], bool]] = [(["--kept"], True), ([], False)]
     for words, stays in ways:
         for file in (of_product, of_tests):
@@ -369,56 +381,15 @@ def builds(releases: Releases) -> str:
 
 
 def told_beside_it(releases: Releases) -> str:
-    dist = releases.clone / DIST
+    dist = releases.clone / BUILT
     names = sorted(os.listdir(dist))
-    if names != ["GLIBC", "SHA256SUMS", "SOURCES", "TOOLCHAIN", "picklestep"]:
+    if names != ["SHA256SUMS", "SOURCES", "TOOLCHAIN", "picklestep"]:
         return f"there is {names}"
     if releases.run("sha256sum", "--check", "--status", "SHA256SUMS", at=dist).status != 0:
         return "the sum"
-    least = (dist / "GLIBC").read_text().strip()
-    if shutil.which("readelf"):
-        said = releases.run("readelf", "--version-info", "--wide", str(dist / "picklestep")).output
-        versions = [tuple(map(int, number.split("."))) for number in re.findall(r"GLIBC_([\d.]+)", said)]
-        if tuple(map(int, least.split("."))) != max(versions):
-            return f"glibc {least}, and not {max(versions)}"
+    toolchain = (dist / "TOOLCHAIN").read_text().strip()
     readme = " ".join((releases.clone / "README.md").read_text().split())
-    for what in (f"glibc {least}", (dist / "TOOLCHAIN").read_text().strip()):
-        if what not in readme:
-            return f"README.md does not tell {what}"
-    return ""
-
-
-# --- With the C library alone ---
-
-
-def libraries(program: pathlib.Path) -> list[str]:
-    said = subprocess.run(["ldd", str(program)], capture_output=True, text=True, check=True).stdout
-    return re.findall(r"(/\S+) \(0x", said)
-
-
-def runs_bare(releases: Releases) -> str:
-    bare = releases.folder / "bare"
-    program = releases.clone / DIST / "picklestep"
-    (bare / "bin").mkdir(parents=True)
-    shutil.copy(program, bare / "bin" / "picklestep")
-    shutil.copy(releases.folder / "hostile.pickle", bare)
-    files = libraries(program)
-    if len(files) != 2:
-        return f"it needs {files}"
-    for file in files:
-        (bare / file[1:]).parent.mkdir(parents=True, exist_ok=True)
-        shutil.copy(file, bare / file[1:])
-    loader = next(file for file in files if "ld-linux" in file)
-    library = next(file for file in files if "ld-linux" not in file)
-    words = [f"{bare}{loader}", "--inhibit-cache", "--library-path", str(bare / library[1:].rsplit("/", 1)[0]), "bin/picklestep"]
-    why = releases.lists(*words, at=bare)
-    if why:
-        return f"by its loader: {why}"
-    may_change_root = releases.run("chroot", str(bare), "/bin/picklestep", at=bare)
-    if may_change_root.status == 125:
-        return ""
-    run = releases.run("chroot", str(bare), "/bin/picklestep", "list", "/hostile.pickle", at=bare)
-    return "" if (run.status, run.output, run.errors) == (0, LISTING, "") else f"in a chroot: {run}"
+    return "" if toolchain in readme else f"README.md does not tell {toolchain}"
 
 
 # --- Installed ---
@@ -451,6 +422,8 @@ def installs(releases: Releases) -> str:
             return f"status {run.status}, errors {run.errors[:200]!r}"
     if files_below(prefix) != sorted([*installed_files(releases), "bin/other"]):
         return f"there is {files_below(prefix)}"
+    if not filecmp.cmp(prefix / "lib/picklestep/picklestep/bin/picklestep", releases.clone / RELEASED, shallow=False):
+        return "it is not the released program"
     entrance = str(prefix / "bin" / "picklestep")
     why = releases.lists(entrance)
     if why:
@@ -562,7 +535,7 @@ def completions(releases: Releases) -> str:
 TRIED: list[tuple[str, Callable[[Releases], str]]] = [
     ("the first start in a fresh clone", clone_starts),
     ("a start in a clone that may not be written", starts_read_only),
-    ("what stands beside the released program", told_beside_it),
+    ("what stands beside the program of the proofs", told_beside_it),
     ("a source that was changed", source_changed),
     ("a released program that was changed", program_changed),
     ("crates that come to it", crates_changed),
@@ -571,7 +544,6 @@ TRIED: list[tuple[str, Callable[[Releases], str]]] = [
     ("a page for browsers that was changed", page_changed),
     ("a build", builds),
     ("a release from a built program", release_again),
-    ("the released program with the C library alone", runs_bare),
     ("installed and taken away", installs),
     ("installed at home", installs_at_home),
     ("the manual pages", manual),
@@ -581,10 +553,10 @@ TRIED: list[tuple[str, Callable[[Releases], str]]] = [
 
 def is_the_built(root: pathlib.Path) -> str:
     """Proofs from nothing build the program again, byte for byte."""
-    built, released = root / "crates/picklestep/out/picklestep", root / DIST / "picklestep"
-    return "" if filecmp.cmp(built, released, shallow=False) else f"{built} and {released} differ"
+    built, kept = root / "crates/picklestep/out/picklestep", root / BUILT / "picklestep"
+    return "" if filecmp.cmp(built, kept, shallow=False) else f"{built} and {kept} differ"
 
 
 def trials(releases: Releases) -> list[Trial]:
-    built = Trial("the program of the proofs is the released one", functools.partial(is_the_built, releases.root))
+    built = Trial("the program of the proofs is the one in dist", functools.partial(is_the_built, releases.root))
     return [built, *(Trial(name, functools.partial(releases.tried, attempt)) for name, attempt in TRIED)]

@@ -87,10 +87,12 @@ def run(words: Sequence[Word], at: Path, given: Optional[bytes] = None, seconds:
 
 @dataclass
 class Room:
-    """`program` is the binary. `start` is the script that users start, except that it does not choose a program but starts this one."""
+    """`program` is the binary that users start, and `proved` the one that the proofs built, which loads a library before it. `start` is the script
+    that users start, except that it does not choose a program but starts this one."""
 
     root: Path
     program: Path
+    proved: Path
     folder: Path
     requests: int = 0
 
