@@ -1,6 +1,8 @@
 # shellcheck shell=bash disable=SC2034,SC2154
 # Which program is started: what ./picklestep, ./build, ./release, ./install and ./test know of it together. They set `root`,
 # the folder of the repository, before they read this file.
+#
+# macOS has bash 3.2, and commands with fewer options. What the entrance and ./install use of this keeps to both.
 
 # The program as it is built here, and the folder of the same as it was last released: it needs glibc, and a processor of x86-64-v2. What
 # users start is made of the same build, and lies in `further`.
@@ -10,6 +12,10 @@ released=$root/dist/linux-x86_64
 further=$root/dist
 checked=$root/out/released
 
+# What sums files up. (macOS has another command, which writes the same lines.)
+summing=(sha256sum)
+command -v sha256sum >/dev/null || summing=(shasum -a 256)
+
 complain() {
     echo "picklestep: $1" >&2
 }
@@ -17,21 +23,19 @@ complain() {
 # The lines of crates.txt for the program and for each crate that it uses, sorted. No crate of tests is among them: it
 # changes nothing of the program.
 product_lines() {
-    local -A libraries=() seen=()
-    local name libraries_of more todo=(picklestep)
-    while IFS=: read -r name libraries_of; do
-        libraries[${name:-#}]=$libraries_of
-    done <"$root/crates.txt"
-    while [ "${#todo[@]}" -gt 0 ]; do
-        name=${todo[0]}
-        todo=("${todo[@]:1}")
-        if [ -n "${libraries[$name]-}" ] && [ -z "${seen[$name]-}" ]; then
-            seen[$name]=yes
-            read -r -a more <<<"${libraries[$name]}"
-            todo+=("${more[@]}")
-            echo "$name:${libraries[$name]}"
-        fi
-    done | LC_ALL=C sort
+    local wanted=' picklestep ' before='' name libraries library
+    while [ "$wanted" != "$before" ]; do
+        before=$wanted
+        while IFS=: read -r name libraries; do
+            [[ $wanted == *" $name "* ]] || continue
+            for library in $libraries; do
+                [[ $wanted == *" $library "* ]] || wanted+="$library "
+            done
+        done <"$root/crates.txt"
+    done
+    while IFS=: read -r name libraries; do
+        [[ $wanted != *" $name "* ]] || echo "$name:$libraries"
+    done <"$root/crates.txt" | LC_ALL=C sort
 }
 
 # The crates of the program.
@@ -46,19 +50,19 @@ product_files() {
     for name in $(product_crates); do
         folders+=("crates/$name"/{src,specs,proofs})
     done
-    find "${folders[@]}" -type f -print0 2>/dev/null | LC_ALL=C sort -z | xargs -0 -r sha256sum --
+    find "${folders[@]}" -type f -print0 2>/dev/null | LC_ALL=C sort -z | xargs -0 "${summing[@]}" --
 }
 
 # The SHA-256 over the lines of crates.txt, and over the names and contents of the files. Times and modes do not count.
 sum_of_sources() {
-    { product_lines && (product_files); } | sha256sum | cut -d ' ' -f 1
+    { product_lines && (product_files); } | "${summing[@]}" | cut -d ' ' -f 1
 }
 
-# newer_source FILE [FOLDER]: a source, or a file of FOLDER, that is newer than FILE; nothing where there is none. The folders
+# newer_source FILE [FOLDER..]: the sources, and files of FOLDERs, that are newer than FILE; nothing where there are none. The folders
 # count too: their times show that a file was taken away.
 newer_source() {
     shopt -s nullglob
-    find "$root"/crates.txt "$root"/crates/*/{src,specs,proofs} "${@:2}" -newer "$1" -print -quit 2>/dev/null
+    find "$root"/crates.txt "$root"/crates/*/{src,specs,proofs} "${@:2}" -newer "$1" -print 2>/dev/null
 }
 
 # Whether the program was built here, from the sources as they are. (Another machine that sees the folder may not be able to start it.)
@@ -71,7 +75,7 @@ is_built() {
 release_fault() {
     if [ ! -r "$released/SOURCES" ] || [ "$(sum_of_sources)" != "$(<"$released/SOURCES")" ]; then
         echo 'dist/linux-x86_64/SOURCES is not the sum of the sources'
-    elif ! (cd -- "$released" && sha256sum -c SHA256SUMS) >/dev/null 2>&1; then
+    elif ! (cd -- "$released" && "${summing[@]}" -c SHA256SUMS) >/dev/null 2>&1; then
         echo 'dist/linux-x86_64/picklestep has not the sum in SHA256SUMS'
     fi
 }
@@ -81,17 +85,17 @@ release_fault() {
 sum_of_further() {
     {
         sum_of_sources
-        grep '^picklestep_library ' -- "$root/crates.txt"
+        grep '^picklestep_library ' "$root/crates.txt"
         (cd -- "$root" && find targets crates/picklestep_library/{src,specs,proofs} -type f -not -name '*.pyc' -not -name page.py -print0 |
-            LC_ALL=C sort -z | xargs -0 -r sha256sum --)
-    } | sha256sum | cut -d ' ' -f 1
+            LC_ALL=C sort -z | xargs -0 "${summing[@]}" --)
+    } | "${summing[@]}" | cut -d ' ' -f 1
 }
 
 # The same for the programs that users start.
 further_fault() {
     if [ ! -r "$further/SOURCES" ] || [ "$(sum_of_further)" != "$(<"$further/SOURCES")" ]; then
         echo 'dist/SOURCES is not the sum of the sources and of targets/'
-    elif ! (cd -- "$further" && sha256sum -c SHA256SUMS) >/dev/null 2>&1; then
+    elif ! (cd -- "$further" && "${summing[@]}" -c SHA256SUMS) >/dev/null 2>&1; then
         echo 'a file of dist has not the sum in dist/SHA256SUMS'
     fi
 }

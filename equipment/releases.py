@@ -18,7 +18,7 @@ from dataclasses import dataclass, field
 
 from saves import unprivileged
 from trials.samples import HOSTILE
-from trials.trial import Trial
+from trials.trial import Skip, Trial
 
 LISTING = """\
     0: c    GLOBAL     'posix' 'system'
@@ -44,6 +44,28 @@ else
     exit 1
 fi
 """
+# What a Mac has in the place of sha256sum and says of itself, and the options that commands of an older one refuse.
+SHASUM = """\
+#!/bin/sh
+[ "$1 $2" = '-a 256' ] && shift 2 && exec {sha256sum} "$@"
+"""
+UNAME = """\
+#!/bin/sh
+[ "$*" = -sm ] && echo Darwin arm64
+"""
+LESSER = """\
+#!/bin/sh
+for word; do
+    case $word in
+    {options}) echo "{name}: illegal option $word" >&2 && exit 1 ;;
+    esac
+done
+exec {real} "$@"
+"""
+REFUSED = {"chmod": "--", "find": "-quit | -printf", "readlink": "-f", "sort": "-V", "stat": "-c*", "xargs": "-r"}
+# Words of bash that a Mac's, which is 3.2, does not know, and the scripts that it runs.
+NEWER_BASH = r"\b(local|declare|typeset) -\w*[Ang]|\b(mapfile|readarray|coproc|globstar)\b|\$\{[^}]*(\^|,,?\}|@\w\})|&>>|\|&|\[\[ -v|;;?&|\$EPOCH"
+OF_ENTRANCE = ("picklestep", "install", "equipment/program.sh", "python/picklestep/help/start.sh", "share/picklestep.sh")
 SECONDS = 5.0
 COMMITTER = ("-c", "user.name=trials", "-c", "user.email=trials@localhost")
 
@@ -140,6 +162,39 @@ class Releases:
         (folder / "uname").write_text("#!/bin/sh\necho Plan9 mips\n")
         (folder / "uname").chmod(0o755)
         return self.run(*words, at=at, PATH=f"{folder}:{self.folder}/bin:{PATH or self.environment['PATH']}")
+
+    @functools.cached_property
+    def node(self) -> str:
+        """A folder with Node alone."""
+        found = shutil.which("node")
+        if found is None:
+            raise Skip("there is no Node")
+        (self.folder / "node").mkdir()
+        (self.folder / "node/node").symlink_to(found)
+        return str(self.folder / "node")
+
+    @functools.cached_property
+    def mac(self) -> str:
+        """A folder with the commands of this machine, but without Node and with no more than a Mac's can."""
+        folder = self.commands("mac", "node", "getconf", "sha256sum")
+        scripts = {"shasum": SHASUM.format(sha256sum=shutil.which("sha256sum")), "uname": UNAME}
+        for name, options in REFUSED.items():
+            scripts[name] = LESSER.format(options=options, name=name, real=shutil.which(name))
+        for name, text in scripts.items():
+            (folder / name).unlink(missing_ok=True)
+            (folder / name).write_text(text)
+            (folder / name).chmod(0o755)
+        return str(folder)
+
+    def commands(self, name: str, *without: str) -> pathlib.Path:
+        """A folder with the commands of this machine, but for some."""
+        made = self.folder / name
+        made.mkdir()
+        for folder in ("/bin", "/usr/bin"):
+            for command in os.listdir(folder):
+                if not command.startswith(without) and not (made / command).is_symlink():
+                    (made / command).symlink_to(f"{folder}/{command}")
+        return made
 
     def copy(self, name: str) -> pathlib.Path:
         """A copy of the clone that may be changed."""
@@ -279,17 +334,47 @@ def other_machine(releases: Releases) -> str:
         start = releases.run_elsewhere("./picklestep", "list", str(releases.folder / "hostile.pickle"), at=at)
         if (start.status, start.output, start.errors) != (0, LISTING, ""):
             return f"with Node: status {start.status}, errors {start.errors[:200]!r}"
-    few = releases.folder / "few"
-    few.mkdir()
-    for folder in ("/bin", "/usr/bin"):
-        for name in os.listdir(folder):
-            if not name.startswith("node") and not (few / name).is_symlink():
-                (few / name).symlink_to(f"{folder}/{name}")
-    start = releases.run_elsewhere("./picklestep", "list", "x", at=at, PATH=str(few))
+    start = releases.run_elsewhere("./picklestep", "list", "x", at=at, PATH=str(releases.commands("few", "node")))
     if start.status != 2 or start.output or releases.called.exists():
         return f"status {start.status}, errors {start.errors[:200]!r}"
     said = start.errors.splitlines()
     return "" if len(said) == 1 and "no program for this machine (Plan9 mips)" in said[0] else start.errors[:200]
+
+
+def on_mac(releases: Releases) -> str:
+    """A clone has the module, and is installed; its entrance is found through a link, and from its own folder."""
+    at, prefix = releases.copy("on a mac"), releases.folder / "of a mac"
+    path = f"{releases.node}:{releases.mac}"
+    install = releases.run("./install", str(prefix), at=at, PATH=path)
+    if install.status != 0 or install.errors:
+        return f"installed: status {install.status}, errors {install.errors[:200]!r}"
+    entrance = prefix / "bin/picklestep"
+    for folder, name, to in ((at, "linked", "picklestep"), (prefix, "linked", "bin/picklestep"), (prefix, "further", str(prefix / "linked"))):
+        (folder / name).symlink_to(to)
+    hostile = str(releases.folder / "hostile.pickle")
+    ways = ((at, "./picklestep"), (at, "bash", "picklestep"), (at, "./linked"), (at.parent, str(at / "linked")), (prefix, "bin/picklestep"),
+            (prefix / "bin", "sh", "picklestep"), (prefix / "bin", "../linked"), (at, str(prefix / "further")), (at, str(entrance)))
+    for folder, *words in ways:
+        start = releases.run(*words, "list", hostile, at=folder, PATH=path)
+        if (start.status, start.output, start.errors) != (0, LISTING, ""):
+            return f"{words}: status {start.status}, output {start.output[:60]!r}, errors {start.errors[:200]!r}"
+    change_byte(at / "dist/picklestep.wasm")
+    start = releases.run("./picklestep", "list", hostile, at=at, PATH=path)
+    if start.status != 2 or start.errors.count("\n") != 1 or "./release" not in start.errors:
+        return f"a module that was changed: status {start.status}, errors {start.errors[:200]!r}"
+    start = releases.run("./picklestep", "list", hostile, at=at, PATH=releases.mac)
+    said = "no program for this machine (Darwin arm64)"
+    return "" if start.status == 2 and said in start.errors else f"without Node: status {start.status}, errors {start.errors[:200]!r}"
+
+
+def older_bash(releases: Releases) -> str:
+    """What a Mac's bash does not know stands in no script that the entrance and the installation run."""
+    for name in OF_ENTRANCE:
+        for number, line in enumerate((releases.clone / name).read_text().splitlines(), 1):
+            found = re.search(NEWER_BASH, line)
+            if found and not line.lstrip().startswith("#"):
+                return f"{name}, line {number}: {found[0]}"
+    return ""
 
 
 # --- The release ---
@@ -540,6 +625,8 @@ TRIED: list[tuple[str, Callable[[Releases], str]]] = [
     ("a released program that was changed", program_changed),
     ("crates that come to it", crates_changed),
     ("another machine", other_machine),
+    ("a machine with the commands of a Mac", on_mac),
+    ("no script of the entrance needs a bash that a Mac has not", older_bash),
     ("a program for a further machine that was changed", further_changed),
     ("a page for browsers that was changed", page_changed),
     ("a build", builds),

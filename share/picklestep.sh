@@ -1,8 +1,15 @@
 #!/bin/sh
 # The entrance, as ./install puts it on the path: bin/picklestep, with the package and the program in lib/picklestep.
 
-here=$(readlink -f -- "$0")
-package=${here%/bin/*}/lib/picklestep/picklestep
+here=$0
+while [ -h "$here" ]; do # (an older macOS has no readlink -f)
+    link=$(readlink -- "$here")
+    case $link in
+    /*) here=$link ;;
+    *) here=$(dirname -- "$here")/$link ;;
+    esac
+done
+package=$(CDPATH='' cd -- "$(dirname -- "$here")/.." && pwd -P)/lib/picklestep/picklestep
 . "$package/help/start.sh"
 
 choose_program() {

@@ -102,7 +102,7 @@ class Room:
         made.parent.mkdir()
         text = (self.root / "picklestep").read_text("utf-8")
         for place, words in (
-            ("root=${here%/*}", f"root={shlex.quote(str(self.root))}"),
+            ("root=$(CDPATH='' cd -- \"${here%/*}/\" && pwd -P)", f"root={shlex.quote(str(self.root))}"),
             ('. "$root/equipment/program.sh"', f"choose_program() {{ chosen={shlex.quote(str(self.program))}; }}\nname_program() {{ :; }}"),
         ):
             if text.count(place) != 1:
