@@ -483,13 +483,15 @@ PAGES = ("share/man/man1/picklestep.1", "share/man/man1/picklestep-scan.1", "sha
 BASH = "share/bash-completion/completions/picklestep"
 ZSH = "share/zsh/site-functions/_picklestep"
 PROGRAM = ("picklestep", "TOOLCHAIN", "libpicklestep.so")
+MODULE = ("picklestep.mjs", "picklestep.wasm", "libpicklestep.wasm", "TOOLCHAIN")
+ASK_LIBRARY = "from picklestep import library, place; print(library.answer(['list'], b'N.') is not None, place.find_program().rpartition('/')[2])"
 
 
-def installed_files(releases: Releases) -> list[str]:
+def installed_files(releases: Releases, program: tuple[str, ...] = PROGRAM) -> list[str]:
     """What an installation has: the entrance, the package with the program, the pages and completions."""
     package = releases.clone / "python"
     modules = [str(path.relative_to(package)) for path in (package / "picklestep").rglob("*") if path.is_file() and path.suffix != ".pyc"]
-    beside = [f"picklestep/bin/{name}" for name in PROGRAM]
+    beside = [f"picklestep/bin/{name}" for name in program]
     return sorted(["bin/picklestep", *(f"lib/picklestep/{name}" for name in [*modules, *beside]), *PAGES, BASH, ZSH])
 
 
@@ -539,6 +541,28 @@ def installs_at_home(releases: Releases) -> str:
     (home / "file").write_text("")
     run = releases.run("./install", str(home / "file"))
     return "" if run.status == 2 else f"into a file: status {run.status}"
+
+
+def installs_module(releases: Releases) -> str:
+    """Where there is no program the module is installed with its library, and a sentence says it where Node has gone."""
+    prefix = releases.folder / "of the module"
+    path = f"{releases.node}:{releases.mac}"
+    run = releases.run("./install", str(prefix), PATH=path)
+    if run.status != 0 or run.errors or files_below(prefix) != installed_files(releases, MODULE):
+        return f"status {run.status}, errors {run.errors[:200]!r}, and there is {files_below(prefix)}"
+    for name in MODULE:
+        released = f"{BUILT}/{name}" if name == "TOOLCHAIN" else f"dist/{name}"
+        if not filecmp.cmp(prefix / "lib/picklestep/picklestep/bin" / name, releases.clone / released, shallow=False):
+            return f"{name} is not the released one"
+    settings = {"PYTHONPATH": str(prefix / "lib/picklestep"), "PYTHONDONTWRITEBYTECODE": "1"}
+    asked = releases.run("python3", "-c", ASK_LIBRARY, at=prefix, PATH=path, **settings)
+    if asked.output != "True picklestep.mjs\n":
+        return f"a small question: {asked.output!r}, errors {asked.errors[:200]!r}"
+    for words in (["list", "x"], ["scan", "x"]):
+        run = releases.run(str(prefix / "bin/picklestep"), *words, PATH=releases.mac, PYTHONDONTWRITEBYTECODE="1")
+        if run.status != 2 or run.output or run.errors.count("\n") != 1 or "Node 20 or later on the path" not in run.errors:
+            return f"{words} without Node: status {run.status}, errors {run.errors[:200]!r}"
+    return ""
 
 
 def manual(releases: Releases) -> str:
@@ -633,6 +657,7 @@ TRIED: list[tuple[str, Callable[[Releases], str]]] = [
     ("a release from a built program", release_again),
     ("installed and taken away", installs),
     ("installed at home", installs_at_home),
+    ("the module, installed", installs_module),
     ("the manual pages", manual),
     ("the completions", completions),
 ]

@@ -15,7 +15,11 @@ package=$(CDPATH='' cd -- "$(dirname -- "$here")/.." && pwd -P)/lib/picklestep/p
 choose_program() {
     # shellcheck disable=SC2034
     chosen=$package/bin/picklestep
-    [ -e "$chosen" ] || chosen=$chosen.mjs # (the module, which Node starts)
+    [ ! -e "$chosen" ] || return 0
+    chosen=$chosen.mjs # (the module)
+    command -v node >/dev/null && return
+    echo 'picklestep: the program is a module, which runs with Node 20 or later on the path (https://nodejs.org)' >&2
+    return 1
 }
 
 enter "$@"
