@@ -4,6 +4,7 @@ from __future__ import annotations
 
 import functools
 import re
+import shutil
 import subprocess
 import sys
 from collections.abc import Iterator
@@ -281,8 +282,8 @@ def build_rust(libraries: Libraries, source: Path, made: Path) -> None:
 
 
 def build_go(libraries: Libraries, source: Path, made: Path) -> None:
-    """(Its cache of what it built is in the folder of the trial.)"""
-    go = libraries.tool("go", "a compiler of Go")
+    """(Its cache of what it built is in the folder of the trial. The Go that GCC has is named so.)"""
+    go = libraries.tool("go" if shutil.which("go") else "go-12", "a compiler of Go")
     at = libraries.dist / X86 / "lib"
     environment = {"PKG_CONFIG_PATH": str(at / "pkgconfig"), "CGO_LDFLAGS": f"-Wl,-rpath,{at}", "HOME": str(libraries.folder), "PATH": "/usr/bin:/bin",
                    "GOPROXY": "off", "GOFLAGS": "-mod=mod", "GO111MODULE": "off"}
