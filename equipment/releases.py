@@ -226,6 +226,12 @@ def clone_starts(releases: Releases) -> str:
             return f"the {number} start: {why}"
     if (releases.clone / "crates/picklestep/out").exists():
         return "it was built"
+    said = releases.run("./picklestep", "--version", PYTHONDONTWRITEBYTECODE="1").output
+    if not said.endswith(f"/{RELEASED}\n") or (releases.clone / BUILT / "TOOLCHAIN").read_text() not in said:
+        return f"its version is {said[-200:]!r}"
+    remembered = (releases.clone / "out/released").read_text()
+    if not remembered.endswith(f"/{RELEASED}\n"):
+        return f"it starts {remembered[-100:]!r}"
     status = releases.run("git", "status", "--porcelain")
     return f"git status: {status.output[:200]}" if status.output else ""
 
