@@ -4,6 +4,7 @@ from __future__ import annotations
 
 import functools
 import re
+import shutil
 import subprocess
 import sys
 from collections.abc import Iterator
@@ -49,7 +50,9 @@ NO_TASKS = (
     ("calls", "--skip", "18446744073709551615:1"),
 )
 X86, ARM, MODULE = "linux-x86_64-library", "linux-aarch64-library", "libpicklestep.wasm"
-MUSL, MUSL_HEADERS = Path("/usr/lib/x86_64-linux-musl"), Path("/usr/include/x86_64-linux-musl")
+MUSL, MUSL_HEADERS, MUSL_LOADER = Path("/usr/lib/x86_64-linux-musl"), Path("/usr/include/x86_64-linux-musl"), Path("/lib/ld-musl-x86_64.so.1")
+# Where Debian has the shared C library of ARM.
+ARM_ROOT = Path("/usr/aarch64-linux-gnu")
 # (of these lines some edit each pickle, and some are refused)
 EDITS = b"insert 0 GLOBAL 6f730a6765746377640a\ngoto 1\nstep\ninsert 2 NONE\nundo\nnonsense\ndelete 3\nframe 2 2\nrun\n"
 WARNINGS = ("-Wall", "-Wextra", "-Werror")
@@ -101,6 +104,11 @@ class Libraries(Machines):
         """The rows of conversations.txt that the library has a function for."""
         return [replace(asked, saves=False) for asked in self.rows() if asked.words in TASKS]
 
+    @functools.cached_property
+    def few(self) -> list[Asked]:
+        """Some of all, with each task among them."""
+        return [*self.real[:: 4 * len(self.tasks) + 1], *self.conversations[::40]]
+
     # --- The ways to link it ---
 
     def static(self) -> list["str | Path"]:
@@ -114,19 +122,41 @@ class Libraries(Machines):
         return [self.compiled("shared", "cc", *flags.decode().split(), f"-Wl,-rpath,{at}")]
 
     def musl(self) -> list["str | Path"]:
+        return [self.with_musl("musl", "-static", self.dist / X86 / "lib/libpicklestep.a", MUSL / "libc.a")]
+
+    def musl_shared(self) -> list["str | Path"]:
+        if not MUSL_LOADER.exists():
+            raise Skip("there is no loader of musl (equipment/install_targets)")
+        at = self.dist / X86 / "lib"
+        words = (f"-Wl,-dynamic-linker,{MUSL_LOADER}", f"-Wl,-rpath,{at}", f"-L{at}", "-lpicklestep", MUSL / "libc.so")
+        return [self.loads(self.with_musl("musl_shared", *words))]
+
+    def with_musl(self, name: str, *words: "str | Path") -> Path:
+        """ask_library.c, linked by these words, and with no C library but those that they name."""
         if not MUSL.is_dir():
             raise Skip("there is no musl (equipment/install_targets)")
-        at = self.dist / X86
         own = self.call("cc", "-print-file-name=include").decode().strip()
-        words = ("-nostdinc", "-isystem", MUSL_HEADERS, "-isystem", own, "-fno-stack-protector", "-nostdlib", "-static", "-no-pie", "-fno-pie")
-        files = (MUSL / "crt1.o", MUSL / "crti.o", at / "lib/libpicklestep.a", MUSL / "libc.a", MUSL / "crtn.o")
-        return [self.compiled("musl", "cc", *words, f"-I{at / 'include'}", *files)]
+        plain = ("-nostdinc", "-isystem", MUSL_HEADERS, "-isystem", own, "-fno-stack-protector", "-nostdlib", "-no-pie", "-fno-pie")
+        at = f"-I{self.dist / X86 / 'include'}"
+        return self.compiled(name, "cc", *plain, at, MUSL / "crt1.o", MUSL / "crti.o", *words, MUSL / "crtn.o")
 
     def arm(self) -> list["str | Path"]:
-        at = self.dist / ARM
+        return self.with_arm("arm", "-static", self.dist / ARM / "lib/libpicklestep.a")
+
+    def arm_shared(self) -> list["str | Path"]:
+        at = self.dist / ARM / "lib"
+        emulator, made = self.with_arm("arm_shared", f"-L{at}", "-lpicklestep")
+        return [emulator, "-L", ARM_ROOT, "-E", f"LD_LIBRARY_PATH={at}", self.loads(Path(made))]
+
+    def with_arm(self, name: str, *words: "str | Path") -> list["str | Path"]:
         emulator = self.tool("qemu-aarch64", "Debian's qemu-user")
-        words = ("-static", f"-I{at / 'include'}", at / "lib/libpicklestep.a")
-        return [emulator, self.compiled("arm", "aarch64-linux-gnu-gcc-12", *words)]
+        return [emulator, self.compiled(name, "aarch64-linux-gnu-gcc-12", f"-I{self.dist / ARM / 'include'}", *words)]
+
+    def loads(self, made: Path) -> Path:
+        """A program that loads the shared library. Another one is a fault of the trial."""
+        if b"[libpicklestep.so]" not in self.call("readelf", "--dynamic", "--wide", made):
+            raise OSError(f"{made.name} loads no libpicklestep.so")
+        return made
 
     def module(self) -> list["str | Path"]:
         return [self.tool("node", "Node 20 or later"), self.root / "equipment/ask_library.mjs", self.dist / MODULE]
@@ -252,8 +282,8 @@ def build_rust(libraries: Libraries, source: Path, made: Path) -> None:
 
 
 def build_go(libraries: Libraries, source: Path, made: Path) -> None:
-    """(Its cache of what it built is in the folder of the trial.)"""
-    go = libraries.tool("go", "a compiler of Go")
+    """(Its cache of what it built is in the folder of the trial. The Go that GCC has is named so.)"""
+    go = libraries.tool("go" if shutil.which("go") else "go-12", "a compiler of Go")
     at = libraries.dist / X86 / "lib"
     environment = {"PKG_CONFIG_PATH": str(at / "pkgconfig"), "CGO_LDFLAGS": f"-Wl,-rpath,{at}", "HOME": str(libraries.folder), "PATH": "/usr/bin:/bin",
                    "GOPROXY": "off", "GOFLAGS": "-mod=mod", "GO111MODULE": "off"}
@@ -271,10 +301,13 @@ WAYS = {
     "arm": "ARM, under an emulator",
     "module": "the module in Node",
 }
+# (one process answers all that is asked in such a way: a few show that it is loaded and finds what it needs of the C library)
+MORE_WAYS = {"musl_shared": "x86-64, shared, with musl", "arm_shared": "ARM, shared, under an emulator"}
 ROWS: list[tuple[str, Callable[[Libraries], "str | Noted"]]] = [
     ("the library: its functions", functions_of),
     ("the library: the header in C++", in_cxx),
     *((f"the library, {name}: {told}", functools.partial(compared, way=way, kind=kind)) for kind, told in KINDS.items() for way, name in WAYS.items()),
+    *((f"the library, {name}: a few of all", functools.partial(compared, way=way, kind="few")) for way, name in MORE_WAYS.items()),
     *((f"the library, {WAYS[way]}: what edits leave", functools.partial(of_edits, way=way)) for way in ("static", "module")),
     *((f"the library, {WAYS[way]}: options of no task", functools.partial(no_tasks, way=way)) for way in ("static", "module")),
     ("the library: random pickles and scripts", fuzzed),

@@ -1,4 +1,4 @@
-"""Tries the programs for further machines: each gives, byte for byte, what the program gives that the proofs built."""
+"""Tries the released programs: each gives, byte for byte, what the program gives that the proofs built."""
 
 from __future__ import annotations
 
@@ -26,6 +26,7 @@ from trials.samples import HOSTILE
 from trials.trial import Noted, Skip, Trial
 
 STATIC, ARM, MODULE, SCRIPTED = "linux-x86_64-static/picklestep", "linux-aarch64/picklestep", "picklestep.wasm", "picklestep.mjs"
+BUILT = "linux-x86_64/picklestep"
 PAGE = Path(__file__).with_name("conversations.txt")
 LINES_OF_A_WORD = 4
 
@@ -327,12 +328,21 @@ def in_empty_root(machines: Machines) -> Noted:
 def on_alpine(machines: Machines) -> Noted:
     """As it is installed there; that of the clone is the same, and the program that needs glibc does not start."""
     root = machines.alpine_root
-    refused = subprocess.run(root.start("/clone/dist/linux-x86_64/picklestep", "list"), capture_output=True, check=False)
+    refused = subprocess.run(root.start(f"/clone/dist/{BUILT}", "list"), capture_output=True, check=False)
     if refused.returncode != 127:
         return Noted(f"the root has a glibc: status {refused.returncode}, errors {beginning(refused.stderr)}", "")
     some = machines.real[:: 10 * len(machines.tasks) + 1]
     found = machines.compare_all(root.start("/clone/picklestep"), some)
     return found if found.why else machines.compare_all(root.start("/usr/local/bin/picklestep"), machines.real)
+
+
+def on_plain(machines: Machines) -> Noted:
+    """On a processor that has only what each of x86-64 has, under an emulator; the program of the proofs, which asks for more, does not start."""
+    plain = [machines.tool("qemu-x86_64", "Debian's qemu-user"), "-cpu", "qemu64"]
+    refused = subprocess.run([*plain, str(machines.dist / BUILT), "list"], capture_output=True, check=False)
+    if refused.returncode != 127:
+        return Noted(f"the processor has more: status {refused.returncode}, errors {beginning(refused.stderr)}", "")
+    return machines.compare_all([*plain, str(machines.dist / STATIC)], machines.real[:: len(machines.tasks) + 1])
 
 
 def in_arm_root(machines: Machines) -> Noted:
@@ -423,6 +433,7 @@ ROWS: list[Row] = [
     ("x86-64, static: needs no other file", lambda machines: alone(machines, STATIC)),
     ("x86-64, static: all real pickles in an empty root", in_empty_root),
     ("x86-64, static: all real pickles on what is like an Alpine", on_alpine),
+    ("x86-64, static: on the plainest processor, under an emulator", on_plain),
     *comparisons("static", "x86-64, static"),
     ("x86-64, static: out of memory is an answer", memory_of_static),
     ("ARM: needs no other file", lambda machines: alone(machines, ARM)),

@@ -1,6 +1,6 @@
 """Tries the Python package: builds its wheel, installs it into a fresh environment without a network, and runs its tests there.
 
-The wheel carries the released program for any Linux and the library, or the program that is tried where that is not the released one. Where
+The wheel carries the released program and the library, or the program that is tried where that is not the released one. Where
 setuptools and wheel are not there, the tests run from the source tree. They run in another interpreter, which starts this file:
 
     packages.py --names             writes the names of the tests
@@ -27,7 +27,7 @@ from trials.trial import Verdict
 
 ROOT = Path(__file__).resolve().parent.parent
 SOURCES = ROOT / 'python'
-RELEASED = ROOT / 'dist' / 'linux-x86_64' / 'picklestep'
+RELEASED = ROOT / 'dist' / 'linux-x86_64-static' / 'picklestep'
 MOST_SECONDS = 600
 # All tests of the package together, on a machine that has much else to do.
 MOST_SECONDS_OF_TESTS = 3600
@@ -142,7 +142,7 @@ def call(words: List[str], folder: Path, seconds: int = MOST_SECONDS, **environm
 
 
 def is_released(program: str) -> bool:
-    """Whether the program that is tried is the released one. The released static one is the same, but for the C library."""
+    """Whether the program that is tried is the released one."""
     return RELEASED.is_file() and filecmp.cmp(program, RELEASED, shallow=False)
 
 

@@ -1,12 +1,20 @@
 # shellcheck shell=bash disable=SC2034,SC2154
 # Which program is started: what ./picklestep, ./build, ./release, ./install and ./test know of it together. They set `root`,
 # the folder of the repository, before they read this file.
+#
+# macOS has bash 3.2, and commands with fewer options. What the entrance and ./install use of this keeps to both.
 
+# The program as it is built here, and the folder of the same as it was last released: it needs glibc, and a processor of x86-64-v2. What
+# users start is made of the same build, and lies in `further`.
 crate=$root/crates/picklestep
 program=$crate/out/picklestep
 released=$root/dist/linux-x86_64
 further=$root/dist
 checked=$root/out/released
+
+# What sums files up. (macOS has another command, which writes the same lines.)
+summing=(sha256sum)
+command -v sha256sum >/dev/null || summing=(shasum -a 256)
 
 complain() {
     echo "picklestep: $1" >&2
@@ -15,21 +23,19 @@ complain() {
 # The lines of crates.txt for the program and for each crate that it uses, sorted. No crate of tests is among them: it
 # changes nothing of the program.
 product_lines() {
-    local -A libraries=() seen=()
-    local name libraries_of more todo=(picklestep)
-    while IFS=: read -r name libraries_of; do
-        libraries[${name:-#}]=$libraries_of
-    done <"$root/crates.txt"
-    while [ "${#todo[@]}" -gt 0 ]; do
-        name=${todo[0]}
-        todo=("${todo[@]:1}")
-        if [ -n "${libraries[$name]-}" ] && [ -z "${seen[$name]-}" ]; then
-            seen[$name]=yes
-            read -r -a more <<<"${libraries[$name]}"
-            todo+=("${more[@]}")
-            echo "$name:${libraries[$name]}"
-        fi
-    done | LC_ALL=C sort
+    local wanted=' picklestep ' before='' name libraries library
+    while [ "$wanted" != "$before" ]; do
+        before=$wanted
+        while IFS=: read -r name libraries; do
+            [[ $wanted == *" $name "* ]] || continue
+            for library in $libraries; do
+                [[ $wanted == *" $library "* ]] || wanted+="$library "
+            done
+        done <"$root/crates.txt"
+    done
+    while IFS=: read -r name libraries; do
+        [[ $wanted != *" $name "* ]] || echo "$name:$libraries"
+    done <"$root/crates.txt" | LC_ALL=C sort
 }
 
 # The crates of the program.
@@ -44,53 +50,53 @@ product_files() {
     for name in $(product_crates); do
         folders+=("crates/$name"/{src,specs,proofs})
     done
-    find "${folders[@]}" -type f -print0 2>/dev/null | LC_ALL=C sort -z | xargs -0 -r sha256sum --
+    find "${folders[@]}" -type f -print0 2>/dev/null | LC_ALL=C sort -z | xargs -0 "${summing[@]}" --
 }
 
 # The SHA-256 over the lines of crates.txt, and over the names and contents of the files. Times and modes do not count.
 sum_of_sources() {
-    { product_lines && (product_files); } | sha256sum | cut -d ' ' -f 1
+    { product_lines && (product_files); } | "${summing[@]}" | cut -d ' ' -f 1
 }
 
-# newer_source FILE [FOLDER]: a source, or a file of FOLDER, that is newer than FILE; nothing where there is none. The folders
+# newer_source FILE [FOLDER..]: the sources, and files of FOLDERs, that are newer than FILE; nothing where there are none. The folders
 # count too: their times show that a file was taken away.
 newer_source() {
     shopt -s nullglob
-    find "$root"/crates.txt "$root"/crates/*/{src,specs,proofs} "${@:2}" -newer "$1" -print -quit 2>/dev/null
+    find "$root"/crates.txt "$root"/crates/*/{src,specs,proofs} "${@:2}" -newer "$1" -print 2>/dev/null
 }
 
-# Whether the program was built here, from the sources as they are.
+# Whether the program was built here, from the sources as they are. (Another machine that sees the folder may not be able to start it.)
 is_built() {
-    [ -x "$program" ] && [ -z "$(newer_source "$program")" ]
+    [ -x "$program" ] && [ -z "$(newer_source "$program")" ] && "$program" --help >/dev/null 2>&1
 }
 
-# Whether the released program is the one of the sources as they are, and whole; else it says which of the two it is not.
+# Whether the program that the proofs built is in dist as the sources are, and whole; else this says which of the two it is not.
 # A file that was cut or changed on its way must not be started, so its own sum counts too. (Busybox's sha256sum knows no long words.)
 release_fault() {
     if [ ! -r "$released/SOURCES" ] || [ "$(sum_of_sources)" != "$(<"$released/SOURCES")" ]; then
         echo 'dist/linux-x86_64/SOURCES is not the sum of the sources'
-    elif ! (cd -- "$released" && sha256sum -c SHA256SUMS) >/dev/null 2>&1; then
+    elif ! (cd -- "$released" && "${summing[@]}" -c SHA256SUMS) >/dev/null 2>&1; then
         echo 'dist/linux-x86_64/picklestep has not the sum in SHA256SUMS'
     fi
 }
 
-# The SHA-256 over what the programs for further machines and the library are made from: the program's sources, the library's crate with
-# its line of crates.txt, and the folder `targets`.
+# The SHA-256 over what the programs that users start and the library are made from: the program's sources, the library's crate with its
+# line of crates.txt, and the folder `targets` but for what makes the page (see page_fault).
 sum_of_further() {
     {
         sum_of_sources
-        grep '^picklestep_library ' -- "$root/crates.txt"
-        (cd -- "$root" && find targets crates/picklestep_library/{src,specs,proofs} -type f -not -name '*.pyc' -print0 | LC_ALL=C sort -z |
-            xargs -0 -r sha256sum --)
-    } | sha256sum | cut -d ' ' -f 1
+        grep '^picklestep_library ' "$root/crates.txt"
+        (cd -- "$root" && find targets crates/picklestep_library/{src,specs,proofs} -type f -not -name '*.pyc' -not -name page.py -print0 |
+            LC_ALL=C sort -z | xargs -0 "${summing[@]}" --)
+    } | "${summing[@]}" | cut -d ' ' -f 1
 }
 
-# The same for the programs for further machines.
+# The same for the programs that users start.
 further_fault() {
     if [ ! -r "$further/SOURCES" ] || [ "$(sum_of_further)" != "$(<"$further/SOURCES")" ]; then
         echo 'dist/SOURCES is not the sum of the sources and of targets/'
-    elif ! (cd -- "$further" && sha256sum -c SHA256SUMS) >/dev/null 2>&1; then
-        echo 'a program for a further machine has not the sum in dist/SHA256SUMS'
+    elif ! (cd -- "$further" && "${summing[@]}" -c SHA256SUMS) >/dev/null 2>&1; then
+        echo 'a file of dist has not the sum in dist/SHA256SUMS'
     fi
 }
 
@@ -100,18 +106,10 @@ page_fault() {
     python3 -I -B "$root/targets/page.py" --check "$further" 2>&1
 }
 
-# Whether the machine has a C library that the released program can be started with: glibc of that version or later.
-has_glibc() {
-    local needs there
-    needs=$(cat -- "$released/GLIBC" 2>/dev/null) || return
-    there=$(getconf GNU_LIBC_VERSION 2>/dev/null) && there=${there#glibc } || return
-    [ "$(printf '%s\n' "$needs" "$there" | sort -V | head -n 1)" = "$needs" ]
-}
-
 # Names the released program for this machine, in `fits`; where there is none, the module for Node.
 find_fitting() {
     case $(uname -sm) in
-    'Linux x86_64') if has_glibc; then fits=$released/picklestep; else fits=$further/linux-x86_64-static/picklestep; fi ;;
+    'Linux x86_64') fits=$further/linux-x86_64-static/picklestep ;;
     'Linux aarch64') fits=$further/linux-aarch64/picklestep ;;
     *) fits=$further/picklestep.mjs && command -v node >/dev/null ;;
     esac
@@ -120,16 +118,11 @@ find_fitting() {
 # Whether the released program for this machine is the one of the sources as they are, and whole. That it fits them is remembered by
 # the file $checked, which is as old as the beginning of the comparison; where it cannot be written, each start compares.
 is_released() {
-    local stamp=$checked.$$ fault
+    local stamp=$checked.$$
     find_fitting && [ -x "$fits" ] || return 1
-    [ -e "$checked" ] && [ -z "$(newer_source "$checked" "$further")" ] && [ "$fits" = "$(<"$checked")" ] && return
+    [ -e "$checked" ] && [ -z "$(newer_source "$checked" "$further" "$root/targets")" ] && [ "$fits" = "$(<"$checked")" ] && return
     { mkdir -p -- "$root/out" && printf '%s\n' "$fits" >"$stamp"; } 2>/dev/null || stamp=
-    if [ "$fits" = "$released/picklestep" ]; then
-        fault=$(release_fault)
-    else
-        fault=$(further_fault)
-    fi
-    if [ -z "$fault" ]; then
+    if [ -z "$(further_fault)" ]; then
         [ -z "$stamp" ] || mv -f -- "$stamp" "$checked"
     else
         rm -f -- "$stamp" "$checked"
@@ -140,7 +133,7 @@ is_released() {
 # Names the program to start, in `chosen`: the one that was built here, where it is newer than its sources, else the released one for
 # this machine, where it is of the sources.
 find_program() {
-    if is_built && has_glibc; then
+    if is_built; then
         chosen=$program
     else
         is_released && chosen=$fits
@@ -154,8 +147,8 @@ choose_program() {
         return
     elif ! find_fitting; then
         complain "there is no program for this machine ($(uname -sm)): with Node 20 or later on the path its module runs (https://nodejs.org)"
-    elif [ "$fits" = "$released/picklestep" ]; then
-        fault=$(release_fault)
+    elif [ "$(uname -sm)" = 'Linux x86_64' ]; then
+        fault=$(further_fault)
         complain "no program is of the sources as they are (${fault:-$fits cannot be started}): ./build --kept proves and builds it"
     else
         complain 'no program for this machine is of the sources as they are: ./release makes it where the toolchain is (CONTRIBUTING.md)'

@@ -1,4 +1,4 @@
-"""Tries the released programs, from outside: in a fresh clone, where something was changed, installed, and with nothing but the C library.
+"""Tries the released programs, from outside: in a fresh clone, where something was changed, and installed.
 
 Another program that is tried takes the place of the released one for this machine, as a commit of the clone."""
 
@@ -18,7 +18,7 @@ from dataclasses import dataclass, field
 
 from saves import unprivileged
 from trials.samples import HOSTILE
-from trials.trial import Trial
+from trials.trial import Skip, Trial
 
 LISTING = """\
     0: c    GLOBAL     'posix' 'system'
@@ -29,7 +29,8 @@ LISTING = """\
    24: .    STOP
 highest protocol among opcodes = 1
 """
-DIST = "dist/linux-x86_64"
+# The program that users start on this machine, and the folder of the one that the proofs built.
+RELEASED, BUILT = "dist/linux-x86_64-static/picklestep", "dist/linux-x86_64"
 # What is on the path instead of the toolchain: it writes down that it was called, and builds what it is asked to.
 STAND_IN = """\
 #!/bin/bash
@@ -43,6 +44,28 @@ else
     exit 1
 fi
 """
+# What a Mac has in the place of sha256sum and says of itself, and the options that commands of an older one refuse.
+SHASUM = """\
+#!/bin/sh
+[ "$1 $2" = '-a 256' ] && shift 2 && exec {sha256sum} "$@"
+"""
+UNAME = """\
+#!/bin/sh
+[ "$*" = -sm ] && echo Darwin arm64
+"""
+LESSER = """\
+#!/bin/sh
+for word; do
+    case $word in
+    {options}) echo "{name}: illegal option $word" >&2 && exit 1 ;;
+    esac
+done
+exec {real} "$@"
+"""
+REFUSED = {"chmod": "--", "find": "-quit | -printf", "readlink": "-f", "sort": "-V", "stat": "-c*", "xargs": "-r"}
+# Words of bash that a Mac's, which is 3.2, does not know, and the scripts that it runs.
+NEWER_BASH = r"\b(local|declare|typeset) -\w*[Ang]|\b(mapfile|readarray|coproc|globstar)\b|\$\{[^}]*(\^|,,?\}|@\w\})|&>>|\|&|\[\[ -v|;;?&|\$EPOCH"
+OF_ENTRANCE = ("picklestep", "install", "equipment/program.sh", "python/picklestep/help/start.sh", "share/picklestep.sh")
 SECONDS = 5.0
 COMMITTER = ("-c", "user.name=trials", "-c", "user.email=trials@localhost")
 
@@ -94,11 +117,12 @@ class Releases:
 
     def put_in(self, at: pathlib.Path) -> None:
         """Lets the program that is tried be the released one of a clone."""
-        there, content = at / DIST / "picklestep", self.program.read_bytes()
+        there, sums, content = at / RELEASED, at / "dist/SHA256SUMS", self.program.read_bytes()
         if content == there.read_bytes():
             return
         there.write_bytes(content)
-        (at / DIST / "SHA256SUMS").write_text(f"{hashlib.sha256(content).hexdigest()}  picklestep\n")
+        name = RELEASED.partition("/")[2]
+        sums.write_text(re.sub(f"(?m)^.*  {name}$", f"{hashlib.sha256(content).hexdigest()}  {name}", sums.read_text()))
         done = self.run("git", *COMMITTER, "commit", "-q", "-a", "-m", "Another program", at=at)
         if done.status != 0:
             raise OSError(f"git commit: {done.errors[:200]}")
@@ -139,6 +163,39 @@ class Releases:
         (folder / "uname").chmod(0o755)
         return self.run(*words, at=at, PATH=f"{folder}:{self.folder}/bin:{PATH or self.environment['PATH']}")
 
+    @functools.cached_property
+    def node(self) -> str:
+        """A folder with Node alone."""
+        found = shutil.which("node")
+        if found is None:
+            raise Skip("there is no Node")
+        (self.folder / "node").mkdir()
+        (self.folder / "node/node").symlink_to(found)
+        return str(self.folder / "node")
+
+    @functools.cached_property
+    def mac(self) -> str:
+        """A folder with the commands of this machine, but without Node and with no more than a Mac's can."""
+        folder = self.commands("mac", "node", "getconf", "sha256sum")
+        scripts = {"shasum": SHASUM.format(sha256sum=shutil.which("sha256sum")), "uname": UNAME}
+        for name, options in REFUSED.items():
+            scripts[name] = LESSER.format(options=options, name=name, real=shutil.which(name))
+        for name, text in scripts.items():
+            (folder / name).unlink(missing_ok=True)
+            (folder / name).write_text(text)
+            (folder / name).chmod(0o755)
+        return str(folder)
+
+    def commands(self, name: str, *without: str) -> pathlib.Path:
+        """A folder with the commands of this machine, but for some."""
+        made = self.folder / name
+        made.mkdir()
+        for folder in ("/bin", "/usr/bin"):
+            for command in os.listdir(folder):
+                if not command.startswith(without) and not (made / command).is_symlink():
+                    (made / command).symlink_to(f"{folder}/{command}")
+        return made
+
     def copy(self, name: str) -> pathlib.Path:
         """A copy of the clone that may be changed."""
         at = self.folder / name
@@ -169,6 +226,12 @@ def clone_starts(releases: Releases) -> str:
             return f"the {number} start: {why}"
     if (releases.clone / "crates/picklestep/out").exists():
         return "it was built"
+    said = releases.run("./picklestep", "--version", PYTHONDONTWRITEBYTECODE="1").output
+    if not said.endswith(f"/{RELEASED}\n") or (releases.clone / BUILT / "TOOLCHAIN").read_text() not in said:
+        return f"its version is {said[-200:]!r}"
+    remembered = (releases.clone / "out/released").read_text()
+    if not remembered.endswith(f"/{RELEASED}\n"):
+        return f"it starts {remembered[-100:]!r}"
     status = releases.run("git", "status", "--porcelain")
     return f"git status: {status.output[:200]}" if status.output else ""
 
@@ -233,12 +296,22 @@ def source_changed(releases: Releases) -> str:
 def program_changed(releases: Releases) -> str:
     at = releases.copy("program")
     releases.lists("./picklestep", at=at)
-    change_byte(at / DIST / "picklestep")
+    was = (at / RELEASED).read_bytes()
+    change_byte(at / RELEASED)
     why = is_refused(releases, at, "SHA256SUMS")
     if why:
         return why
-    (at / DIST / "picklestep").unlink()
-    return is_refused(releases, at, "SHA256SUMS")
+    (at / RELEASED).unlink()
+    why = is_refused(releases, at, "SHA256SUMS")
+    if why:
+        return why
+    (at / RELEASED).write_bytes(was)
+    (at / RELEASED).chmod(0o755)
+    change_byte(at / BUILT / "picklestep")
+    check = releases.run("./release", "--check", at=at)
+    if check.status != 1 or "SHA256SUMS" not in check.errors:
+        return f"what the proofs built: status {check.status}, errors {check.errors[:200]!r}"
+    return releases.lists("./picklestep", at=at)
 
 
 def crates_changed(releases: Releases) -> str:
@@ -267,17 +340,47 @@ def other_machine(releases: Releases) -> str:
         start = releases.run_elsewhere("./picklestep", "list", str(releases.folder / "hostile.pickle"), at=at)
         if (start.status, start.output, start.errors) != (0, LISTING, ""):
             return f"with Node: status {start.status}, errors {start.errors[:200]!r}"
-    few = releases.folder / "few"
-    few.mkdir()
-    for folder in ("/bin", "/usr/bin"):
-        for name in os.listdir(folder):
-            if not name.startswith("node") and not (few / name).is_symlink():
-                (few / name).symlink_to(f"{folder}/{name}")
-    start = releases.run_elsewhere("./picklestep", "list", "x", at=at, PATH=str(few))
+    start = releases.run_elsewhere("./picklestep", "list", "x", at=at, PATH=str(releases.commands("few", "node")))
     if start.status != 2 or start.output or releases.called.exists():
         return f"status {start.status}, errors {start.errors[:200]!r}"
     said = start.errors.splitlines()
     return "" if len(said) == 1 and "no program for this machine (Plan9 mips)" in said[0] else start.errors[:200]
+
+
+def on_mac(releases: Releases) -> str:
+    """A clone has the module, and is installed; its entrance is found through a link, and from its own folder."""
+    at, prefix = releases.copy("on a mac"), releases.folder / "of a mac"
+    path = f"{releases.node}:{releases.mac}"
+    install = releases.run("./install", str(prefix), at=at, PATH=path)
+    if install.status != 0 or install.errors:
+        return f"installed: status {install.status}, errors {install.errors[:200]!r}"
+    entrance = prefix / "bin/picklestep"
+    for folder, name, to in ((at, "linked", "picklestep"), (prefix, "linked", "bin/picklestep"), (prefix, "further", str(prefix / "linked"))):
+        (folder / name).symlink_to(to)
+    hostile = str(releases.folder / "hostile.pickle")
+    ways = ((at, "./picklestep"), (at, "bash", "picklestep"), (at, "./linked"), (at.parent, str(at / "linked")), (prefix, "bin/picklestep"),
+            (prefix / "bin", "sh", "picklestep"), (prefix / "bin", "../linked"), (at, str(prefix / "further")), (at, str(entrance)))
+    for folder, *words in ways:
+        start = releases.run(*words, "list", hostile, at=folder, PATH=path)
+        if (start.status, start.output, start.errors) != (0, LISTING, ""):
+            return f"{words}: status {start.status}, output {start.output[:60]!r}, errors {start.errors[:200]!r}"
+    change_byte(at / "dist/picklestep.wasm")
+    start = releases.run("./picklestep", "list", hostile, at=at, PATH=path)
+    if start.status != 2 or start.errors.count("\n") != 1 or "./release" not in start.errors:
+        return f"a module that was changed: status {start.status}, errors {start.errors[:200]!r}"
+    start = releases.run("./picklestep", "list", hostile, at=at, PATH=releases.mac)
+    said = "no program for this machine (Darwin arm64)"
+    return "" if start.status == 2 and said in start.errors else f"without Node: status {start.status}, errors {start.errors[:200]!r}"
+
+
+def older_bash(releases: Releases) -> str:
+    """What a Mac's bash does not know stands in no script that the entrance and the installation run."""
+    for name in OF_ENTRANCE:
+        for number, line in enumerate((releases.clone / name).read_text().splitlines(), 1):
+            found = re.search(NEWER_BASH, line)
+            if found and not line.lstrip().startswith("#"):
+                return f"{name}, line {number}: {found[0]}"
+    return ""
 
 
 # --- The release ---
@@ -286,8 +389,8 @@ def other_machine(releases: Releases) -> str:
 def release_again(releases: Releases) -> str:
     """From the program that the proofs built: where it is the released one nothing changes, else all that depends on it does."""
     at = releases.copy("again")
-    version = (at / DIST / "TOOLCHAIN").read_text().strip()
-    same = {"BUILT": str(releases.clone / DIST / "picklestep"), "VERSION": version}
+    version = (at / BUILT / "TOOLCHAIN").read_text().strip()
+    same = {"BUILT": str(releases.clone / BUILT / "picklestep"), "VERSION": version}
     for _ in range(2):
         run = releases.run_stand_in("./release", at=at, **same)
         if run.status != 0 or len(run.output.splitlines()) != 1:
@@ -297,9 +400,9 @@ def release_again(releases: Releases) -> str:
             return f"the same program: {status.output[:200]}"
     change_byte(at / "crates/picklestep/src/main.rt")
     other = releases.folder / "other"
-    other.write_bytes((releases.clone / DIST / "picklestep").read_bytes() + b"\n")
+    other.write_bytes((releases.clone / BUILT / "picklestep").read_bytes() + b"\n")
     run = releases.run_stand_in("./release", "--program", at=at, BUILT=str(other), VERSION=version)
-    if run.status != 0 or (at / DIST / "picklestep").read_bytes() != other.read_bytes():
+    if run.status != 0 or (at / BUILT / "picklestep").read_bytes() != other.read_bytes():
         return f"another program: status {run.status}, errors {run.errors[:200]!r}"
     check = releases.run("./release", "--check", at=at)
     if check.status != 1 or "dist/SOURCES" not in check.errors:
@@ -349,7 +452,7 @@ def builds(releases: Releases) -> str:
     """From nothing what earlier runs kept of the program's crates is taken away; else it stays."""
     at = releases.copy("built")
     of_product, of_tests = at / "crates/pickle_io/out/kept", at / "crates/unit_tests/out/kept"
-    same = {"BUILT": str(releases.clone / DIST / "picklestep")}
+    same = {"BUILT": str(releases.clone / BUILT / "picklestep")}
     ways: list[tuple[list[str], bool]] = [(["--kept"], True), ([], False)]
     for words, stays in ways:
         for file in (of_product, of_tests):
@@ -369,56 +472,15 @@ def builds(releases: Releases) -> str:
 
 
 def told_beside_it(releases: Releases) -> str:
-    dist = releases.clone / DIST
+    dist = releases.clone / BUILT
     names = sorted(os.listdir(dist))
-    if names != ["GLIBC", "SHA256SUMS", "SOURCES", "TOOLCHAIN", "picklestep"]:
+    if names != ["SHA256SUMS", "SOURCES", "TOOLCHAIN", "picklestep"]:
         return f"there is {names}"
     if releases.run("sha256sum", "--check", "--status", "SHA256SUMS", at=dist).status != 0:
         return "the sum"
-    least = (dist / "GLIBC").read_text().strip()
-    if shutil.which("readelf"):
-        said = releases.run("readelf", "--version-info", "--wide", str(dist / "picklestep")).output
-        versions = [tuple(map(int, number.split("."))) for number in re.findall(r"GLIBC_([\d.]+)", said)]
-        if tuple(map(int, least.split("."))) != max(versions):
-            return f"glibc {least}, and not {max(versions)}"
+    toolchain = (dist / "TOOLCHAIN").read_text().strip()
     readme = " ".join((releases.clone / "README.md").read_text().split())
-    for what in (f"glibc {least}", (dist / "TOOLCHAIN").read_text().strip()):
-        if what not in readme:
-            return f"README.md does not tell {what}"
-    return ""
-
-
-# --- With the C library alone ---
-
-
-def libraries(program: pathlib.Path) -> list[str]:
-    said = subprocess.run(["ldd", str(program)], capture_output=True, text=True, check=True).stdout
-    return re.findall(r"(/\S+) \(0x", said)
-
-
-def runs_bare(releases: Releases) -> str:
-    bare = releases.folder / "bare"
-    program = releases.clone / DIST / "picklestep"
-    (bare / "bin").mkdir(parents=True)
-    shutil.copy(program, bare / "bin" / "picklestep")
-    shutil.copy(releases.folder / "hostile.pickle", bare)
-    files = libraries(program)
-    if len(files) != 2:
-        return f"it needs {files}"
-    for file in files:
-        (bare / file[1:]).parent.mkdir(parents=True, exist_ok=True)
-        shutil.copy(file, bare / file[1:])
-    loader = next(file for file in files if "ld-linux" in file)
-    library = next(file for file in files if "ld-linux" not in file)
-    words = [f"{bare}{loader}", "--inhibit-cache", "--library-path", str(bare / library[1:].rsplit("/", 1)[0]), "bin/picklestep"]
-    why = releases.lists(*words, at=bare)
-    if why:
-        return f"by its loader: {why}"
-    may_change_root = releases.run("chroot", str(bare), "/bin/picklestep", at=bare)
-    if may_change_root.status == 125:
-        return ""
-    run = releases.run("chroot", str(bare), "/bin/picklestep", "list", "/hostile.pickle", at=bare)
-    return "" if (run.status, run.output, run.errors) == (0, LISTING, "") else f"in a chroot: {run}"
+    return "" if toolchain in readme else f"README.md does not tell {toolchain}"
 
 
 # --- Installed ---
@@ -427,13 +489,15 @@ PAGES = ("share/man/man1/picklestep.1", "share/man/man1/picklestep-scan.1", "sha
 BASH = "share/bash-completion/completions/picklestep"
 ZSH = "share/zsh/site-functions/_picklestep"
 PROGRAM = ("picklestep", "TOOLCHAIN", "libpicklestep.so")
+MODULE = ("picklestep.mjs", "picklestep.wasm", "libpicklestep.wasm", "TOOLCHAIN")
+ASK_LIBRARY = "from picklestep import library, place; print(library.answer(['list'], b'N.') is not None, place.find_program().rpartition('/')[2])"
 
 
-def installed_files(releases: Releases) -> list[str]:
+def installed_files(releases: Releases, program: tuple[str, ...] = PROGRAM) -> list[str]:
     """What an installation has: the entrance, the package with the program, the pages and completions."""
     package = releases.clone / "python"
     modules = [str(path.relative_to(package)) for path in (package / "picklestep").rglob("*") if path.is_file() and path.suffix != ".pyc"]
-    beside = [f"picklestep/bin/{name}" for name in PROGRAM]
+    beside = [f"picklestep/bin/{name}" for name in program]
     return sorted(["bin/picklestep", *(f"lib/picklestep/{name}" for name in [*modules, *beside]), *PAGES, BASH, ZSH])
 
 
@@ -451,6 +515,8 @@ def installs(releases: Releases) -> str:
             return f"status {run.status}, errors {run.errors[:200]!r}"
     if files_below(prefix) != sorted([*installed_files(releases), "bin/other"]):
         return f"there is {files_below(prefix)}"
+    if not filecmp.cmp(prefix / "lib/picklestep/picklestep/bin/picklestep", releases.clone / RELEASED, shallow=False):
+        return "it is not the released program"
     entrance = str(prefix / "bin" / "picklestep")
     why = releases.lists(entrance)
     if why:
@@ -481,6 +547,28 @@ def installs_at_home(releases: Releases) -> str:
     (home / "file").write_text("")
     run = releases.run("./install", str(home / "file"))
     return "" if run.status == 2 else f"into a file: status {run.status}"
+
+
+def installs_module(releases: Releases) -> str:
+    """Where there is no program the module is installed with its library, and a sentence says it where Node has gone."""
+    prefix = releases.folder / "of the module"
+    path = f"{releases.node}:{releases.mac}"
+    run = releases.run("./install", str(prefix), PATH=path)
+    if run.status != 0 or run.errors or files_below(prefix) != installed_files(releases, MODULE):
+        return f"status {run.status}, errors {run.errors[:200]!r}, and there is {files_below(prefix)}"
+    for name in MODULE:
+        released = f"{BUILT}/{name}" if name == "TOOLCHAIN" else f"dist/{name}"
+        if not filecmp.cmp(prefix / "lib/picklestep/picklestep/bin" / name, releases.clone / released, shallow=False):
+            return f"{name} is not the released one"
+    settings = {"PYTHONPATH": str(prefix / "lib/picklestep"), "PYTHONDONTWRITEBYTECODE": "1"}
+    asked = releases.run("python3", "-c", ASK_LIBRARY, at=prefix, PATH=path, **settings)
+    if asked.output != "True picklestep.mjs\n":
+        return f"a small question: {asked.output!r}, errors {asked.errors[:200]!r}"
+    for words in (["list", "x"], ["scan", "x"]):
+        run = releases.run(str(prefix / "bin/picklestep"), *words, PATH=releases.mac, PYTHONDONTWRITEBYTECODE="1")
+        if run.status != 2 or run.output or run.errors.count("\n") != 1 or "Node 20 or later on the path" not in run.errors:
+            return f"{words} without Node: status {run.status}, errors {run.errors[:200]!r}"
+    return ""
 
 
 def manual(releases: Releases) -> str:
@@ -562,18 +650,20 @@ def completions(releases: Releases) -> str:
 TRIED: list[tuple[str, Callable[[Releases], str]]] = [
     ("the first start in a fresh clone", clone_starts),
     ("a start in a clone that may not be written", starts_read_only),
-    ("what stands beside the released program", told_beside_it),
+    ("what stands beside the program of the proofs", told_beside_it),
     ("a source that was changed", source_changed),
     ("a released program that was changed", program_changed),
     ("crates that come to it", crates_changed),
     ("another machine", other_machine),
+    ("a machine with the commands of a Mac", on_mac),
+    ("no script of the entrance needs a bash that a Mac has not", older_bash),
     ("a program for a further machine that was changed", further_changed),
     ("a page for browsers that was changed", page_changed),
     ("a build", builds),
     ("a release from a built program", release_again),
-    ("the released program with the C library alone", runs_bare),
     ("installed and taken away", installs),
     ("installed at home", installs_at_home),
+    ("the module, installed", installs_module),
     ("the manual pages", manual),
     ("the completions", completions),
 ]
@@ -581,10 +671,10 @@ TRIED: list[tuple[str, Callable[[Releases], str]]] = [
 
 def is_the_built(root: pathlib.Path) -> str:
     """Proofs from nothing build the program again, byte for byte."""
-    built, released = root / "crates/picklestep/out/picklestep", root / DIST / "picklestep"
-    return "" if filecmp.cmp(built, released, shallow=False) else f"{built} and {released} differ"
+    built, kept = root / "crates/picklestep/out/picklestep", root / BUILT / "picklestep"
+    return "" if filecmp.cmp(built, kept, shallow=False) else f"{built} and {kept} differ"
 
 
 def trials(releases: Releases) -> list[Trial]:
-    built = Trial("the program of the proofs is the released one", functools.partial(is_the_built, releases.root))
+    built = Trial("the program of the proofs is the one in dist", functools.partial(is_the_built, releases.root))
     return [built, *(Trial(name, functools.partial(releases.tried, attempt)) for name, attempt in TRIED)]

@@ -88,7 +88,4 @@ def like_alpine(at: Path) -> Root:
     for name in subprocess.run([BUSYBOX, "--list"], capture_output=True, text=True, check=True).stdout.split():
         if name not in ("busybox", "bash"):
             (at / "bin" / name).symlink_to("busybox")
-    (at / "bin/getconf").unlink(missing_ok=True)
-    (at / "bin/getconf").write_text("#!/bin/sh\nexit 1\n")  # (Alpine's knows no GNU_LIBC_VERSION)
-    (at / "bin/getconf").chmod(0o755)
     return root

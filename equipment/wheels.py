@@ -30,9 +30,7 @@ print(library.answer(['calls'], hostile) is not None, place.find_program().rpart
 """
 SAID = "[\"import 'posix' 'system' as #0\", \"call 'posix' 'system' ('id') as #3\"] GLOBAL 0\nTrue 1 1\n"
 SECONDS = 900
-# The released program, and the one of the same sources that the wheel carries.
-RELEASED = "dist/linux-x86_64/picklestep"
-CARRIED = "dist/linux-x86_64-static/picklestep"
+RELEASED = "dist/linux-x86_64-static/picklestep"
 
 
 @dataclass
@@ -73,7 +71,7 @@ class Wheels:
         shutil.copytree(self.root / "python", copy / "python", ignore=ignored)
         shutil.copytree(self.root / "dist", copy / "dist")
         if not filecmp.cmp(self.program, self.root / RELEASED, shallow=False):
-            shutil.copy(self.program, copy / CARRIED)
+            shutil.copy(self.program, copy / RELEASED)
         return copy / "python"
 
     @functools.cached_property

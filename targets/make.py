@@ -1,4 +1,4 @@
-"""Makes the program for further machines, from the crates that `./build` has proved and built:
+"""Makes the programs that users start, from the crates that `./build` has proved and built:
 
     python3 targets/make.py FOLDER
 

@@ -1,11 +1,12 @@
 """Runs the trials that `./test` asks for.
 
     python3 -m trials --list [NAME..]
-    python3 -m trials --program FILE --folder FOLDER NAME..
-    python3 -m trials --program FILE --folder FOLDER --proofs LOG STATUS SECONDS
+    python3 -m trials --program FILE [--built FILE] --folder FOLDER NAME..
+    python3 -m trials --program FILE [--built FILE] --folder FOLDER --proofs LOG STATUS SECONDS
 
-The folder is for files, and is empty. LOG is what `rt ci` wrote. The groups `devices`, `memory` and `saves` load a library before FILE, which a
-static program does not let them.
+The folder is for files, and is empty. LOG is what `rt ci` wrote. The groups `devices`, `memory` and `saves` load a library before the program, which
+a static one does not let them: they try the one that is `--built`, with which `machines` and `library` compare others. Without it all groups try
+the program.
 """
 
 from __future__ import annotations
@@ -25,11 +26,12 @@ def main() -> int:
     parser = argparse.ArgumentParser(prog="trials", description="tries the built program from outside")
     parser.add_argument("--list", action="store_true")
     parser.add_argument("--program", type=Path, default=Path())
+    parser.add_argument("--built", type=Path)
     parser.add_argument("--folder", type=Path, default=Path())
     parser.add_argument("--proofs", nargs=3, metavar=("LOG", "STATUS", "SECONDS"))
     parser.add_argument("names", nargs="*")
     words = parser.parse_args()
-    room = Room(ROOT, words.program.resolve(), words.folder.resolve())
+    room = Room(ROOT, words.program.resolve(), (words.built or words.program).resolve(), words.folder.resolve())
     try:
         if words.list:
             # (a reader such as `head` may leave before the end)

@@ -96,11 +96,11 @@ def of_surroundings(room: Room) -> list[AnyGroup]:
     """Inputs that lie, devices that break, files in the way, and how the program is released."""
     library = functools.partial(room.library, "break_devices")
     cut = hostile.Hostile(str(room.program), room.folder / "hostile", room.pickles)
-    broken = devices.Devices(str(room.program), library, room.folder / "devices")
-    saved = saves.Saves(str(room.program), library, room.folder / "saves")
+    broken = devices.Devices(str(room.proved), library, room.folder / "devices")
+    saved = saves.Saves(str(room.proved), library, room.folder / "saves")
     released = releases.Releases(room.root, room.program, room.folder / "releases")
-    others = machines.Machines(room.root, room.program, room.folder / "machines", room.pickles)
-    linked = libraries.Libraries(room.root, room.program, room.folder / "libraries", room.pickles)
+    others = machines.Machines(room.root, room.proved, room.folder / "machines", room.pickles)
+    linked = libraries.Libraries(room.root, room.proved, room.folder / "libraries", room.pickles)
     loaded = loads.Loads(str(room.program), room.folder / "loads")
     return [
         Group("loaders", functools.partial(loader_trials, loaded, room), loaded.closing, aside=lambda: None),

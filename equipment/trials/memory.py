@@ -123,7 +123,7 @@ class Memory:
         for number in range(1, MOST + 1):
             mark.unlink(missing_ok=True)
             settings = {"FAIL_AT": str(number), "REFUSED_MARK": f"../{mark.name}"}
-            found = self.observe(settings, self.room.program, *command.words)
+            found = self.observe(settings, self.room.proved, *command.words)
             why = self.fault_of(command, found, mark.exists())
             if why:
                 why = f"with allocation {number} refused: {why}"

@@ -87,10 +87,12 @@ def run(words: Sequence[Word], at: Path, given: Optional[bytes] = None, seconds:
 
 @dataclass
 class Room:
-    """`program` is the binary. `start` is the script that users start, except that it does not choose a program but starts this one."""
+    """`program` is the binary that users start, and `proved` the one that the proofs built, which loads a library before it. `start` is the script
+    that users start, except that it does not choose a program but starts this one."""
 
     root: Path
     program: Path
+    proved: Path
     folder: Path
     requests: int = 0
 
@@ -100,7 +102,7 @@ class Room:
         made.parent.mkdir()
         text = (self.root / "picklestep").read_text("utf-8")
         for place, words in (
-            ("root=${here%/*}", f"root={shlex.quote(str(self.root))}"),
+            ("root=$(CDPATH='' cd -- \"${here%/*}/\" && pwd -P)", f"root={shlex.quote(str(self.root))}"),
             ('. "$root/equipment/program.sh"', f"choose_program() {{ chosen={shlex.quote(str(self.program))}; }}\nname_program() {{ :; }}"),
         ):
             if text.count(place) != 1:

@@ -116,7 +116,7 @@ def run_all(room: Room, log: Path, status: int, seconds: int) -> int:
     count_proofs(report, log, status)
     if report.failed:
         report.tell(Verdict("", "the program", "it is not tried, since rt ci failed"))
-    elif not os.access(room.program, os.X_OK):
+    elif not os.access(room.proved, os.X_OK):
         report.tell(Verdict("", "the program", "rt ci built none"))
     else:
         chosen = choose(room, [])

@@ -6,8 +6,10 @@ import sys
 __all__ = ['find_library', 'find_program', 'is_module', 'node_path', 'program_words', 'toolchain_of']
 
 _HERE = os.path.dirname(os.path.realpath(__file__))
-# The released programs, by the system and the machine that each is for, in the order in which they are tried.
-_FOLDERS = {('Linux', 'x86_64'): ('linux-x86_64', 'linux-x86_64-static'), ('Linux', 'aarch64'): ('linux-aarch64',)}
+# The released programs, by the system and the machine that each is for.
+_FOLDERS = {('Linux', 'x86_64'): 'linux-x86_64-static', ('Linux', 'aarch64'): 'linux-aarch64'}
+# Among the released programs, the folder that has the name of the toolchain that built all of them.
+_BUILT = 'linux-x86_64'
 # What runs on any machine where there is Node: it starts the module beside it. The package `wasmtime` starts the module itself.
 _MODULE = 'picklestep.mjs'
 _FOR_WASMTIME = 'picklestep.wasm'
@@ -27,8 +29,7 @@ def find_program() -> str:
     root = os.path.dirname(os.path.dirname(_HERE))
     dist = os.path.join(root, 'dist')
     machine = _machine()
-    folders = [folder for folder in _FOLDERS.get(machine, ()) if folder != 'linux-x86_64' or _has_glibc(os.path.join(dist, folder))]
-    released = [os.path.join(dist, folder, 'picklestep') for folder in folders[:1]]
+    released = [os.path.join(dist, _FOLDERS[machine], 'picklestep')] if machine in _FOLDERS else []
     built = os.path.join(root, 'crates', 'picklestep', 'out', 'picklestep')
     in_tree = sorted(filter(os.path.isfile, [*released, built]), key=os.path.getmtime, reverse=True)
     for path in (os.path.join(_HERE, 'bin', 'picklestep'), *in_tree):
@@ -81,23 +82,6 @@ def _machine() -> 'tuple[str, str]':
     return machine.sysname, machine.machine
 
 
-def _has_glibc(folder: str) -> bool:
-    """Whether the C library is one that the program in a folder can be started with: glibc of the version that a file there says, or later."""
-    try:
-        there = os.confstr('CS_GNU_LIBC_VERSION')
-        with open(os.path.join(folder, 'GLIBC'), encoding='ascii') as file:
-            needs = file.read()
-    except FileNotFoundError:
-        return True
-    except (AttributeError, OSError, ValueError):
-        return False
-    return there is not None and _numbers(needs) <= _numbers(there.rpartition(' ')[2])
-
-
-def _numbers(version: str) -> 'list[int]':
-    return [int(part) for part in version.strip().split('.')]
-
-
 def node_path() -> 'str | None':
     """Where Node is, if it is on the path."""
     name = 'node.exe' if os.name == 'nt' else 'node'
@@ -117,9 +101,12 @@ def _wasmtime_folder() -> 'str | None':
 
 
 def toolchain_of(program: str) -> str:
-    """The toolchain that built a program, as a file next to it says."""
-    try:
-        with open(os.path.join(os.path.dirname(program), 'TOOLCHAIN'), encoding='utf-8') as file:
-            return file.read().strip()
-    except OSError:
-        return 'not known'
+    """The toolchain that built a program, as a file next to it says, or one among the released programs."""
+    folder = os.path.dirname(os.path.realpath(program))
+    for near in (folder, os.path.join(folder, _BUILT), os.path.join(os.path.dirname(folder), _BUILT)):
+        try:
+            with open(os.path.join(near, 'TOOLCHAIN'), encoding='utf-8') as file:
+                return file.read().strip()
+        except OSError:
+            pass
+    return 'not known'

@@ -117,22 +117,24 @@ class WhichProgram(unittest.TestCase):
         for name in ('linux-x86_64/picklestep', 'linux-x86_64-static/picklestep', 'linux-aarch64/picklestep', 'picklestep.mjs'):
             (self.dist / name).parent.mkdir(parents=True, exist_ok=True)
             (self.dist / name).touch()
-        (self.dist / 'linux-x86_64/GLIBC').write_text('2.34\n')
         for patch in (mock.patch('picklestep.place._HERE', f'{held.name}/python/picklestep'), mock.patch.dict(os.environ)):
             patch.start()
             self.addCleanup(patch.stop)
         os.environ.pop('PICKLESTEP_PROGRAM', None)
 
-    def found(self, system: str, machine: str, glibc: 'str | None' = None) -> str:
-        with mock.patch('picklestep.place._machine', return_value=(system, machine)), \
-                mock.patch('os.confstr', return_value=glibc):
+    def found(self, system: str, machine: str) -> str:
+        with mock.patch('picklestep.place._machine', return_value=(system, machine)):
             return str(Path(place.find_program()).relative_to(self.dist))
 
     def test_it_is_that_of_the_machine(self) -> None:
-        self.assertEqual(self.found('Linux', 'x86_64', 'glibc 2.36'), 'linux-x86_64/picklestep')
-        self.assertEqual(self.found('Linux', 'x86_64', 'glibc 2.31'), 'linux-x86_64-static/picklestep')
         self.assertEqual(self.found('Linux', 'x86_64'), 'linux-x86_64-static/picklestep')
         self.assertEqual(self.found('Linux', 'aarch64'), 'linux-aarch64/picklestep')
+
+    def test_the_toolchain_of_each_is_known(self) -> None:
+        (self.dist / 'linux-x86_64/TOOLCHAIN').write_text('a toolchain\n')
+        for name in ('linux-x86_64/picklestep', 'linux-x86_64-static/picklestep', 'linux-aarch64/picklestep', 'picklestep.mjs'):
+            self.assertEqual(place.toolchain_of(str(self.dist / name)), 'a toolchain', name)
+        self.assertEqual(place.toolchain_of(str(self.dist / 'a/b/picklestep')), 'not known')
 
     def test_elsewhere_it_is_the_module_if_node_is_there(self) -> None:
         with mock.patch('picklestep.place.node_path', return_value='/bin/node'):

@@ -217,7 +217,7 @@ class Errors(LeavesNothing):
         with tempfile.TemporaryDirectory() as folder, mock.patch('picklestep.place._HERE', f'{folder}/python/picklestep'), \
                 mock.patch.dict(os.environ):
             os.environ.pop('PICKLESTEP_PROGRAM', None)
-            released, built = (Path(folder) / place / 'picklestep' for place in ('dist/linux-x86_64', 'crates/picklestep/out'))
+            released, built = (Path(folder) / place / 'picklestep' for place in ('dist/linux-x86_64-static', 'crates/picklestep/out'))
             for path, seconds in ((released, 1000), (built, 2000)):
                 path.parent.mkdir(parents=True)
                 path.touch()

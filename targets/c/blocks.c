@@ -1,5 +1,5 @@
 // memcpy, memmove, memset and memcmp for a static program: musl's are slow for the few bytes that the program mostly moves. Nothing
-// proves it; test_heap.c tries it. Each loads all that it needs of a piece before it stores, so pieces may overlap.
+// proves it; try_heap.c tries it. Each loads all that it needs of a piece before it stores, so pieces may overlap.
 #include <stddef.h>
 #include <stdint.h>
 

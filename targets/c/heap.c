@@ -1,5 +1,5 @@
 // The heap: what Rattle's library `libc` declares (rattle_alloc, rattle_realloc, rattle_dealloc), where the C library has none or a
-// slow one. Nothing proves it; test_heap.c tries it.
+// slow one. Nothing proves it; try_heap.c tries it.
 //
 // Source: Masmano, Ripoll, Crespo and Real, "TLSF: a new dynamic memory allocator for real-time systems", 2004: free blocks lie in lists
 // by size, two bitmaps find the first that is large enough, and a freed block joins its free neighbours at once. Before it, as in
