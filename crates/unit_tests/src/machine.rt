@@ -1,10 +1,11 @@
-//! What a machine shows after operations, on the way forwards and on the way back.
+//! What a machine shows after operations, on the way forwards and on the way back, and where an operation or a request for memory is
+//! refused. Which states and which refusals these are is judged from outside, by the rows of equipment/conversations.txt.
 
 mod path;
-mod rows;
+pub mod rows;
 
 use crate::machine::path::{Fault, Noted, Pickles, Way, note_down, notes_of, ops_of, run, walk};
-use crate::machine::rows::{ALL_SHAPES, FURTHER, OPCODES, Row, SEVERAL, WORKED};
+use crate::machine::rows::{ALL_SHAPES, FREE_FROM, FURTHER, OPCODES, SEVERAL, UNSHOWN, WORKED};
 use pickle_machine::{Machine, Refusal};
 use std::alloc::Global;
 use std::test::Fail;
@@ -38,40 +39,63 @@ fn insist_on_notes(alloc: Global, pickles: Pickles, bytes: &[u8]) -> Result<Note
     }
 }
 
-/// Compares the states that a row gives with what is shown on its way. The last of them is where the way ends.
-fn has_states(noted: &Noted, states: &[(usize, &str)]) -> Result<(), Fault> {
-    let mut last = 0;
-    for (place, text) in states {
-        let found = noted.notes.get(*place).map(|note| note.as_slice());
-        if found != Some(text.as_bytes()) {
-            return Err(Fault::Differs(*place));
+/// What is written of a machine whose readers do not say the same, or say more than they count.
+const DISAGREEMENTS: [&[u8]; 5] = [
+    b" is not there",
+    b" and marks out of order",
+    b" by one reader alone",
+    b"; and another is the latest",
+    b"; and readers past the end",
+];
+
+/// Whether a text has a part at some place.
+fn has_part(text: &[u8], part: &[u8]) -> bool {
+    for k in 0..text.len() {
+        if text.get(k..).unwrap_or_default().starts_with(part) {
+            return true;
         }
-        last = *place;
     }
-    if last == noted.ops.len() {
-        Ok(())
-    } else {
-        Err(Fault::Differs(noted.ops.len()))
-    }
+    false
 }
 
-/// How the way of a row is gone.
+/// Whether the readers agreed at each place.
+fn readers_agree(noted: &Noted) -> Result<(), Fault> {
+    for (place, note) in noted.notes.iter().enumerate() {
+        for part in &DISAGREEMENTS {
+            if has_part(note.as_slice(), part) {
+                return Err(Fault::Readers(place));
+            }
+        }
+    }
+    Ok(())
+}
+
+/// Compares the states that are given with what is shown on the way.
+fn has_states(noted: &Noted, states: &[(usize, &str)]) -> Result<(), Fault> {
+    for (place, text) in states {
+        if !is_note(noted, *place, [text.as_bytes(), b"", b""]) {
+            return Err(Fault::Differs(*place));
+        }
+    }
+    Ok(())
+}
+
+/// How a way is gone.
 #[derive(Clone, Copy)]
 enum Trip {
-    /// Forwards and back, twice, with a look at the states.
+    /// Forwards and back, twice, with a look at the readers.
     Twice,
     /// Forwards, or also back. The way back takes no memory, so both ask for as much.
     Once { and_back: bool },
 }
 
-/// Goes the way of a row, where a request for memory may be refused once. The code of the opcode that ends the row.
-fn try_row(alloc: Global, pickles: Pickles, row: &Row, trip: Trip) -> Result<u8, Fault> {
-    let (bytes, states) = *row;
+/// Goes the way of bytes, where a request for memory may be refused once. The code of the last opcode.
+fn try_row(alloc: Global, pickles: Pickles, bytes: &[u8], trip: Trip) -> Result<u8, Fault> {
     let noted = insist_on_notes(alloc, pickles, bytes)?;
     match trip {
         Trip::Twice => {
             walk_twice(alloc, &noted)?;
-            has_states(&noted, states)?;
+            readers_agree(&noted)?;
         }
         Trip::Once { and_back } => go(alloc, &noted, and_back)?,
     }
@@ -81,8 +105,8 @@ fn try_row(alloc: Global, pickles: Pickles, row: &Row, trip: Trip) -> Result<u8,
 /// Goes the ways of the rows in which each opcode ends one; how many opcodes end one, or the first row that differs.
 fn try_opcodes(alloc: Global, trip: Trip) -> Result<usize, (usize, Fault)> {
     let mut met = [false; 256];
-    for (k, row) in OPCODES.iter().enumerate() {
-        match try_row(alloc, Pickles::One, row, trip) {
+    for (k, bytes) in OPCODES.iter().enumerate() {
+        match try_row(alloc, Pickles::One, bytes, trip) {
             Ok(code) => met[usize::from(code)] = true,
             Err(fault) => return Err((k, fault)),
         }
@@ -90,26 +114,37 @@ fn try_opcodes(alloc: Global, trip: Trip) -> Result<usize, (usize, Fault)> {
     Ok(met.iter().filter(|is_met| **is_met).count())
 }
 
+/// The first of some rows whose way goes wrong, and what is wrong there.
+fn first_wrong(alloc: Global, pickles: Pickles, rows: &[&[u8]]) -> Option<(usize, Fault)> {
+    for (k, bytes) in rows.iter().enumerate() {
+        if let Err(fault) = try_row(alloc, pickles, bytes, Trip::Twice) {
+            return Some((k, fault));
+        }
+    }
+    None
+}
+
 #[test]
-fn states_on_the_way(rt: HostRuntime) {
-    for (k, row) in WORKED.iter().enumerate() {
-        assert!(rt;
-            try_row(rt.alloc(), Pickles::One, row, Trip::Twice).is_ok(),
-            "worked row {k}"
-        );
-    }
-    for (k, row) in FURTHER.iter().enumerate() {
-        assert!(rt;
-            try_row(rt.alloc(), Pickles::One, row, Trip::Twice).is_ok(),
-            "further row {k}"
-        );
-    }
+fn ways(rt: HostRuntime) {
+    assert_eq!(rt; first_wrong(rt.alloc(), Pickles::One, &WORKED), None);
+    assert_eq!(rt; first_wrong(rt.alloc(), Pickles::One, &FURTHER), None);
+    assert_eq!(rt; first_wrong(rt.alloc(), Pickles::Several, &SEVERAL), None);
 }
 
 /// Each opcode ends a row, and each a row of its own.
 #[test]
-fn states_of_each_opcode(rt: HostRuntime) {
+fn ways_to_each_opcode(rt: HostRuntime) {
     assert_eq!(rt; try_opcodes(rt.alloc(), Trip::Twice), Ok(68));
+}
+
+#[test]
+fn states_that_no_text_shows(rt: HostRuntime) -> Result<(), Fail> {
+    for (k, (bytes, states)) in UNSHOWN.iter().enumerate() {
+        let noted = note_down(rt.alloc(), Pickles::One, bytes)?;
+        assert_eq!(rt; walk_twice(rt.alloc(), &noted), Ok(()), "row {k}");
+        assert_eq!(rt; has_states(&noted, states), Ok(()), "row {k}");
+    }
+    Ok(())
 }
 
 /// A mark, a thousand objects, all of them dropped with the mark, and one more object.
@@ -159,146 +194,110 @@ fn a_thousand_heights(rt: HostRuntime) -> Result<(), Fail> {
     Ok(())
 }
 
-/// The refusal of the last opcode of each of these; those before it are accepted.
-const REFUSALS: [(&[u8], Refusal); 24] = [
-    (b"e", Refusal::NoMark),
-    (b"]N(a", Refusal::Underflow),
-    (b"(Nu", Refusal::Underflow),
-    (b"N(Nu", Refusal::OddItems),
-    (b"N\x98", Refusal::WrongKind(0)),
-    (b"NN\x93", Refusal::NotText(1)),
-    (b"NNR", Refusal::NotCallable(0)),
-    (b"c\n\n)N\x92", Refusal::NotKeywords(2)),
-    (b"(No", Refusal::NotCallable(0)),
-    (b"(a", Refusal::Underflow),
-    (b"((e", Refusal::Underflow),
-    (b"(Nd", Refusal::OddItems),
-    (b"N(Ne", Refusal::WrongKind(0)),
-    (b"\x84\xff\xff\xff\xff", Refusal::BadExtension(-1)),
-    (b"N\x8c\x01a\x93", Refusal::NotText(0)),
-    (b"c\n\nNR", Refusal::NotArguments(1)),
-    (b"(o", Refusal::Underflow),
-    (b"\x98", Refusal::Underflow),
-    // a tuple takes no items
-    (b")Na", Refusal::WrongKind(0)),
-    (b"g007\n", Refusal::NoMemoEntry(7)),
-    (b"\x80\x06", Refusal::BadProtocol(6)),
-    (b"\x82\x00", Refusal::BadExtension(0)),
-    (b"N00", Refusal::Underflow),
-    (b"(N.q\x00", Refusal::Underflow),
+/// The last opcode of each of these is refused; those before it are accepted.
+const REFUSED: [&[u8]; 23] = [
+    b"e",
+    b"]N(a",
+    b"(Nu",
+    b"N(Nu",
+    b"N\x98",
+    b"NN\x93",
+    b"NNR",
+    b"c\n\n)N\x92",
+    b"(No",
+    b"(a",
+    b"((e",
+    b"(Nd",
+    b"N(Ne",
+    b"\x84\xff\xff\xff\xff",
+    b"N\x8c\x01a\x93",
+    b"c\n\nNR",
+    b"(o",
+    b"\x98",
+    b")Na",
+    b"g007\n",
+    b"\x80\x06",
+    b"\x82\x00",
+    b"N00",
 ];
 
 /// The same where several pickles are run: the first opcode of the next one finds no object, no mark and no entry of the memo,
 /// whatever the one before left.
-const REFUSALS_OF_SEVERAL: [(&[u8], Refusal); 17] = [
-    (b"Nq\x00.h\x00", Refusal::NoMemoEntry(0)),
-    (b"(N.0", Refusal::Underflow),
-    (b"NN.0", Refusal::Underflow),
-    (b"(NN.t", Refusal::NoMark),
-    (b"(NN.1", Refusal::NoMark),
-    (b"](NN.e", Refusal::NoMark),
-    (b"](NN.o", Refusal::NoMark),
-    (b"NN.2", Refusal::Underflow),
-    (b"NN..", Refusal::Underflow),
-    (b"NN.\x85", Refusal::Underflow),
-    (b"]NN.a", Refusal::Underflow),
-    (b"NN.q\x00", Refusal::Underflow),
-    (b"NN.\x94", Refusal::Underflow),
-    (b"C\x00N.\x98", Refusal::Underflow),
-    (b"N.\x80\x06", Refusal::BadProtocol(6)),
-    (b"N.\x82\x00", Refusal::BadExtension(0)),
-    // the one after the next too
-    (b"N.Nq\x07.g7\n", Refusal::NoMemoEntry(7)),
+const REFUSED_OF_SEVERAL: [&[u8]; 17] = [
+    b"Nq\x00.h\x00",
+    b"(N.0",
+    b"NN.0",
+    b"(NN.t",
+    b"(NN.1",
+    b"](NN.e",
+    b"](NN.o",
+    b"NN.2",
+    b"NN..",
+    b"NN.\x85",
+    b"]NN.a",
+    b"NN.q\x00",
+    b"NN.\x94",
+    b"C\x00N.\x98",
+    b"N.\x80\x06",
+    b"N.\x82\x00",
+    b"N.Nq\x07.g7\n",
 ];
 
-/// A refused step leaves every reader as it was, and `check` says the same as `step`, before it and after it.
-fn try_refusal(
-    rt: &HostRuntime,
-    pickles: Pickles,
-    bytes: &[u8],
-    refusal: Refusal,
-) -> Result<bool, Fault> {
-    let ops = ops_of(rt.alloc(), bytes)?;
-    let mut machine = pickles.machine(rt.alloc());
+/// What the last opcode is refused for, where its step leaves every reader as it was, and `check` says the same before it and after
+/// it.
+fn refusal_of(alloc: Global, pickles: Pickles, bytes: &[u8]) -> Result<Option<Refusal>, Fault> {
+    let ops = ops_of(alloc, bytes)?;
+    let mut machine = pickles.machine(alloc);
     let Some((op, before)) = ops.split_last() else {
-        return Ok(false);
+        return Ok(None);
     };
-    let notes = notes_of(&mut machine, rt.alloc(), before)?;
-    let mut is_so = machine.check(op) == Some(refusal);
+    let notes = notes_of(&mut machine, alloc, before)?;
     if machine.objects() >= 1000 {
         return Err(Fault::Objects);
     }
-    let found = machine.step(rt.alloc(), op, before.len()).err();
-    is_so &= found == Some(refusal);
+    let refusal = machine.check(op);
+    let mut is_so = machine.step(alloc, op, before.len()).err() == refusal;
     let note = notes.last().map(|note| note.as_slice());
     is_so &= shows_state(&machine, note.unwrap_or_default());
     is_so &= machine.moves() == before.len() as u64;
-    is_so &= machine.check(op) == Some(refusal);
-    Ok(is_so)
+    is_so &= machine.check(op) == refusal;
+    Ok(if is_so { refusal } else { None })
+}
+
+/// Whether the last opcode of each is refused; otherwise the first where it is not.
+fn first_accepted(alloc: Global, pickles: Pickles, rows: &[&[u8]]) -> Option<usize> {
+    for (k, bytes) in rows.iter().enumerate() {
+        match refusal_of(alloc, pickles, bytes) {
+            Ok(Some(_)) => {}
+            _ => return Some(k),
+        }
+    }
+    None
 }
 
 #[test]
 fn refusals(rt: HostRuntime) {
-    for (k, (bytes, refusal)) in REFUSALS.iter().enumerate() {
-        assert_eq!(rt;
-            try_refusal(&rt, Pickles::One, bytes, *refusal),
-            Ok(true),
-            "row {k}"
-        );
-    }
-}
-
-#[test]
-fn refusals_of_several_pickles(rt: HostRuntime) {
-    for (k, (bytes, refusal)) in REFUSALS_OF_SEVERAL.iter().enumerate() {
-        assert_eq!(rt;
-            try_refusal(&rt, Pickles::Several, bytes, *refusal),
-            Ok(true),
-            "row {k}"
-        );
-    }
-}
-
-/// A machine for one pickle takes what comes after STOP on the stack and the memo that STOP left.
-#[test]
-fn one_pickle_goes_on(rt: HostRuntime) {
-    let row: Row = (
-        b"NNq\x00.h\x00.",
-        &[
-            (4, "#0 none; #1 none; stack #0; memo 0=#1; result #1"),
-            (5, "#0 none; #1 none; stack #0 #1; memo 0=#1; result #1"),
-            (
-                6,
-                "#0 none; #1 none; stack #0; memo 0=#1; result #1; results #1 #1",
-            ),
-        ],
+    assert_eq!(rt; first_accepted(rt.alloc(), Pickles::One, &REFUSED), None);
+    assert_eq!(rt;
+        first_accepted(rt.alloc(), Pickles::Several, &REFUSED_OF_SEVERAL),
+        None
     );
-    assert!(rt; try_row(rt.alloc(), Pickles::One, &row, Trip::Twice).is_ok());
 }
 
-/// Several pickles, forwards and back.
+/// A machine for one pickle takes what comes after STOP from above the mark that STOP left.
 #[test]
-fn several_pickles(rt: HostRuntime) {
-    for (k, row) in SEVERAL.iter().enumerate() {
-        assert!(rt;
-            try_row(rt.alloc(), Pickles::Several, row, Trip::Twice).is_ok(),
-            "row {k}"
-        );
-    }
+fn refused_behind_stop(rt: HostRuntime) {
+    let found = refusal_of(rt.alloc(), Pickles::One, b"(N.q\x00");
+    assert_eq!(rt; found, Ok(Some(Refusal::Underflow)));
 }
 
 /// Run with each request for memory refused in turn: a step that is refused where memory runs out leaves every reader
 /// as it was, and asked again it succeeds; a free step is never refused so.
 #[test]
 fn refused_memory(rt: HostRuntime) {
-    assert!(rt; try_row(rt.alloc(), Pickles::One, &ALL_SHAPES, Trip::Twice).is_ok());
+    assert_eq!(rt; first_wrong(rt.alloc(), Pickles::One, &[ALL_SHAPES]), None);
     assert_eq!(rt; try_opcodes(rt.alloc(), Trip::Twice), Ok(68));
-    for (k, row) in SEVERAL.iter().enumerate() {
-        assert!(rt;
-            try_row(rt.alloc(), Pickles::Several, row, Trip::Twice).is_ok(),
-            "several pickles, row {k}"
-        );
-    }
+    assert_eq!(rt; first_wrong(rt.alloc(), Pickles::Several, &SEVERAL), None);
 }
 
 /// Goes a way forwards, or also back. The way back takes no memory, so both ask for as much.
@@ -318,11 +317,13 @@ fn go(alloc: Global, noted: &Noted, and_back: bool) -> Result<(), Fault> {
 }
 
 /// Goes the way of every shape forwards, and the free steps at its end forwards and back as often as is said. These take no
-/// memory, so any number asks for as much.
+/// memory, so any number asks for as much. They end in the state in which they begin.
 fn go_freely(alloc: Global, times: usize) -> Result<(), Fault> {
-    let (bytes, states) = ALL_SHAPES;
-    let noted = note_down(alloc, Pickles::One, bytes)?;
-    let free_from = states.first().map_or(0, |state| state.0);
+    let noted = note_down(alloc, Pickles::One, ALL_SHAPES)?;
+    let end = noted.notes.last().map(|note| note.as_slice());
+    if !is_note(&noted, FREE_FROM, [end.unwrap_or_default(), b"", b""]) {
+        return Err(Fault::Differs(FREE_FROM));
+    }
     let way = Way {
         pickles: Pickles::One,
         ops: &noted.ops,
@@ -332,7 +333,7 @@ fn go_freely(alloc: Global, times: usize) -> Result<(), Fault> {
     let mut machine = Machine::new(alloc);
     run(&mut machine, alloc, &noted.ops)?;
     for _ in 0..times {
-        walk(&mut machine, alloc, &way, free_from)?;
+        walk(&mut machine, alloc, &way, FREE_FROM)?;
     }
     Ok(())
 }
@@ -341,9 +342,9 @@ fn go_freely(alloc: Global, times: usize) -> Result<(), Fault> {
 fn go_all(alloc: Global, and_back: bool) -> Result<(), Fault> {
     let noted = thousand(alloc)?;
     go(alloc, &noted, and_back)?;
-    try_row(alloc, Pickles::One, &ALL_SHAPES, Trip::Once { and_back })?;
-    for row in &SEVERAL {
-        try_row(alloc, Pickles::Several, row, Trip::Once { and_back })?;
+    try_row(alloc, Pickles::One, ALL_SHAPES, Trip::Once { and_back })?;
+    for bytes in &SEVERAL {
+        try_row(alloc, Pickles::Several, bytes, Trip::Once { and_back })?;
     }
     go_freely(alloc, if and_back { 3 } else { 0 })
 }

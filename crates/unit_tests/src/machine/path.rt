@@ -23,6 +23,8 @@ pub enum Fault {
     NotFree(usize),
     /// The state is not what was written down.
     Differs(usize),
+    /// What readers say of the state is not the same.
+    Readers(usize),
     /// A move was not counted as one.
     Moves(usize),
     /// There are too many objects for a test.
