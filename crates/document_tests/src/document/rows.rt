@@ -1,8 +1,8 @@
 //! Edits and what they lead to. The expected values are worked out from units: a FRAME's number is the sum of its members'
 //! sizes and of the bytes of the tail that it counts.
 
-use crate::document::shown::{FRAME, NONE, Refused, Row, STOP, Shown};
-use pickle_doc::{Edit, EditFault};
+use crate::document::shown::{FRAME, NONE, Row, Shown, Spelled};
+use pickle_doc::Edit;
 use pickle_ops::Opcode;
 
 /// Opcodes in a frame are replaced, taken out and put in.
@@ -221,92 +221,16 @@ pub const NO_FRAMES: [Row; 3] = [
     ),
 ];
 
-/// Bytes, and edits that are refused, and why.
-pub const REFUSED: [Refused; 8] = [
-    (
-        b"N.",
-        &[
-            (Edit::Frame(2, 0), EditFault::AfterStop),
-            (Edit::Insert(2, NONE), EditFault::AfterStop),
-            (Edit::Insert(3, NONE), EditFault::NoSuchItem),
-            (Edit::Insert(usize::MAX, NONE), EditFault::NoSuchItem),
-            (Edit::Insert(0, STOP), EditFault::StopItem),
-            (Edit::Insert(0, FRAME), EditFault::FrameItem),
-            (Edit::Insert(3, STOP), EditFault::NoSuchItem),
-            (Edit::Insert(2, STOP), EditFault::StopItem),
-            (Edit::Insert(2, FRAME), EditFault::FrameItem),
-            (Edit::Replace(0, STOP), EditFault::StopItem),
-            (Edit::Replace(0, FRAME), EditFault::FrameItem),
-            (Edit::Replace(1, NONE), EditFault::StopItem),
-            (Edit::Replace(1, FRAME), EditFault::StopItem),
-            (Edit::Replace(2, NONE), EditFault::NoSuchItem),
-            (Edit::Replace(2, STOP), EditFault::NoSuchItem),
-            (Edit::Delete(1), EditFault::StopItem),
-            (Edit::Delete(2), EditFault::NoSuchItem),
-            (Edit::Delete(usize::MAX), EditFault::NoSuchItem),
-            (Edit::Frame(0, 3), EditFault::NoSuchItem),
-            (Edit::Frame(3, 0), EditFault::NoSuchItem),
-            (Edit::Frame(1, usize::MAX), EditFault::NoSuchItem),
-            (Edit::Frame(usize::MAX, 1), EditFault::NoSuchItem),
-            (Edit::Frame(usize::MAX, usize::MAX), EditFault::NoSuchItem),
-            (Edit::Unframe(0), EditFault::FrameItem),
-            (Edit::Unframe(1), EditFault::FrameItem),
-            (Edit::Unframe(2), EditFault::NoSuchItem),
-        ],
-    ),
-    (
-        b"\x95\x04\0\0\0\0\0\0\0N0N.",
-        &[
-            (Edit::Frame(1, 1), EditFault::AlreadyFramed),
-            (Edit::Frame(0, 1), EditFault::FrameItem),
-            (Edit::Frame(0, 6), EditFault::NoSuchItem),
-            (Edit::Delete(4), EditFault::StopItem),
-            (Edit::Delete(0), EditFault::FrameItem),
-            (Edit::Unframe(1), EditFault::FrameItem),
-            (Edit::Replace(0, STOP), EditFault::StopItem),
-            (Edit::Replace(0, NONE), EditFault::FrameItem),
-        ],
-    ),
-    (
-        b"\x95\x02\0\0\0\0\0\0\0NN.",
-        &[
-            (Edit::Frame(1, 0), EditFault::AlreadyFramed),
-            (Edit::Frame(2, 0), EditFault::AlreadyFramed),
-            (Edit::Frame(2, 2), EditFault::AlreadyFramed),
-            (Edit::Frame(0, 2), EditFault::FrameItem),
-        ],
-    ),
-    (
-        b"\x95\x0b\0\0\0\0\0\0\0N\x95\0\0\0\0\0\0\0\0.",
-        &[(Edit::Unframe(0), EditFault::OpenFrame)],
-    ),
-    (
-        b"\x95\x02\0\0\0\0\0\0\0NK\x01.",
-        &[
-            (Edit::Unframe(0), EditFault::OpenFrame),
-            (Edit::Frame(2, 0), EditFault::AlreadyFramed),
-            (Edit::Frame(1, 1), EditFault::AlreadyFramed),
-        ],
-    ),
-    (
-        b"\x95\x09\0\0\0\0\0\0\0N.",
-        &[(Edit::Delete(0), EditFault::NoSuchItem)],
-    ),
-    (
-        b"\x95\x03\0\0\0\0\0\0\0N.X",
-        &[
-            (Edit::Frame(3, 0), EditFault::AfterStop),
-            (Edit::Insert(3, NONE), EditFault::AfterStop),
-            (Edit::Unframe(0), EditFault::OpenFrame),
-        ],
-    ),
-    (
-        b"",
-        &[
-            (Edit::Delete(0), EditFault::NoSuchItem),
-            (Edit::Frame(0, 1), EditFault::NoSuchItem),
-        ],
-    ),
+/// Bytes, and an edit of them that is refused, for each reason: no such item, STOP, FRAME, behind STOP, an open frame and a frame that is
+/// there already. Why each is refused, and more of them, is in equipment/conversations.txt.
+pub const REFUSED: [(&[u8], Spelled); 7] = [
+    (b"N.", Edit::Delete(usize::MAX)),
+    (b"N.N.", Edit::Replace(1, NONE)),
+    (b"N.", Edit::Insert(0, FRAME)),
+    (b"N.", Edit::Insert(2, NONE)),
+    (b"N.\xff", Edit::Frame(2, 0)),
+    (b"\x95\x03\0\0\0\0\0\0\0N.X", Edit::Unframe(0)),
+    (b"\x95\x02\0\0\0\0\0\0\0NN.", Edit::Frame(2, 2)),
 ];
 
 /// Bytes with many pickles, and what they read as. The end is STOP only where STOP is the last item and no byte is left.
@@ -394,25 +318,5 @@ pub const MANY_EDITS: [Row; 6] = [
         Edit::Insert(3, (Opcode::Pop, b"")),
         b"N.N0",
         "0 NONE #0; 1 STOP #1; 2 NONE #2; 3 POP #3; 4 F1 at 4",
-    ),
-];
-
-/// Edits of many pickles that are refused: of each STOP, and after the last one.
-pub const MANY_REFUSED: [Refused; 2] = [
-    (
-        b"N.N.",
-        &[
-            (Edit::Delete(1), EditFault::StopItem),
-            (Edit::Replace(1, NONE), EditFault::StopItem),
-            (Edit::Insert(2, STOP), EditFault::StopItem),
-            (Edit::Insert(4, NONE), EditFault::AfterStop),
-        ],
-    ),
-    (
-        b"N.\xff",
-        &[
-            (Edit::Insert(2, NONE), EditFault::AfterStop),
-            (Edit::Frame(2, 0), EditFault::AfterStop),
-        ],
     ),
 ];

@@ -25,13 +25,8 @@ pub type Row = (
     &'static str,
 );
 
-/// Bytes, and edits of them that are refused, and why.
-pub type Refused = (&'static [u8], &'static [(Spelled, EditFault)]);
-
 /// Opcodes of edits.
 pub const NONE: (Opcode, &[u8]) = (Opcode::None, b"");
-
-pub const STOP: (Opcode, &[u8]) = (Opcode::Stop, b"");
 
 pub const FRAME: (Opcode, &[u8]) = (Opcode::Frame, b"\0\0\0\0\0\0\0\0");
 
