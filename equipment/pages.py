@@ -43,7 +43,6 @@ CHECKLISTS = [
         "To add an opcode",
         r"(?m)^ +BinInt2 +\{|_of op\.BinInt2\b|'BININT2': (\('|')",
         ["crates/*/src/**/*.rt", "crates/*/specs/**/*.antt", "bench/*", *OUTSIDE, *PACKAGE],
-        {"python/picklestep/shell/explain.py": "has words of its own where those of pickletools do not do"},
     ),
     Checklist(
         "To add a number that picklers write",

@@ -2,12 +2,11 @@
 
 from __future__ import annotations
 
-import pickletools
 from typing import Dict, List, Sequence, Tuple
 
 from ..replies import is_mark
 
-__all__ = ['EFFECTS', 'EXPLAINED', 'in_other_words', 'taken']
+__all__ = ['EFFECTS', 'EXPLAINED', 'taken']
 
 EXPLAINED: Dict[str, str] = {
     'INT': 'Puts an integer from a line on the stack; the lines 00 and 01 are False and True.',
@@ -151,25 +150,6 @@ EFFECTS: Dict[str, Tuple[str, str]] = {
     'PERSID': ('', 'object from elsewhere'),
     'BINPERSID': ('name', 'object from elsewhere'),
 }
-
-
-def in_other_words(opcode: 'pickletools.OpcodeInfo') -> Tuple[str, Tuple[str, str]]:
-    """What pickletools says of an opcode, as in EXPLAINED and in EFFECTS.
-
-    >>> in_other_words(pickletools.code2op['e'])
-    ('Extend a list by a slice of stack objects.', ('list, mark, items ..', 'list'))
-    """
-    sentence = ' '.join(opcode.doc.partition('.')[0].split()) + '.'
-    before, after = (', '.join(_OF_PICKLETOOLS.get(kind.name, kind.name) for kind in kinds) for kinds in (opcode.stack_before, opcode.stack_after))
-    return sentence, (before, after)
-
-
-_OF_PICKLETOOLS = {'any': 'object', 'stackslice': 'items ..'}
-
-# (a newer Python may have more of them)
-for _opcode in pickletools.opcodes:
-    if _opcode.name not in EXPLAINED:
-        EXPLAINED[_opcode.name], EFFECTS[_opcode.name] = in_other_words(_opcode)
 
 
 def taken(name: str, stack: Sequence[str]) -> List[Tuple[str, Sequence[str]]]:
