@@ -358,6 +358,7 @@ class Alone(Driven):
         self.browser.type("'caf\\xe9'")
         self.browser.key('Enter')
         self.said('edited 2')
+        self.browser.wait("!document.querySelector('#edit-dialog').open")
         self.browser.key('s')
         self.browser.wait("document.querySelector('#save-dialog').open")
         self.assertEqual(self.browser.js("document.querySelector('#save-name').value"), 'a.edited.pickle')
