@@ -290,7 +290,7 @@ class Words(unittest.TestCase):
             with mock.patch.object(Opened, '_take', side_effect=picklestep.ProgramError('it fails')):
                 with self.assertRaisesRegex(WordError, 'it fails'):
                     shell.obey(line)
-                    shell.obey('where')
+                    shell.obey('calls')  # (which waits until the pickle is read)
             self.assertEqual((shell.obey('break'), shell.pickle.content()), (before, SAMPLE), line)
 
     def test_depth(self) -> None:
