@@ -40,7 +40,7 @@ pub record IsTalkOf (many loose : Bool) (bytes script written : List ℕ) (statu
   pub rest : List ℕ
   pub finishes : Finishes begun after status (Some script) (Some rest) (took []) (took written)
 
--- somewhere in these answers stands that of a line for which memory ran out
+-- somewhere in these answers stands that of a line for which memory ran out: a command is answered in these words too (`refused_command`)
 abbrev pub has_run_out : List ℕ → Bool
 has_run_out [] = false
 has_run_out (byte ∷ bytes) = starts_with eqb (byte ∷ bytes) (syntax_line syntax.Memory) || has_run_out bytes

@@ -61,7 +61,7 @@ uint8_t picklestep_debug(bool many, const uint8_t *bytes, size_t length, const u
 
 /* The texts of a pickle as the lines of a script leave it, in a conversation about it or with `many` about several: what the functions above answer
  * of the bytes that `picklestep debug FILE [--many] --save OUT` saves then. Nothing is saved, and the answers to the lines are not told: where memory
- * runs out for one of them, this is the answer here. */
+ * runs out for one of them, PICKLESTEP_OUT_OF_MEMORY is answered. */
 uint8_t picklestep_edited_list(bool many, const uint8_t *bytes, size_t length, const uint8_t *script, size_t script_length, uint8_t *out, size_t room,
                                picklestep_written *written);
 uint8_t picklestep_edited_objects(bool many, const uint8_t *bytes, size_t length, const uint8_t *script, size_t script_length, uint8_t *out,
