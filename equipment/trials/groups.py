@@ -9,6 +9,7 @@ from collections.abc import Iterator, Set
 from typing import Optional, Protocol
 
 import count_calls
+import crate_rows
 import devices
 import hostile
 import libraries
@@ -71,6 +72,7 @@ def of_program(room: Room) -> list[AnyGroup]:
         Group("options", functools.partial(options.trials, room)),
         Group("readme", functools.partial(examples.of_readme, room)),
         Group("conversations", functools.partial(examples.of_pages, room)),
+        Group("rows", functools.partial(crate_rows.trials, room.root)),
         Group("begins", functools.partial(begins.trials, room)),
         Group("forms", functools.partial(forms.trials, room)),
         Group("opcodes", functools.partial(opcodes.trials, room.root, str(room.program), room.folder / "opcodes")),
