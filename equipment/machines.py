@@ -302,7 +302,7 @@ def made_again(machines: Machines) -> str:
 
 
 def other_tools(machines: Machines) -> str:
-    """Tools of another version are told, also where others are missing; and so is the first that is missing."""
+    """Tools of another version are noted, also where others are missing; and so is the first that is missing."""
     stand_in = machines.folder / "tools/dpkg-query"
     stand_in.parent.mkdir(parents=True)
     for said, wanted in (("", "is not installed"), ("[ $4 != binaryen ] || echo -n 109-1", "Debian's binaryen is 109-1, and the released sums are of")):
@@ -428,7 +428,7 @@ def comparisons(way: str, name: str) -> list[Row]:
 
 ROWS: list[Row] = [
     ("further machines: made again, each is the released one", made_again),
-    ("further machines: tools of another version are told", other_tools),
+    ("further machines: tools of another version are noted", other_tools),
     ("further machines: dist is under 8 MB", size_of_all),
     ("x86-64, static: needs no other file", lambda machines: alone(machines, STATIC)),
     ("x86-64, static: all real pickles in an empty root", in_empty_root),

@@ -155,7 +155,7 @@ class Releases:
         return self.run(*words, at=at, **{**environment, "PATH": f"{self.folder}/bin:{self.environment['PATH']}"})
 
     def run_elsewhere(self, *words: str, at: pathlib.Path, PATH: str | None = None) -> Run:
-        """Runs a command with the stand-in, where uname tells of a machine that there is no program for."""
+        """Runs a command with the stand-in, where uname names a machine that there is no program for."""
         self.called.unlink(missing_ok=True)
         folder = self.folder / "elsewhere"
         folder.mkdir(exist_ok=True)
@@ -254,8 +254,8 @@ def is_refused(releases: Releases, at: pathlib.Path, says: str) -> str:
     starts = [["./picklestep", *words, hostile] for words in (["list"], [], ["scan"], ["source"], ["shell"])]
     for words in (*starts, ["./install", str(releases.folder / "nowhere")]):
         start = releases.run_stand_in(*words, at=at)
-        told = start.errors.count("\n") == 1 and says in start.errors and "./build" in start.errors
-        if start.status != 2 or start.output or not told or releases.called.exists():
+        is_sentence = start.errors.count("\n") == 1 and says in start.errors and "./build" in start.errors
+        if start.status != 2 or start.output or not is_sentence or releases.called.exists():
             return f"{' '.join(words)}: status {start.status}, output {start.output[:60]!r}, errors {start.errors[:200]!r}"
     gate = releases.run_stand_in("./test", at=at)
     if gate.status != 1 or not gate.output.endswith("\n0 passed, 1 failed\n") or "run ./release" not in gate.output:
@@ -471,7 +471,7 @@ def builds(releases: Releases) -> str:
     return "" if run.status == 2 and run.errors.startswith("usage: ") else f"--fly: status {run.status}"
 
 
-def told_beside_it(releases: Releases) -> str:
+def stands_beside_it(releases: Releases) -> str:
     dist = releases.clone / BUILT
     names = sorted(os.listdir(dist))
     if names != ["SHA256SUMS", "SOURCES", "TOOLCHAIN", "picklestep"]:
@@ -480,7 +480,7 @@ def told_beside_it(releases: Releases) -> str:
         return "the sum"
     toolchain = (dist / "TOOLCHAIN").read_text().strip()
     readme = " ".join((releases.clone / "README.md").read_text().split())
-    return "" if toolchain in readme else f"README.md does not tell {toolchain}"
+    return "" if toolchain in readme else f"README.md does not name {toolchain}"
 
 
 # --- Installed ---
@@ -584,10 +584,10 @@ def manual(releases: Releases) -> str:
             run = releases.run("man", "--warnings", "-E", "UTF-8", "-Tutf8", "-Z", "-l", page)
             if run.status != 0 or run.errors:
                 return f"{name}: {run.errors[:300]}"
-    return options_told(releases)
+    return options_of_words(releases)
 
 
-def options_told(releases: Releases) -> str:
+def options_of_words(releases: Releases) -> str:
     """The options of each word in its help, its manual page and both completions."""
     shells = {name: completed((releases.clone / name).read_text()) for name in (BASH, ZSH)}
     for word in WORDS:
@@ -667,7 +667,7 @@ def completions(releases: Releases) -> str:
 TRIED: list[tuple[str, Callable[[Releases], str]]] = [
     ("the first start in a fresh clone", clone_starts),
     ("a start in a clone that may not be written", starts_read_only),
-    ("what stands beside the program of the proofs", told_beside_it),
+    ("what stands beside the program of the proofs", stands_beside_it),
     ("a source that was changed", source_changed),
     ("a released program that was changed", program_changed),
     ("crates that come to it", crates_changed),

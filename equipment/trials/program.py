@@ -17,7 +17,7 @@ from .trial import Trial
 NO_CALLS = "0 imports, 0 calls\n"
 UNKNOWN = "refused: X1 unknown word\n"
 STEPS = "step\nstep\nstep\nback\nstack\nstep\nstep\nstep\nfly\n"
-STEPS_TOLD = "at 1\nat 2\nat 3\nat 2\nstack #0 #0\nat 3\nat 4\nrefused: C2 at the end, stopped\n" + UNKNOWN
+STEPS_ANSWERED = "at 1\nat 2\nat 3\nat 2\nstack #0 #0\nat 3\nat 4\nrefused: C2 at the end, stopped\n" + UNKNOWN
 CUT_LISTING = "    0: K    BININT1    1\nfault: F3 truncated at 2\nhighest protocol among opcodes = 1\n"
 MANY = 50_000
 # Lines of 65,536 bytes at most are obeyed; of a longer one no word is.
@@ -26,7 +26,7 @@ LONG_LINES = (
     f"    {BLANKS}\n     {BLANKS}\n{BLANKS}step\nstep{BLANKS} \nfly{BLANKS}  \nstep{BLANKS}\nback {BLANKS}"
 )
 TOO_LONG = "refused: X7 line too long\n"
-LONG_LINES_TOLD = f"{TOO_LONG}at 1\n{TOO_LONG}{TOO_LONG}at 2\n{TOO_LONG}"
+LONG_LINES_ANSWERED = f"{TOO_LONG}at 1\n{TOO_LONG}{TOO_LONG}at 2\n{TOO_LONG}"
 
 # A FIFO that is written, read, or left in the middle of a line, at the other end.
 FIFO_GIVES = 'rm -f fifo && mkfifo fifo && { cat pair.pickle >fifo & } && "$@" fifo'
@@ -165,7 +165,7 @@ CALLS = (
 )
 
 CONVERSATIONS = (
-    Row("a conversation", ("debug", "doubled.pickle"), STEPS, status=1, output=STEPS_TOLD),
+    Row("a conversation", ("debug", "doubled.pickle"), STEPS, status=1, output=STEPS_ANSWERED),
     Row("a conversation without a line", ("debug", "doubled.pickle")),
     Row(
         "lines with returns and tabs, the last without its end",
@@ -187,7 +187,7 @@ CONVERSATIONS = (
         ("debug", "popped.pickle"),
         LONG_LINES,
         status=1,
-        output=LONG_LINES_TOLD,
+        output=LONG_LINES_ANSWERED,
     ),
     Row("a quit without its end", ("debug", "none.pickle"), "step\nquit", output="at 1\n"),
     Row(

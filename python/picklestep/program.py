@@ -143,7 +143,7 @@ class Process:
     def communicate(self, script: Optional[bytes], timeout: Optional[float]) -> bytes:
         """Gives the program its whole input, and answers its whole output. The program has ended then, also after an exception."""
         try:
-            with _counted_where_untold():
+            with _counted_by_the_clock():
                 output, errors = self._popen.communicate(script, timeout)
         except subprocess.TimeoutExpired:
             raise TimedOut(f'no answer within {timeout} seconds') from None
@@ -194,7 +194,7 @@ class Process:
         try:
             if timer is not None:
                 timer.start()
-            with _counted_where_untold():
+            with _counted_by_the_clock():
                 yield
         finally:
             if timer is not None:
@@ -231,25 +231,25 @@ class Process:
 
 
 class _Counted:
-    """The seconds of other processes that the system does not tell."""
+    """The seconds of other processes that the system does not count."""
 
     seconds = 0.0
 
 
 def count_seconds(seconds: float) -> None:
-    """Counts processor time of a process that goes on. (The system tells it after its end.)"""
+    """Counts processor time of a process that goes on. (The system counts it after its end.)"""
     _Counted.seconds += seconds
 
 
 def count_ended(seconds: float) -> None:
-    """Counts it no more, where the system tells it now."""
+    """Counts it no more, where the system counts it now."""
     if resource is not None:
         _Counted.seconds -= seconds
 
 
 @contextlib.contextmanager
-def _counted_where_untold() -> Iterator[None]:
-    """Within it a program is waited for. Where the system does not tell what it took (Windows), the time by the clock is taken for that."""
+def _counted_by_the_clock() -> Iterator[None]:
+    """Within it a program is waited for. Where the system does not count what it took (Windows), the time by the clock is taken for that."""
     begin = time.monotonic()
     try:
         yield

@@ -434,7 +434,7 @@ class Session(contextlib.AbstractContextManager['Session']):
             return listing_of(asked, self._many, self._unframed)
 
     def calls(self, *, first: bool = False, memo_kept: bool = False, full: bool = False) -> Calls:
-        """What the pickle with the edits that are not undone imports and calls, as `picklestep.calls` tells it; of a pickle
+        """What the pickle with the edits that are not undone imports and calls, as `picklestep.calls` answers it; of a pickle
         that is read unframed without its FRAMEs.
 
         >>> with Session(b'.') as session:
