@@ -40,7 +40,9 @@ def constant(text: str, name: str) -> list[bytes]:
     if found is None:
         raise LookupError(f"there is no constant {name}")
     without_comments = re.sub(r"^ *//.*$", "", found[2], flags=re.MULTILINE)
-    values = [value for part in PART.finditer(without_comments) for value in ([value_of(part[1])] if part[1] is not None else constant(text, part[2]))]
+    values: list[bytes] = []
+    for part in PART.finditer(without_comments):
+        values += [value_of(part[1])] if part[1] is not None else constant(text, part[2])
     rows = re.search(r"; (\d+)\]$", found[1])
     wanted = (int(rows[1]) if rows else 1) * max(found[1].count("&[u8]"), 1)
     if len(values) != wanted:
@@ -136,6 +138,9 @@ class Tables:
 
 def trials(root: Path) -> list[Trial]:
     tables = Tables(root)
-    found = [Trial(f"the rows {name} of script_tests/src/rows.rt", functools.partial(tables.fault_of_conversations, name)) for name in ("ONE", "SEVERAL")]
-    found += [Trial(f"the rows {', '.join(rows.names)} of {rows.file}", functools.partial(tables.fault_of_bytes, rows)) for rows in ROWS]
-    return [*found, Trial("the rows OPCODES of unit_tests/src/machine/rows.rt", tables.fault_of_opcodes)]
+    tried: list[tuple[str, str, Callable[[], str]]] = [
+        *((name, "script_tests/src/rows.rt", functools.partial(tables.fault_of_conversations, name)) for name in ("ONE", "SEVERAL")),
+        *((", ".join(rows.names), rows.file, functools.partial(tables.fault_of_bytes, rows)) for rows in ROWS),
+        ("OPCODES", "unit_tests/src/machine/rows.rt", tables.fault_of_opcodes),
+    ]
+    return [Trial(f"the rows {names} of {file}", attempt) for names, file, attempt in tried]
