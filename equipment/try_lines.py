@@ -4,9 +4,9 @@
     try_lines.py [--crates FOLDER] PROGRAM FOLDER [PICKLE..]
 
 The definitions of crates/*/specs, evaluated by antt.py, say what the opcodes of a pickle are and what each comes to: of the rows of texts.txt and
-conversations.txt, and of the pickles that are given. The program's lines have to be what `item_line`, `object_line`, `stack_text` and `memo_text`
-make of that, and what the package reads of a line has to be what the line was made of. FOLDER is for the file that the program is asked about.
-What is printed is JSON: how many lines there were, which opcodes and kinds of objects no line shows, and what differs.
+conversations.txt, of a few that are made, and of the pickles that are given. The program's lines have to be what `item_line`, `object_line`,
+`stack_text` and `memo_text` make of that, and what the package reads of a line has to be what the line was made of. FOLDER is for the file that the
+program is asked about. What is printed is JSON: how many lines there were, which opcodes and kinds of objects no line shows, and what differs.
 """
 
 from __future__ import annotations
@@ -54,6 +54,8 @@ WORDS = (
     (f"{SHOW}.StackText", ("stack_text",)),
     (f"{SHOW}.MemoText", ("memo_text",)),
 )
+# A long number below 0, a float that is no number, each byte in quotes, and names with quotes, blanks and backslashes.
+MADE = (b"\x8a\x11" + bytes(16) + b"\x80.", b"G\xff\xf8\0\0\0\0\0\1.", b"B\0\1\0\0" + bytes(range(256)) + b".", b"c' '\\\n\\' (#1) +#2\n.")
 HOW = {"Append": "append", "Add": "add", "Build": "state"}
 SCRIPT = "run\nstack\nmemo\n"
 # The smallest real pickles.
@@ -225,7 +227,7 @@ def rows() -> Iterator[bytes]:
 
 def try_all(crates: pathlib.Path, program: Program, given: Sequence[bytes]) -> Tally:
     tally, lines = Tally(), Lines(crates)
-    for data in dict.fromkeys([*rows(), *given]):
+    for data in dict.fromkeys([*rows(), *MADE, *given]):
         try_pickle(lines, program, tally, data)
     tally.lacks = lines.lacks()
     return tally
