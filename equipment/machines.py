@@ -23,7 +23,7 @@ from conversations import blocks_of, runs_of
 from roots import Root, like_alpine, put
 from trials.room import beginning, text_difference
 from trials.samples import HOSTILE
-from trials.trial import Noted, Skip, Trial
+from trials.trial import Lack, Noted, Trial
 
 STATIC, ARM, MODULE, SCRIPTED = "linux-x86_64-static/picklestep", "linux-aarch64/picklestep", "picklestep.wasm", "picklestep.mjs"
 BUILT = "linux-x86_64/picklestep"
@@ -213,7 +213,7 @@ class Machines:
     def tool(self, name: str, what: str) -> str:
         found = shutil.which(name)
         if found is None:
-            raise Skip(f"there is no {name} ({what}: equipment/install_targets)")
+            raise Lack(f"there is no {name} ({what}: equipment/{'install_servers' if name == 'node' else 'install_targets'})")
         return found
 
     def arm(self) -> list[str]:
@@ -283,19 +283,16 @@ def make(machines: Machines, to: Path) -> bytes:
 
 
 def made_again(machines: Machines) -> str:
-    """From what the proofs built, each byte for byte. Tools that are missing are installed where that can be done, and where it cannot,
-    the trial is skipped by name; tools of another version make others, so that nobody knows what is released: that fails."""
+    """From what the proofs built, each byte for byte. Tools of another version make others, so that nobody knows what is released: that
+    fails."""
     to = machines.folder / "made"
-    fault = make(machines, to)
-    if b"is not installed" in fault:
-        installed = subprocess.run([machines.root / "equipment/install_targets"], capture_output=True, check=False)
-        if installed.returncode != 0:
-            raise Skip(beginning(installed.stderr))
-        fault = make(machines, to)
+    fault = beginning(make(machines, to))
+    if "is not installed" in fault:
+        raise Lack(fault)
     if fault:
-        return beginning(fault)
+        return fault
     files = [line.split()[1] for line in (machines.dist / "SHA256SUMS").read_text().splitlines()]
-    for file in (*files, "SHA256SUMS", "TOOLS"):
+    for file in (*files, "SHA256SUMS"):
         if not filecmp.cmp(to / file, machines.dist / file, shallow=False):
             return f"{file} differs from that in dist"
     return ""
@@ -447,6 +444,5 @@ ROWS: list[Row] = [
 
 
 def trials(machines: Machines) -> list[Trial]:
-    """(The first of them installs what the others need.)"""
     files = c_files.trials(machines.root, machines.folder / "c_files")
     return [*(Trial(name, functools.partial(row, machines)) for name, row in ROWS), *files]
