@@ -66,6 +66,7 @@ AT_ONCE = 4
 # (a static program of Debian's glibc or musl needs no other file: it names neither a loader nor a library)
 NEEDS_OTHERS = ("INTERP", "NEEDED")
 LIMITS = (8, 16, 32, 64)  # MiB
+LIMITS_OF_ARM = (48, 64, 96)  # MiB of addresses in the emulator, which puts a stack and the like into the first 40
 MOST_BYTES = 8_000_000
 
 
@@ -377,6 +378,15 @@ def memory_of_static(machines: Machines) -> str:
     return ""
 
 
+def memory_of_arm(machines: Machines) -> str:
+    emulator, program = machines.arm()
+    for limit in LIMITS_OF_ARM:
+        why = is_out_of_memory(ask([emulator, "-R", f"{limit}M", program], large(machines)))
+        if why:
+            return f"{limit} MiB: {why}"
+    return ""
+
+
 def memory_of_module(machines: Machines) -> str:
     for limit in LIMITS:
         for found in machines.in_node([large(machines)], pages=limit << 4):
@@ -436,6 +446,7 @@ ROWS: list[Row] = [
     ("ARM: needs no other file", lambda machines: alone(machines, ARM)),
     ("ARM, under an emulator: all real pickles in a root with nothing else", in_arm_root),
     *comparisons("arm", "ARM, under an emulator"),
+    ("ARM, under an emulator: out of memory is an answer", memory_of_arm),
     ("the module in Node: as it is started", started_in_node),
     ("the module in Node: all real pickles in a root with nothing else", in_node_root),
     *comparisons("module", "the module in Node"),
