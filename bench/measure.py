@@ -114,11 +114,11 @@ class Measured(NamedTuple):
     status: int
 
 
-def measure(command: Sequence[str]) -> Measured:
-    """Runs a command by GNU time; its output is thrown away."""
-    with tempfile.NamedTemporaryFile('r') as figures:
+def measure(command: Sequence[str], lines: str = os.devnull) -> Measured:
+    """Runs a command by GNU time, which reads the lines of a file; its output is thrown away."""
+    with tempfile.NamedTemporaryFile('r') as figures, open(lines, 'rb') as given:
         status = subprocess.run(['/usr/bin/time', '-o', figures.name, '-f', '%U %S %M', *command],
-                                stdout=subprocess.DEVNULL, stderr=subprocess.DEVNULL).returncode
+                                stdin=given, stdout=subprocess.DEVNULL, stderr=subprocess.DEVNULL).returncode
         # (the last line, since GNU time writes another before it where the status is not 0)
         user, system, kibibytes = figures.read().split('\n')[-2].split()
     return Measured(max(float(user) + float(system), 0.01), int(kibibytes) * 1024, status)
@@ -129,10 +129,11 @@ def shortest(command: Sequence[str], runs: int = RUNS) -> Measured:
     return min((measure(command) for _ in range(runs)), key=lambda m: m.seconds)
 
 
-def instructions(command: Sequence[str]) -> int:
+def instructions(command: Sequence[str], lines: str = os.devnull) -> int:
     """How many instructions the whole process takes, as callgrind counts them."""
-    told = subprocess.run(['valgrind', '--tool=callgrind', '--callgrind-out-file=/dev/null', *command],
-                          stdout=subprocess.DEVNULL, stderr=subprocess.PIPE, text=True).stderr
+    with open(lines, 'rb') as given:
+        told = subprocess.run(['valgrind', '--tool=callgrind', '--callgrind-out-file=/dev/null', *command],
+                              stdin=given, stdout=subprocess.DEVNULL, stderr=subprocess.PIPE, text=True).stderr
     counted = re.search(r'Collected : (\d+)', told)
     assert counted is not None, told
     return int(counted[1])
@@ -244,10 +245,15 @@ def processor() -> str:
         return next((line.split(':', 1)[1].strip() for line in file if line.startswith('model name')), platform.machine())
 
 
+def heading(scale: fractions.Fraction) -> str:
+    """When and where it is measured."""
+    return '%s, %d processors (%s), Python %s, scale %s, load %.1f at the start. MB of 1,000,000 bytes.\n' % (
+        datetime.date.today(), os.cpu_count() or 1, processor(), platform.python_version(), scale, os.getloadavg()[0])
+
+
 def main() -> None:
     program, plain, scale = sys.argv[1], sys.argv[2], fractions.Fraction(sys.argv[3])
-    print('%s, %d processors (%s), Python %s, scale %s, load %.1f at the start. MB of 1,000,000 bytes.\n' % (
-        datetime.date.today(), os.cpu_count() or 1, processor(), platform.python_version(), scale, os.getloadavg()[0]))
+    print(heading(scale))
     with tempfile.TemporaryDirectory() as folder:
         print('| Instructions for each opcode | opcodes | list | bar | bare loop | twice the file | |')
         print('|---|---|---|---|---|---|---|')
@@ -270,4 +276,5 @@ def main() -> None:
         print('\n' + full_file(folder, program, int(FULL * scale)))
 
 
-main()
+if __name__ == '__main__':
+    main()

@@ -13,7 +13,7 @@ from dataclasses import dataclass
 from pathlib import Path
 
 from trials.room import beginning, text_difference
-from trials.trial import Skip, Trial
+from trials.trial import Lack, Trial
 
 MUSL, MUSL_HEADERS = Path("/usr/lib/x86_64-linux-musl"), Path("/usr/include/x86_64-linux-musl")
 SEED = 1
@@ -115,7 +115,7 @@ class Files:
     def with_musl(self, name: str, *words: str) -> Path:
         """The same, statically linked with musl."""
         if not MUSL.is_dir():
-            raise Skip("there is no musl (equipment/install_targets)")
+            raise Lack("there is no musl (equipment/install_targets)")
         own = subprocess.run(["cc", "-print-file-name=include"], capture_output=True, text=True, check=True).stdout.strip()
         headers = ("-nostdinc", "-isystem", MUSL_HEADERS, "-isystem", own)
         start = ("-fno-stack-protector", "-nostdlib", "-static", "-no-pie", "-fno-pie", MUSL / "crt1.o", MUSL / "crti.o")
@@ -132,9 +132,13 @@ def fault_of(done: "tuple[int, str]") -> str:
 
 
 def heap(files: Files) -> str:
-    """Under a load of random sizes, on Linux and as in a module; and the moves of blocks."""
-    ways = ((files.c / "heap.c", files.c / "blocks.c"), ("-DMODULE",))
+    """Under a load of random sizes, also where memory is refused, on Linux and as in a module; and the moves of blocks."""
+    ways = ((files.c / "heap.c", files.c / "blocks.c", "-Wl,--wrap=syscall,--wrap=mmap,--wrap=mremap"), ("-DMODULE",))
     return next(filter(None, (fault_of(files.run(files.compiled("heap", *way))) for way in ways)), "")
+
+
+def exports(files: Files) -> str:
+    return fault_of(files.run(files.compiled("exports", "-Wno-attributes")))
 
 
 def products(files: Files) -> str:
@@ -214,6 +218,7 @@ def errors() -> Iterator["tuple[str, str]"]:
 
 ROWS: "list[tuple[str, Callable[[Files], str]]]" = [
     ("C of further machines: the heap and blocks", heap),
+    ("C of further machines: memory for a host", exports),
     ("C of further machines: products and shifts", products),
     ("C of further machines: the start", start),
     ("C of further machines: what musl lacks", musl),

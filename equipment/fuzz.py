@@ -6,8 +6,8 @@
 The first FOLDER is for the files of the cases. Each case has a generator of its own, made of the seed and the case's number, so
 that a case that breaks a law can be made again (--first K --cases 1, with the same --pickles); its files stay in FOLDER. Without
 --cases and --seconds there are 1000 cases; with both, it ends with what comes first. With --pickles some cases are mutations of
-the pickles in that folder. With --library this shared library answers in this process; what it has no function for (what is saved,
-calls in full) is the program's, which then has to answer alike. The last line says how many cases there were, or which law was broken.
+the pickles in that folder. With --library this shared library answers in this process; what is saved is the program's, which then
+has to answer alike. The last line says how many cases there were, or which law was broken.
 
 The laws:
 - the bytes that are saved after no line are those that were opened;
@@ -27,7 +27,7 @@ The laws:
 - the status says whether something was refused.
 
 A third of the cases are several pickles in one input, and every command has the option --many. In a quarter every command has --unframed,
-and `calls` and the library, which have no such option, are not asked.
+and `calls`, which has no such option, is not asked.
 """
 
 from __future__ import annotations

@@ -1,4 +1,4 @@
-"""Gives the program inputs that are cut short, deep or long, with a stack of 256 KiB.
+"""Gives the program and the library inputs that are cut short, deep or long, with a stack of 256 KiB.
 
 Each real pickle is cut at each of its first 2,000 bytes and listed, and at some of them with --unframed. What a listing of a cut
 says follows from the listing of the whole: the opcodes that are whole in it, and the fault of what is left, by the sizes that pickletools gives.
@@ -17,6 +17,7 @@ import resource
 import subprocess
 from collections.abc import Callable
 
+from fuzz import Library
 from trials.trial import Trial
 
 MOST = 2000
@@ -26,7 +27,20 @@ OPCODES = {opcode.name: opcode for opcode in pickletools.opcodes}
 ITEM = re.compile(r" *(\d+): \S+ +(\S+)(?: +(\d+))?")
 
 
+@functools.cache
+def library(file: str) -> Library:
+    return Library(pathlib.Path(file))
+
+
+def is_library(program: str) -> bool:
+    return program.endswith(".so")
+
+
 def answer(program: str, words: list[str], script: str = "") -> tuple[str, int]:
+    """The text and the status, of the program or in this process of the library."""
+    if is_library(program):
+        text, status = library(program).answers(words, script.encode())
+        return text.decode(), status
     done = subprocess.run([program, *words], input=script.encode(), capture_output=True, timeout=100, close_fds=False)
     if done.stderr:
         raise ValueError(f"errors {done.stderr[:100]!r}")
@@ -109,7 +123,9 @@ def try_pickles(program: str, folder: pathlib.Path, pickles: pathlib.Path) -> tu
 
 
 def debug(program: str, file: pathlib.Path, script: str) -> tuple[str, int, bool]:
-    """The transcript, and whether the bytes are saved as they were."""
+    """The transcript, and whether the bytes are saved as they were. (The library saves nothing.)"""
+    if is_library(program):
+        return (*answer(program, ["debug", str(file)], script), True)
     saved = file.with_name("saved.pickle")
     text, status = answer(program, ["debug", str(file), "--save", str(saved)], script)
     return text, status, saved.read_bytes() == file.read_bytes()
@@ -228,25 +244,26 @@ ROWS = [
 
 
 def limit_stack() -> None:
-    """For this process, and so for each program that it starts."""
+    """For this process, in which the library is, and so for each program that it starts."""
     resource.setrlimit(resource.RLIMIT_STACK, (STACK, resource.getrlimit(resource.RLIMIT_STACK)[1]))
 
 
 @dataclasses.dataclass
 class Hostile:
     program: str
+    library: str
     folder: pathlib.Path
     pickles: pathlib.Path
     inputs: int = 0
 
-    def row_fault(self, row: Callable[[str, pathlib.Path], bool], count: int) -> str:
+    def row_fault(self, program: str, row: Callable[[str, pathlib.Path], bool], count: int) -> str:
         self.folder.mkdir(exist_ok=True)
         self.inputs += count
-        return "" if row(self.program, self.folder / "hostile.pickle") else "something else is answered"
+        return "" if row(program, self.folder / "hostile.pickle") else "something else is answered"
 
-    def cuts_fault(self) -> str:
+    def cuts_fault(self, program: str) -> str:
         self.folder.mkdir(exist_ok=True)
-        count, why = try_pickles(self.program, self.folder, self.pickles)
+        count, why = try_pickles(program, self.folder, self.pickles)
         self.inputs += count
         return why
 
@@ -254,6 +271,10 @@ class Hostile:
         return f"{self.inputs} inputs, by hostile.py"
 
 
+def trials_of(hostile: Hostile, program: str, by: str) -> list[Trial]:
+    rows = [Trial(f"{name}{by}", functools.partial(hostile.row_fault, program, row, count)) for name, row, count in ROWS]
+    return [*rows, Trial(f"the real pickles, cut at each byte{by}", functools.partial(hostile.cuts_fault, program))]
+
+
 def trials(hostile: Hostile) -> list[Trial]:
-    rows = [Trial(name, functools.partial(hostile.row_fault, row, count)) for name, row, count in ROWS]
-    return [*rows, Trial("the real pickles, cut at each byte", hostile.cuts_fault)]
+    return [*trials_of(hostile, hostile.program, ""), *trials_of(hostile, hostile.library, ", by the library")]

@@ -14,7 +14,7 @@ from typing import Callable
 
 from machines import KINDS, Answer, Asked, Machines, large
 from trials.room import beginning
-from trials.trial import Noted, Skip, Trial
+from trials.trial import Lack, Noted, Trial
 
 TASKS = (
     ("list",),
@@ -126,7 +126,7 @@ class Libraries(Machines):
 
     def musl_shared(self) -> list["str | Path"]:
         if not MUSL_LOADER.exists():
-            raise Skip("there is no loader of musl (equipment/install_targets)")
+            raise Lack("there is no loader of musl (equipment/install_targets)")
         at = self.dist / X86 / "lib"
         words = (f"-Wl,-dynamic-linker,{MUSL_LOADER}", f"-Wl,-rpath,{at}", f"-L{at}", "-lpicklestep", MUSL / "libc.so")
         return [self.loads(self.with_musl("musl_shared", *words))]
@@ -134,7 +134,7 @@ class Libraries(Machines):
     def with_musl(self, name: str, *words: "str | Path") -> Path:
         """ask_library.c, linked by these words, and with no C library but those that they name."""
         if not MUSL.is_dir():
-            raise Skip("there is no musl (equipment/install_targets)")
+            raise Lack("there is no musl (equipment/install_targets)")
         own = self.call("cc", "-print-file-name=include").decode().strip()
         plain = ("-nostdinc", "-isystem", MUSL_HEADERS, "-isystem", own, "-fno-stack-protector", "-nostdlib", "-no-pie", "-fno-pie")
         at = f"-I{self.dist / X86 / 'include'}"
@@ -230,14 +230,15 @@ def no_tasks(libraries: Libraries, way: str) -> str:
     return ""
 
 
-def limits(libraries: Libraries) -> str:
+def limits(libraries: Libraries, way: str) -> str:
     """Out of memory is an answer, and the next call is as any other (`form` takes little memory, and says that this one is in no form)."""
+    command = getattr(libraries, way)()
     runs = [Asked(words, large(libraries).file) for words in TASKS if words[0] not in ("debug", "form") and "--skip" not in words]
     for limit in LIMITS:
-        for run, found in zip(runs, libraries.asked(libraries.static(), runs, limit)):
+        for run, found in zip(runs, libraries.asked(command, runs, limit)):
             if found != Answer(2, b"", OF_STOPS[1]):
                 return f"{limit} bytes, {' '.join(run.words)}: status {found.status}"
-    return libraries.compare_answers(runs, libraries.asked(libraries.static(), runs)).why
+    return libraries.compare_answers(runs, libraries.asked(command, runs)).why
 
 
 def fuzzed(libraries: Libraries) -> Noted:
@@ -311,7 +312,7 @@ ROWS: list[tuple[str, Callable[[Libraries], "str | Noted"]]] = [
     *((f"the library, {WAYS[way]}: what edits leave", functools.partial(of_edits, way=way)) for way in ("static", "module")),
     *((f"the library, {WAYS[way]}: options of no task", functools.partial(no_tasks, way=way)) for way in ("static", "module")),
     ("the library: random pickles and scripts", fuzzed),
-    ("the library: out of memory is an answer", limits),
+    *((f"the library, {WAYS[way]}: out of memory is an answer", functools.partial(limits, way=way)) for way in ("static", "shared", "musl", "arm")),
     ("the library: too large is an answer", too_large),
     *(
         (f"the library: the example in {language}", functools.partial(example, language=language, name=name, build=build))

@@ -23,7 +23,7 @@ from conversations import blocks_of, runs_of
 from roots import Root, like_alpine, put
 from trials.room import beginning, text_difference
 from trials.samples import HOSTILE
-from trials.trial import Noted, Skip, Trial
+from trials.trial import Lack, Noted, Trial
 
 STATIC, ARM, MODULE, SCRIPTED = "linux-x86_64-static/picklestep", "linux-aarch64/picklestep", "picklestep.wasm", "picklestep.mjs"
 BUILT = "linux-x86_64/picklestep"
@@ -66,6 +66,7 @@ AT_ONCE = 4
 # (a static program of Debian's glibc or musl needs no other file: it names neither a loader nor a library)
 NEEDS_OTHERS = ("INTERP", "NEEDED")
 LIMITS = (8, 16, 32, 64)  # MiB
+LIMITS_OF_ARM = (48, 64, 96)  # MiB of addresses in the emulator, which puts a stack and the like into the first 40
 MOST_BYTES = 8_000_000
 
 
@@ -213,7 +214,7 @@ class Machines:
     def tool(self, name: str, what: str) -> str:
         found = shutil.which(name)
         if found is None:
-            raise Skip(f"there is no {name} ({what}: equipment/install_targets)")
+            raise Lack(f"there is no {name} ({what}: equipment/{'install_servers' if name == 'node' else 'install_targets'})")
         return found
 
     def arm(self) -> list[str]:
@@ -283,19 +284,16 @@ def make(machines: Machines, to: Path) -> bytes:
 
 
 def made_again(machines: Machines) -> str:
-    """From what the proofs built, each byte for byte. Tools that are missing are installed where that can be done, and where it cannot,
-    the trial is skipped by name; tools of another version make others, so that nobody knows what is released: that fails."""
+    """From what the proofs built, each byte for byte. Tools of another version make others, so that nobody knows what is released: that
+    fails."""
     to = machines.folder / "made"
-    fault = make(machines, to)
-    if b"is not installed" in fault:
-        installed = subprocess.run([machines.root / "equipment/install_targets"], capture_output=True, check=False)
-        if installed.returncode != 0:
-            raise Skip(beginning(installed.stderr))
-        fault = make(machines, to)
+    fault = beginning(make(machines, to))
+    if "is not installed" in fault:
+        raise Lack(fault)
     if fault:
-        return beginning(fault)
+        return fault
     files = [line.split()[1] for line in (machines.dist / "SHA256SUMS").read_text().splitlines()]
-    for file in (*files, "SHA256SUMS", "TOOLS"):
+    for file in (*files, "SHA256SUMS"):
         if not filecmp.cmp(to / file, machines.dist / file, shallow=False):
             return f"{file} differs from that in dist"
     return ""
@@ -380,6 +378,15 @@ def memory_of_static(machines: Machines) -> str:
     return ""
 
 
+def memory_of_arm(machines: Machines) -> str:
+    emulator, program = machines.arm()
+    for limit in LIMITS_OF_ARM:
+        why = is_out_of_memory(ask([emulator, "-R", f"{limit}M", program], large(machines)))
+        if why:
+            return f"{limit} MiB: {why}"
+    return ""
+
+
 def memory_of_module(machines: Machines) -> str:
     for limit in LIMITS:
         for found in machines.in_node([large(machines)], pages=limit << 4):
@@ -439,6 +446,7 @@ ROWS: list[Row] = [
     ("ARM: needs no other file", lambda machines: alone(machines, ARM)),
     ("ARM, under an emulator: all real pickles in a root with nothing else", in_arm_root),
     *comparisons("arm", "ARM, under an emulator"),
+    ("ARM, under an emulator: out of memory is an answer", memory_of_arm),
     ("the module in Node: as it is started", started_in_node),
     ("the module in Node: all real pickles in a root with nothing else", in_node_root),
     *comparisons("module", "the module in Node"),
@@ -447,6 +455,5 @@ ROWS: list[Row] = [
 
 
 def trials(machines: Machines) -> list[Trial]:
-    """(The first of them installs what the others need.)"""
     files = c_files.trials(machines.root, machines.folder / "c_files")
     return [*(Trial(name, functools.partial(row, machines)) for name, row in ROWS), *files]

@@ -33,7 +33,7 @@ MOST_SECONDS = 600
 MOST_SECONDS_OF_TESTS = 3600
 WHEEL = 'python: the wheel is built and installed'
 TYPES = 'python: mypy --strict'
-NO_BUILDER = 'there is no setuptools, wheel and pip'
+NO_BUILDER = 'there is no setuptools, wheel and pip (equipment/install_targets)'
 
 
 class Lines(unittest.TestResult):
@@ -163,12 +163,6 @@ def install(python: str, program: str, folder: Path) -> Tuple[str, str]:
     return installed, why
 
 
-def add_servers() -> None:
-    """Installs the servers that stores are tried with where they are missing and that can be done. Elsewhere their tests are skipped."""
-    with contextlib.suppress(OSError, subprocess.TimeoutExpired):
-        subprocess.run([ROOT / 'equipment' / 'install_servers'], stdin=subprocess.DEVNULL, capture_output=True, timeout=MOST_SECONDS, check=False)
-
-
 def check_types(folder: Path) -> str:
     """What mypy says of the package, where there is one."""
     words = ['--strict', '--config-file', str(SOURCES / 'pyproject.toml'), '--cache-dir', str(folder / 'types')]
@@ -196,7 +190,7 @@ class Package:
         if python is not None:
             interpreter, why = install(python, self.program, self.folder)
         if wanted is None or WHEEL in wanted:
-            yield Verdict(WHEEL, WHEEL, why, is_skipped=python is None)
+            yield Verdict(WHEEL, WHEEL, why, is_skipped=python is None, is_lacking=python is None)
         tests = sorted(name for name in wanted or () if name.startswith('python '))
         if wanted is None or tests:
             yield from self.tests('' if why else interpreter, tests, why or 'it is installed')
@@ -206,8 +200,6 @@ class Package:
 
     def tests(self, interpreter: str, names: List[str], place: str) -> Iterator[Verdict]:
         """Runs tests where the wheel is installed, or from the source tree; without names all, and counts them."""
-        if not names:
-            add_servers()
         environment = {'PYTHONDONTWRITEBYTECODE': '1'} if interpreter else from_sources(self.program)
         lines = self.folder / 'lines'
         words = [interpreter or sys.executable, str(Path(__file__).resolve()), '--run', str(lines), *names]

@@ -76,7 +76,7 @@ release_fault() {
     if [ ! -r "$released/SOURCES" ] || [ "$(sum_of_sources)" != "$(<"$released/SOURCES")" ]; then
         echo 'dist/linux-x86_64/SOURCES is not the sum of the sources'
     elif ! (cd -- "$released" && "${summing[@]}" -c SHA256SUMS) >/dev/null 2>&1; then
-        echo 'dist/linux-x86_64/picklestep has not the sum in SHA256SUMS'
+        echo 'a file of dist/linux-x86_64 has not the sum in SHA256SUMS'
     fi
 }
 

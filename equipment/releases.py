@@ -18,7 +18,7 @@ from dataclasses import dataclass, field
 
 from saves import unprivileged
 from trials.samples import HOSTILE
-from trials.trial import Skip, Trial
+from trials.trial import Lack, Trial
 
 LISTING = """\
     0: c    GLOBAL     'posix' 'system'
@@ -168,7 +168,7 @@ class Releases:
         """A folder with Node alone."""
         found = shutil.which("node")
         if found is None:
-            raise Skip("there is no Node")
+            raise Lack("there is no Node (equipment/install_servers)")
         (self.folder / "node").mkdir()
         (self.folder / "node/node").symlink_to(found)
         return str(self.folder / "node")
@@ -307,11 +307,17 @@ def program_changed(releases: Releases) -> str:
         return why
     (at / RELEASED).write_bytes(was)
     (at / RELEASED).chmod(0o755)
-    change_byte(at / BUILT / "picklestep")
-    check = releases.run("./release", "--check", at=at)
-    if check.status != 1 or "SHA256SUMS" not in check.errors:
-        return f"what the proofs built: status {check.status}, errors {check.errors[:200]!r}"
-    return releases.lists("./picklestep", at=at)
+    for name in ("picklestep", "TOOLCHAIN"):
+        kept = (at / BUILT / name).read_bytes()
+        change_byte(at / BUILT / name)
+        check = releases.run("./release", "--check", at=at)
+        if check.status != 1 or "SHA256SUMS" not in check.errors:
+            return f"{name} of the proofs: status {check.status}, errors {check.errors[:200]!r}"
+        why = releases.lists("./picklestep", at=at)
+        if why:
+            return f"{name} of the proofs: {why}"
+        (at / BUILT / name).write_bytes(kept)
+    return ""
 
 
 def crates_changed(releases: Releases) -> str:
@@ -416,7 +422,8 @@ def release_again(releases: Releases) -> str:
 def further_changed(releases: Releases) -> str:
     """A further program, or what makes it, that was changed: the check says it, and such a machine does not start it."""
     at = releases.copy("further")
-    changed = (("dist/picklestep.wasm", "dist/SHA256SUMS"), ("targets/c/heap.c", "dist/SOURCES"), ("crates/picklestep_library/src/lib.rt", "dist/SOURCES"))
+    changed = (("dist/picklestep.wasm", "dist/SHA256SUMS"), ("dist/TOOLS", "dist/SHA256SUMS"), ("targets/c/heap.c", "dist/SOURCES"),
+               ("crates/picklestep_library/src/lib.rt", "dist/SOURCES"))
     for file, says in changed:
         was = (at / file).read_bytes()
         change_byte(at / file)

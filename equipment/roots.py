@@ -13,7 +13,7 @@ import subprocess
 from collections.abc import Iterable
 from pathlib import Path
 
-from trials.trial import Skip
+from trials.trial import Lack
 
 # What an Alpine has before anything is installed, as Debian brings it: busybox for all commands, and musl's loader. The entrance in a
 # clone needs bash besides.
@@ -26,7 +26,7 @@ def entering() -> tuple[str, ...]:
     for words in (("chroot",), ("unshare", "--map-root-user", "chroot")):
         if shutil.which(words[0]) and subprocess.run([*words, "/", "true"], capture_output=True, check=False).returncode == 0:
             return words
-    raise Skip("the root may not be changed here")
+    raise Lack("the root may not be changed here")
 
 
 def libraries(program: Path) -> list[Path]:
@@ -75,9 +75,9 @@ def like_alpine(at: Path) -> Root:
     """A root with busybox's commands, musl's loader and bash, and no glibc."""
     for file, package in ((BUSYBOX, "busybox-static"), (BASH, "bash-static"), (MUSL, "musl")):
         if not file.exists():
-            raise Skip(f"there is no {file} (Debian's {package}: equipment/install_targets)")
+            raise Lack(f"there is no {file} (Debian's {package}: equipment/install_targets)")
         if file != MUSL and libraries(file):
-            raise Skip(f"{file} is not static (Debian's {package}: equipment/install_targets)")
+            raise Lack(f"{file} is not static (Debian's {package}: equipment/install_targets)")
     root = Root(at)
     for folder in ("bin", "usr/bin", "lib", "tmp", "dev"):
         (at / folder).mkdir(parents=True)

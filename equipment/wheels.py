@@ -15,7 +15,7 @@ from typing import Callable
 from over_node import DEAR, classes, prepare, run_classes
 from packages import NO_BUILDER, builder, own_environment
 from trials.room import beginning
-from trials.trial import Noted, Skip, Trial
+from trials.trial import Lack, Noted, Trial
 
 MACHINES = ("linux-x86_64", "linux-aarch64", "any")
 ASK = """\
@@ -44,7 +44,7 @@ class Wheels:
         """An interpreter that can build a wheel."""
         found = builder()
         if found is None:
-            raise Skip(NO_BUILDER)
+            raise Lack(NO_BUILDER)
         return found
 
     def call(self, *words: "str | Path", at: Path | None = None, **environment: str) -> str:
@@ -125,7 +125,7 @@ def contents(wheel: Path) -> dict[str, bytes]:
 def installed(wheels: Wheels, machine: str, in_process: bool, program: str) -> str:
     """The wheel is installed and asked, by the package and by its command."""
     if program == "picklestep.mjs" and shutil.which("node") is None:
-        raise Skip("there is no Node")
+        raise Lack("there is no Node (equipment/install_servers)")
     interpreter = wheels.environment(f"env-{machine}")
     wheels.install(interpreter, wheels.wheel(machine, wheels.sources))
     found = wheels.call(interpreter, "-c", ASK)
@@ -157,7 +157,7 @@ def by_tags(wheels: Wheels, machine: str) -> str:
 def emulator_of(machine: str) -> str:
     found = shutil.which(f"qemu-{machine}")
     if found is None:
-        raise Skip(f"there is no qemu-{machine} (Debian's qemu-user)")
+        raise Lack(f"there is no qemu-{machine} (Debian's qemu-user: equipment/install_targets)")
     return found
 
 
@@ -172,7 +172,7 @@ def from_sources(wheels: Wheels) -> str:
 def over_node(wheels: Wheels) -> Noted:
     """The tests of the package, with the wheel for any machine, and without what other systems have not."""
     if shutil.which("node") is None:
-        raise Skip("there is no Node")
+        raise Lack("there is no Node (equipment/install_servers)")
     interpreter = Path(wheels.lesser())
     tried = list(run_classes(interpreter, "windows", [name for name in classes(interpreter) if name not in DEAR], wheels.folder))
     faults = [fault for one in tried for fault in one.faults]

@@ -3,8 +3,8 @@
     python3 targets/make.py FOLDER
 
 FOLDER gets linux-x86_64-static/picklestep (musl, static), linux-aarch64/picklestep (glibc, static), picklestep.wasm, picklestep.mjs and
-picklestep.html (page.py); the library for both (linux-MACHINE-library) and as a module without imports (libpicklestep.wasm); SHA256SUMS over them, and TOOLS, the
-versions of what made them. Status 2 and a sentence where a tool is missing or has another version than the one that the released sums
+picklestep.html (page.py); the library for both (linux-MACHINE-library) and as a module without imports (libpicklestep.wasm); TOOLS, the
+versions of what made them, and SHA256SUMS over all. Status 2 and a sentence where a tool is missing or has another version than the one that the released sums
 were made with: equipment/install_targets installs them.
 
 Rattle hands clang one LLVM module for the program and one for the library. They are kept here, and compiled for each machine: a module
@@ -60,7 +60,8 @@ EXPANDED = ['-mllvm', '-expand-div-rem-bits=64', '-mllvm', '-expand-fp-convert-b
 PROGRAMS = ('linux-x86_64-static/picklestep', 'linux-aarch64/picklestep', 'picklestep.wasm', 'libpicklestep.wasm', 'picklestep.mjs', page.NAME)
 LIBRARIES = {X86: 'linux-x86_64-library', ARM: 'linux-aarch64-library'}
 PARTS = ('include/picklestep.h', 'lib/libpicklestep.a', 'lib/libpicklestep.so', 'lib/pkgconfig/picklestep.pc')
-MADE = (*PROGRAMS, *(f'{folder}/{part}' for folder in LIBRARIES.values() for part in PARTS))
+TOOLS = 'TOOLS'
+MADE = (*PROGRAMS, *(f'{folder}/{part}' for folder in LIBRARIES.values() for part in PARTS), TOOLS)
 # What a crate is to rattle: its row of crates.txt, its root file, and words.
 CRATES = {'picklestep': ('picklestep:', 'src/main.rt', []),
           'picklestep_library': ('picklestep_library staticlib:', 'src/lib.rt', ['--crate-type', 'staticlib'])}
@@ -270,9 +271,9 @@ def make_all(to: Path) -> None:
                 done.result()
         shutil.copy(HERE / 'picklestep.mjs', made / PROGRAMS[4])
         (made / page.NAME).write_bytes(page.make(made, to / page.NAME))
+        (made / TOOLS).write_text(tools)
         (made / 'SHA256SUMS').write_text(''.join(f'{hashlib.sha256((made / file).read_bytes()).hexdigest()}  {file}\n' for file in MADE))
-        (made / 'TOOLS').write_text(tools)
-        for file in (*MADE, 'SHA256SUMS', 'TOOLS'):
+        for file in (*MADE, 'SHA256SUMS'):
             put(made / file, to / file, 0o755 if file.endswith(('/picklestep', '.mjs', '.so')) else 0o644)
 
 

@@ -1,19 +1,24 @@
-// Tries targets/c/heap.c and targets/c/blocks.c under a load of random sizes. The status is 0 where every byte was found again. With
-// -DMODULE it is the heap of a module, over a memory that stands in for the module's.
+// Tries targets/c/heap.c and targets/c/blocks.c under a load of random sizes, with memory and without. The status is 0 where every byte was
+// found again. With -DMODULE it is the heap of a module, over a memory that stands in for the module's; else the calls of the kernel are wrapped.
+#define _GNU_SOURCE
+#include <stdarg.h>
 #include <stddef.h>
 #include <stdint.h>
 #include <stdio.h>
 #include <stdlib.h>
 #include <string.h>
+#include <sys/mman.h>
+
+// Whether what is asked of the kernel or the host is refused from now on, and how often it was.
+static int refusing, refused;
 
 #ifdef MODULE
-#include <sys/mman.h>
 static uint8_t *memory;
-static unsigned long pages = 17, most_pages = 65536;
+static unsigned long pages = 17, most_pages = 65536, most_at_once = 65536;
 
 static unsigned long grow(unsigned long n) {
-    if (n > most_pages - pages)
-        return (unsigned long)-1;
+    if (n > most_pages - pages || n > most_at_once || refusing)
+        return refused++, (unsigned long)-1;
     pages += n;
     return pages - n;
 }
@@ -26,6 +31,7 @@ static unsigned long grow(unsigned long n) {
 #include "heap.c"
 #undef __wasm__
 #else
+#include <sys/syscall.h>
 typedef struct {
     uint64_t ok;
     uint8_t *p;
@@ -33,9 +39,37 @@ typedef struct {
 tried rattle_alloc(uint64_t n, uint64_t align);
 tried rattle_realloc(uint8_t *p, uint64_t kept, uint64_t n, uint64_t align);
 void rattle_dealloc(uint8_t *p);
+
+// The end of what brk gives may not pass `most_end`; and where it is told to be, another has moved it by `moved`.
+static uintptr_t most_end = UINTPTR_MAX, moved;
+long __real_syscall(long, ...);
+void *__real_mmap(void *, size_t, int, int, int, off_t);
+void *__real_mremap(void *, size_t, size_t, int, ...);
+
+long __wrap_syscall(long number, ...) {
+    va_list list;
+    va_start(list, number);
+    uintptr_t at = va_arg(list, uintptr_t);
+    va_end(list);
+    if (number != SYS_brk)
+        abort();
+    if (at && (refusing || at > most_end)) {
+        refused++;
+        at = 0;
+    }
+    return __real_syscall(SYS_brk, at) + (long)(at ? 0 : moved);
+}
+
+void *__wrap_mmap(void *at, size_t n, int prot, int flags, int fd, off_t from) {
+    return refusing ? refused++, MAP_FAILED : __real_mmap(at, n, prot, flags, fd, from);
+}
+
+void *__wrap_mremap(void *at, size_t was, size_t n, int flags, ...) {
+    return refusing ? refused++, MAP_FAILED : __real_mremap(at, was, n, flags);
+}
 #endif
 
-enum { BLOCKS = 4000, ROUNDS = 300000, MOST = 300 };
+enum { BLOCKS = 4000, ROUNDS = 200000, MOST = 300, LARGEST = 10000 };
 
 static uint8_t *blocks[BLOCKS], marks[BLOCKS];
 static uint64_t sizes[BLOCKS];
@@ -78,20 +112,30 @@ static void check(size_t i, uint64_t n) {
             fail("a byte was changed");
 }
 
-static void try_heap(void) {
+// A block has another size from now on, or is a new one. Where that is refused, it is as it was.
+static void resize(size_t i, uint64_t n) {
+    uint64_t was = blocks[i] ? sizes[i] : 0;
+    int before = refused;
+    tried t = blocks[i] ? rattle_realloc(blocks[i], was, n, 1) : rattle_alloc(n, 1);
+    if (!t.ok && refused > before) {
+        check(i, was);
+        return;
+    }
+    keep(i, t);
+    check(i, n < was ? n : was);
+    sizes[i] = n;
+    mark(i);
+}
+
+static void try_heap(int refusals) {
     for (int round = 0; round < ROUNDS; round++) {
         size_t i = next() % BLOCKS;
-        if (!blocks[i]) {
-            sizes[i] = size();
-            keep(i, rattle_alloc(sizes[i], 1));
-            mark(i);
-        } else if (next() % 3 == 0) {
-            uint64_t n = size(), least = n < sizes[i] ? n : sizes[i];
+        refusing = refusals && next() % 2;
+        if (!blocks[i])
+            resize(i, size());
+        else if (next() % 3 == 0) {
             check(i, sizes[i]);
-            keep(i, rattle_realloc(blocks[i], sizes[i], n, 1));
-            check(i, least);
-            sizes[i] = n;
-            mark(i);
+            resize(i, size());
         } else {
             check(i, sizes[i]);
             rattle_dealloc(blocks[i]);
@@ -135,32 +179,79 @@ static void try_rooms(void) {
     t = rattle_alloc(whole - (1 << 21), 1);
     if (!t.ok)
         fail("what was freed was not joined");
-    rattle_dealloc(t.p);
+    // (It is held from now on, so that what comes after it needs more, a little at a time.)
+    most_pages = 65536;
+    most_at_once = 8;
+}
+#else
+// Each kind of call of the kernel is refused, first before there is a heap, and made again.
+static void try_refusals(void) {
+    enum { SMALL = 1000, MEDIUM = 1 << 17, LARGE = 1 << 20 };
+    // (small and large blocks; from small to large, from large to larger; and more than the heap has)
+    static const size_t which[] = {0, 1, 0, 1, 2}, wanted[] = {SMALL, LARGE, 2 * LARGE, 2 * LARGE, MEDIUM};
+    for (size_t k = 0; k < sizeof which / sizeof *which; k++) {
+        size_t i = which[k], size = sizes[i];
+        uint8_t *was = blocks[i];
+        int before = refused;
+        refusing = 1;
+        resize(i, wanted[k]);
+        if (refused == before || blocks[i] != was || sizes[i] != size)
+            fail("a refusal that was none");
+        before = refused;
+        refusing = 0;
+        resize(i, wanted[k]);
+        if (refused > before || sizes[i] != wanted[k])
+            fail("a refusal that stays");
+    }
+    // Where little is left, what has room in it is given; and nothing is where another has moved the end.
+    int before = refused;
+    most_end = (uintptr_t)__real_syscall(SYS_brk, 0) + MEDIUM - 1;
+    resize(3, MEDIUM + MEDIUM / 2);
+    if (refused == before || !blocks[3])
+        fail("what is left was not given");
+    most_end = UINTPTR_MAX;
+    moved = 16;
+    if (rattle_alloc(MEDIUM, 1).ok)
+        fail("memory of another");
+    moved = 0;
 }
 #endif
 
-// Every length up to MOST, and every distance of two places that overlap or not, against a copy byte by byte.
+// One move of bytes, against a copy byte by byte; and what was moved is compared, and set. (No compiler makes a call of what is volatile.)
+static void try_move(size_t from, size_t to, size_t n, size_t whole) {
+    static uint8_t bytes[3 * LARGEST];
+    static volatile uint8_t wanted[3 * LARGEST];
+    for (size_t k = 0; k < whole; k++)
+        bytes[k] = wanted[k] = (uint8_t)next();
+    for (size_t k = 0; k < n; k++)
+        wanted[to + k] = bytes[from + k];
+    memmove(bytes + to, bytes + from, n);
+    for (size_t k = 0; k < whole; k++)
+        if (bytes[k] != wanted[k])
+            fail("memmove");
+    if (memcmp(bytes + to, (const uint8_t *)wanted + to, n) != 0)
+        fail("memcmp of the same");
+    if (n && (bytes[to + n / 2] ^= 1, memcmp(bytes + to, (const uint8_t *)wanted + to, n) == 0))
+        fail("memcmp of others");
+    memset(bytes + to, (int)n, n);
+    for (size_t k = 0; k < whole; k++)
+        if (bytes[k] != (k >= to && k < to + n ? (uint8_t)n : wanted[k]))
+            fail("memset");
+}
+
+// Every length up to MOST and some to LARGEST, at distances with which two places overlap or do not.
 static void try_moves(void) {
-    static uint8_t bytes[3 * MOST], wanted[3 * MOST];
+    static const size_t lengths[] = {4095, 4096, 4097, 5000, 8192, LARGEST - 1};
     for (size_t n = 0; n < MOST; n++)
-        for (size_t to = 0; to < 2 * MOST; to += 1 + next() % 7) {
-            for (size_t k = 0; k < sizeof bytes; k++)
-                bytes[k] = wanted[k] = (uint8_t)next();
-            for (size_t k = 0; k < n; k++)
-                wanted[to + k] = bytes[MOST + k];
-            memmove(bytes + to, bytes + MOST, n);
-            for (size_t k = 0; k < sizeof bytes; k++)
-                if (bytes[k] != wanted[k])
-                    fail("memmove");
-            if (memcmp(bytes + to, wanted + to, n) != 0)
-                fail("memcmp of the same");
-            if (n && (bytes[to + n / 2] ^= 1, memcmp(bytes + to, wanted + to, n) == 0))
-                fail("memcmp of others");
-            memset(bytes + to, (int)n, n);
-            for (size_t k = 0; k < sizeof bytes; k++)
-                if (bytes[k] != (k >= to && k < to + n ? (uint8_t)n : wanted[k]))
-                    fail("memset");
+        for (size_t to = 0; to < 2 * MOST; to += 1 + next() % 7)
+            try_move(MOST, to, n, 3 * MOST);
+    for (size_t i = 0; i < sizeof lengths / sizeof *lengths; i++) {
+        size_t n = lengths[i], apart[] = {0, 1, 8, 15, 16, 17, 31, 32, 33, 64, next() % n, n - 1, n, n + 1};
+        for (size_t k = 0; k < sizeof apart / sizeof *apart; k++) {
+            try_move(LARGEST, LARGEST - apart[k], n, 3 * LARGEST);
+            try_move(LARGEST, LARGEST + apart[k], n, 3 * LARGEST);
         }
+    }
 }
 
 int main(void) {
@@ -169,8 +260,14 @@ int main(void) {
     if (memory == MAP_FAILED)
         fail("no memory");
     try_rooms();
+#else
+    try_refusals();
 #endif
-    try_heap();
+    int before = refused;
+    try_heap(1);
+    if (refused == before)
+        fail("nothing was refused");
+    try_heap(0);
     try_moves();
     return 0;
 }

@@ -2,9 +2,9 @@
 
     python3 -m trials --list [NAME..]
     python3 -m trials --program FILE [--built FILE] --folder FOLDER NAME..
-    python3 -m trials --program FILE [--built FILE] --folder FOLDER --proofs LOG STATUS SECONDS
+    python3 -m trials --program FILE [--built FILE] --folder FOLDER --proofs LOG STATUS SECONDS LACKS
 
-The folder is for files, and is empty. LOG is what `rt ci` wrote. The groups `devices`, `memory` and `saves` load a library before the program, which
+The folder is for files, and is empty. LOG is what `rt ci` wrote, LACKS what the installers said that failed. The groups `devices`, `memory` and `saves` load a library before the program, which
 a static one does not let them: they try the one that is `--built`, with which `machines` and `library` compare others. Without it all groups try
 the program.
 """
@@ -28,7 +28,7 @@ def main() -> int:
     parser.add_argument("--program", type=Path, default=Path())
     parser.add_argument("--built", type=Path)
     parser.add_argument("--folder", type=Path, default=Path())
-    parser.add_argument("--proofs", nargs=3, metavar=("LOG", "STATUS", "SECONDS"))
+    parser.add_argument("--proofs", nargs=4, metavar=("LOG", "STATUS", "SECONDS", "LACKS"))
     parser.add_argument("names", nargs="*")
     words = parser.parse_args()
     room = Room(ROOT, words.program.resolve(), (words.built or words.program).resolve(), words.folder.resolve())
@@ -39,8 +39,8 @@ def main() -> int:
             runner.list_names(room, words.names)
             return 0
         if words.proofs:
-            log, status, seconds = words.proofs
-            return runner.run_all(room, Path(log), int(status), int(seconds))
+            log, status, seconds, lacks = words.proofs
+            return runner.run_all(room, Path(log), int(status), int(seconds), Path(lacks))
         return runner.run_named(room, words.names)
     except runner.Unknown as unknown:
         print(f"./test: no trial and no group has the name {unknown}: ./test --list writes the names", file=sys.stderr)

@@ -100,7 +100,8 @@ def of_pickles(room: Room) -> list[AnyGroup]:
 def of_surroundings(room: Room) -> list[AnyGroup]:
     """Inputs that lie, devices that break, files in the way, and how the program is released."""
     library = functools.partial(room.library, "break_devices")
-    cut = hostile.Hostile(str(room.program), room.folder / "hostile", room.pickles)
+    shared = room.root / "dist" / libraries.X86 / "lib/libpicklestep.so"
+    cut = hostile.Hostile(str(room.program), str(shared), room.folder / "hostile", room.pickles)
     broken = devices.Devices(str(room.proved), library, room.folder / "devices")
     saved = saves.Saves(str(room.proved), library, room.folder / "saves")
     released = releases.Releases(room.root, room.program, room.folder / "releases")

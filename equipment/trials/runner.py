@@ -109,11 +109,12 @@ def count_proofs(report: Report, log: Path, status: int) -> None:
         report.take(Verdict("", "rt ci", f"it ended with status {status} and {ending}, and names nothing that failed"))
 
 
-def run_all(room: Room, log: Path, status: int, seconds: int) -> int:
-    """Runs all groups, if the proofs passed, and prints what the whole took. Returns the status."""
-    report = Report()
+def run_all(room: Room, log: Path, status: int, seconds: int, lacks: Path) -> int:
+    """Runs all groups, if the proofs passed, and prints what the whole took. `lacks` says what could not be installed. Returns the status."""
+    report = Report(is_whole=True)
     begin = tried = time.monotonic()
     count_proofs(report, log, status)
+    report.tell(Verdict("", "what the trials need is installed", "; ".join(lacks.read_text("utf-8", "replace").splitlines())))
     if report.failed:
         report.take(Verdict("", "the program", "it is not tried, since rt ci failed"))
     elif not os.access(room.proved, os.X_OK):

@@ -12,6 +12,10 @@ class Skip(Exception):
     """A trial cannot run here; the text says what it needs."""
 
 
+class Lack(Skip):
+    """The same where the whole of ./test has first installed what it needs, or where it has to try that: there it fails."""
+
+
 @dataclass(frozen=True)
 class Noted:
     """What is wrong, or an empty text, with words that are printed after the trial's name."""
@@ -36,6 +40,7 @@ class Verdict:
     text: str
     why: str
     is_skipped: bool = False
+    is_lacking: bool = False
 
 
 def judge(trial: Trial) -> Verdict:
@@ -43,7 +48,7 @@ def judge(trial: Trial) -> Verdict:
     try:
         found = trial.run()
     except Skip as lack:
-        return Verdict(trial.name, trial.name, str(lack), is_skipped=True)
+        return Verdict(trial.name, trial.name, str(lack), is_skipped=True, is_lacking=isinstance(lack, Lack))
     except Exception as fault:
         return Verdict(trial.name, trial.name, f"{type(fault).__name__}: {fault}"[:600])
     if isinstance(found, Noted):
@@ -81,14 +86,15 @@ class Group:
 
 @dataclass
 class Report:
-    """Prints each verdict as it comes, and counts."""
+    """Prints each verdict as it comes, and counts. In the whole of ./test what lacks something has failed."""
 
+    is_whole: bool = False
     passed: int = 0
     failed: int = 0
     failures: list[str] = field(default_factory=list)
 
     def take(self, verdict: Verdict) -> None:
-        if verdict.is_skipped:
+        if verdict.is_skipped and not (self.is_whole and verdict.is_lacking):
             print(f"skip {verdict.text}: {verdict.why}", flush=True)
         elif not verdict.why:
             print(f"ok   {verdict.text}", flush=True)

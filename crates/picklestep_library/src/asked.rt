@@ -12,7 +12,7 @@ use std::alloc::{AllocError, Global};
 
 /// Several pickles that follow one another.
 const MANY: u32 = 1;
-/// Frames are not looked at.
+/// Frames are not looked at: no option of imports and calls, but of those of what a script leaves.
 const UNFRAMED: u32 = 2;
 /// Of imports and calls: the first pickle alone.
 const FIRST: u32 = 4;
@@ -126,7 +126,7 @@ fn hole_of(given: GivenHole) -> Hole
     }
 }
 
-/// Whether each stands behind those before it.
+/// Whether each begins at or behind the end of the one before it, and ends at `MOST` at most.
 fn are_in_order(given: &[GivenHole]) -> bool
     ensures { result ≡ stand_from 0 given.now }
 {

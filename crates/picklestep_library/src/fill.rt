@@ -6,22 +6,23 @@ ghost use Rattle.picklestep_library.specs.Answer.{Puts};
 
 use pickle_script::Stop;
 
-/// The text is where the caller wants it.
+/// The whole text is where the caller wants it.
 const DONE: u8 = 0;
-/// Memory ran out.
+/// Memory ran out; of a text of what a script leaves also for one of its lines.
 const OUT_OF_MEMORY: u8 = 1;
-/// The input has too many bytes.
+/// The input has more than 1,073,741,824 bytes.
 const TOO_LARGE: u8 = 2;
 /// The text has no room in what was offered for it.
 const NO_ROOM: u8 = 3;
-/// The options, or the holes, are none of the function.
+/// The options are not those of the function, or do not go together, or a hole begins before the end of the one before it, or ends behind
+/// 2^62.
 pub const NO_TASK: u8 = 4;
 
 /// The room for what a text is gathered in on its way. It is cleared first: where the input is small, more would take a good part of the time.
 pub const ROOM: usize = 8_192;
 
-/// How long a text is, and its status, which is that of the program: 1 where an opcode or a line is refused, the bytes have a fault, or lines
-/// of `calls` end in `unsure:` or `kept:`, else 0.
+/// How long a text is, and its status, which is that of the program: 1 where an opcode or a line is refused, the bytes have a fault, the lines
+/// of `calls` end in `unsure:` or `kept:`, a pickle is not in the form, or a hole ends behind the last byte, else 0.
 #[repr(C)]
 #[derive(Clone, Copy)]
 pub struct Written {

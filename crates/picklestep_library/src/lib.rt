@@ -1,9 +1,11 @@
 //! The library for other languages: what the program prints of an input, in memory of the caller. A caller gives bytes and memory for the
 //! text; nothing else is read or written. `picklestep.h` says the same to a reader of C.
 //!
-//! Each function answers 0 where the whole text is at the start of `out`, 1 where memory ran out, 2 where the input has more than
-//! 1,073,741,824 bytes, and 3 where the text has no room in `out`: `written` has its size then. One that takes options answers 4 where they
-//! are not its own.
+//! Each function answers 0 where the whole text is at the start of `out`, 1 where memory ran out (also for a line of a script, where a text
+//! of what it leaves is asked for), 2 where the input has more than 1,073,741,824 bytes, and 3 where the text has no room in `out`: `written`
+//! has its size then. One that takes options answers 4 where they are not its own, or do not go together, or where a hole begins before the
+//! end of the one before it, or ends behind 2^62. Where it is not 0, `out` stays as it was; where it is, what is
+//! behind the text does.
 #![tactic(auto)]
 
 mod asked;
@@ -40,7 +42,7 @@ pub extern "C" fn picklestep_list(
     texts::fill(alloc, Text::Listing, many, false, bytes, out, written)
 }
 
-/// The report of the objects that a pickle makes, or where `many` holds several that follow one another.
+/// The report of the objects that a pickle makes, or where `many` holds of several that follow one another.
 #[unsafe(no_mangle)]
 pub extern "C" fn picklestep_objects(
     alloc: Global,
