@@ -35,7 +35,6 @@ NOT_THERE = {
     "test_scan_hostile.HostileFolders.test_each_ends_in_a_line_of_its_own": "Windows has no FIFOs",
     "test_scan_runs.Opened.test_each_is_looked_at": "Windows has no /dev/fd",
     "test_scan_runs.Runs.test_ctrl_c": "only Linux ends what neither reads nor writes",
-    "test_sessions.Words.test_large_pages": "Windows has no glibc",
     "test_source_alone": "the page is a browser's; what it is compared with is tried by test_source",
     "test_stores_forms.Hdf5.test_memory_is_bounded": "Windows has no such limit",
     "test_stores_changes": "servers of Linux are started and stopped by signals",

@@ -98,6 +98,7 @@ CHECKLISTS = [
             "python/picklestep/view/export.py": "the page shows it",
             "python/picklestep/view/lines.py": "the page asks it",
             "python/tests/test_gate.py": "scan has a field of that name",
+            "python/tests/test_other_systems.py": "asks it of files on other drives",
             "python/tests/test_shell.py": "the shell has words of its own",
             "python/tests/test_view.py": "the page shows it",
         },

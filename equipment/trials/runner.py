@@ -114,7 +114,7 @@ def run_all(room: Room, log: Path, status: int, seconds: int, lacks: Path) -> in
     report = Report(is_whole=True)
     begin = tried = time.monotonic()
     count_proofs(report, log, status)
-    report.tell(Verdict("", "what the trials need is installed", "; ".join(lacks.read_text("utf-8", "replace").splitlines())))
+    report.take(Verdict("", "what the trials need is installed", "; ".join(lacks.read_text("utf-8", "replace").splitlines())))
     if report.failed:
         report.take(Verdict("", "the program", "it is not tried, since rt ci failed"))
     elif not os.access(room.proved, os.X_OK):
