@@ -188,8 +188,8 @@ def link_many(saves: Saves, count: int) -> str:
 
 
 def follows_many_links(saves: Saves) -> str:
-    """Linux follows 40 links, one after another, and no more. (The program follows one less.)"""
-    for count, is_followed in ((39, True), (41, False)):
+    """Linux follows 40 links, one after another, and no more."""
+    for count, is_followed in ((40, True), (41, False)):
         for is_there in (True, False):
             saves.begin()
             if is_there:
