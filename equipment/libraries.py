@@ -231,9 +231,11 @@ def no_tasks(libraries: Libraries, way: str) -> str:
 
 
 def limits(libraries: Libraries, way: str) -> str:
-    """Out of memory is an answer, and the next call is as any other (`form` takes little memory, and says that this one is in no form)."""
+    """Out of memory is an answer, and the next call is as any other (`form` takes little memory, and says that this one is in no form). All
+    tasks are asked in one way, and some in the others."""
     command = getattr(libraries, way)()
-    runs = [Asked(words, large(libraries).file) for words in TASKS if words[0] not in ("debug", "form") and "--skip" not in words]
+    tasks = [words for words in TASKS if words[0] not in ("debug", "form") and "--skip" not in words]
+    runs = [Asked(words, large(libraries).file) for words in (tasks if way == "static" else tasks[::3])]
     for limit in LIMITS:
         for run, found in zip(runs, libraries.asked(command, runs, limit)):
             if found != Answer(2, b"", OF_STOPS[1]):
