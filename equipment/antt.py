@@ -20,10 +20,11 @@ from antt_words import Function, Made, Value, apply
 TOKEN = re.compile(r'\s+|--[^\n]*|(?P<text>"(?:[^"\\]|\\.)*")|(?P<sign>[(){};,.])|(?P<word>[^\s(){}.;,@"«»]+)')
 # How much an operator binds: what is on its left, and what on its right.
 INFIX = {
-    "||": (30, 31), "&&": (35, 36), "==": (41, 41), "++": (65, 66), "+": (65, 66), "-": (65, 66), "∷": (68, 67),
+    "⧺": (10, 11), "||": (30, 31), "&&": (35, 36), "==": (41, 41), "++": (65, 66), "+": (65, 66), "-": (65, 66), "∷": (68, 67),
     "*": (70, 71), "/": (70, 71), "%": (70, 71), "^": (76, 75),
 }
 ENDS = (")", "}", ";", ",", "then", "else", "in", "=", "|", "")
+ESCAPES = {"\\": "\\", '"': '"', "n": "\n"}
 VARIANTS = ".TheVariants"
 CONSTANTS = ".TheConstants"
 FEW = 4
@@ -349,11 +350,18 @@ class Parser:
         if word[0].isdigit():
             return Code(str(int(word, 0)))
         if word[0] == '"':
-            return Code(repr(word[1:-1]))
+            return Code(repr(re.sub(r"\\(.)", _unescaped, word[1:-1])))
         if self.is_field() and word in self.module.aliases:
             self.next()
             return self.program.name_in(self.module.aliases[word], self.next())
         return self.program.name(self.module, word)
+
+
+def _unescaped(match: re.Match[str]) -> str:
+    """What a backslash and the sign behind it stand for in a text."""
+    if match[1] not in ESCAPES:
+        raise Unknown(f"{match[0]} in a text")
+    return ESCAPES[match[1]]
 
 
 def _applied(function: Code, values: Sequence[str]) -> Code:

@@ -98,6 +98,10 @@ def _option_map(function: Value, option: Made) -> Made:
     return some(apply(function, option.parts[0])) if option.parts else NONE
 
 
+def _decimal(number: int) -> tuple[int, ...]:
+    return tuple(str(number).encode())
+
+
 CONSTRUCTORS = {"true", "false", "zero", "suc", "[]", "∷", "Some", "None", "Ok", "Err", "tt"}
 # These are plain values of Python's, and these operators expressions.
 PLAIN: Mapping[str, str] = {"true": "True", "false": "False", "zero": "0", "suc": "W_suc", "[]": "()"}
@@ -106,6 +110,7 @@ INFIX: Mapping[str, str] = {
     "||": "({} or {})",
     "==": "({} == {})",
     "++": "({} + {})",
+    "⧺": "({} + {})",
     "∷": "({}, *{})",
     "+": "({} + {})",
     "-": "max(0, {} - {})",
@@ -122,7 +127,10 @@ WORDS: Mapping[str, Function] = {
     "slice_get": Function(2, lambda items, at: some(items[at]) if at < len(items) else NONE),
     "slice_index": Function(2, lambda items, at: items[at] if at < len(items) else 0),
     "slice_range": Function(3, lambda items, begin, end: items[begin:end]),
+    "slice_set": Function(3, lambda items, at, value: (*items[:at], value, *items[at + 1:])),
+    "replicate": Function(2, lambda count, value: (value,) * count),
     "map": Function(2, lambda function, items: tuple([apply(function, item) for item in items])),
+    "flat_map": Function(2, lambda function, items: tuple([part for item in items for part in apply(function, item)])),
     "fold": Function(3, _fold),
     "find": Function(2, _find),
     "position": Function(2, _position),
@@ -131,6 +139,9 @@ WORDS: Mapping[str, Function] = {
     "list_any": Function(2, lambda test, items: _place(test, items) < len(items)),
     "list_all": Function(2, lambda test, items: all([apply(test, item) for item in items])),
     "codes": Function(1, lambda text: tuple(map(ord, text))),
+    "decimal": Function(1, _decimal),
+    "signed_decimal": Function(1, _decimal),
+    "encode_lower": Function(1, lambda items: tuple(bytes(items).hex().encode())),
     "not": Function(1, lambda value: not value),
     "nat_le": Function(2, lambda left, right: left <= right),
     "nat_lt": Function(2, lambda left, right: left < right),

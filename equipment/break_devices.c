@@ -4,8 +4,8 @@
  * Calls of read and of write are counted from 1, each kind by itself; the loader's own are not counted, nor are those to standard
  * error. READ_MOST=C and WRITE_MOST=C give or take at most C bytes a call. READ_FAIL=N and WRITE_FAIL=N let the Nth call and
  * each later one fail, as a broken disk does. SHRINK=FILE with SHRINK_AT=N empties that file before the Nth read.
- * FAIL=fsync, rename, fchmod or fchown lets each call of this name fail. READ_SIGNAL=N and WRITE_SIGNAL=N let the Nth call do nothing, as
- * where a signal interrupts it.
+ * FAIL=fsync, rename, fchmod, fchown or ftruncate lets each call of this name fail, with FAIL_FROM=N the Nth and each later one.
+ * READ_SIGNAL=N and WRITE_SIGNAL=N let the Nth call do nothing, as where a signal interrupts it.
  * ORDER=FILE gets a line for each fchmod, fchown, fsync and rename and for each write to a regular file, in their order: the name, and but
  * for rename the kind and the mode of what it is made of.
  * At the end DEVICES=FILE has a line: how many reads and writes there were, and how many of them were made of a device that had
@@ -21,8 +21,8 @@
 #include <sys/syscall.h>
 #include <unistd.h>
 
-static unsigned long reads, writes, again;
-static unsigned long read_most, write_most, read_fail, write_fail, read_signal, write_signal, shrink_at;
+static unsigned long reads, writes, again, named;
+static unsigned long read_most, write_most, read_fail, write_fail, read_signal, write_signal, shrink_at, fail_from;
 static int failed_file[64]; /* by descriptor: whether a call of it failed */
 
 static unsigned long number_of(const char *name)
@@ -41,6 +41,7 @@ __attribute__((constructor)) static void begin(void)
     read_signal = number_of("READ_SIGNAL");
     write_signal = number_of("WRITE_SIGNAL");
     shrink_at = number_of("SHRINK_AT");
+    fail_from = number_of("FAIL_FROM");
 }
 
 __attribute__((destructor)) static void end(void)
@@ -120,12 +121,12 @@ ssize_t write(int file, const void *bytes, size_t count)
     return syscall(SYS_write, file, bytes, write_most && write_most < count ? write_most : count);
 }
 
-/* Whether each call of this name fails. */
+/* Whether this call of this name fails. */
 static int is_broken(const char *name)
 {
     const char *broken = getenv("FAIL");
 
-    if (!broken || strcmp(broken, name) != 0)
+    if (!broken || strcmp(broken, name) != 0 || ++named < fail_from)
         return 0;
     errno = EIO;
     return 1;
@@ -153,4 +154,9 @@ int fchown(int file, uid_t owner, gid_t group)
 {
     note_file("fchown", file);
     return is_broken("fchown") ? -1 : (int)syscall(SYS_fchown, file, owner, group);
+}
+
+int ftruncate(int file, off_t size)
+{
+    return is_broken("ftruncate") ? -1 : (int)syscall(SYS_ftruncate, file, size);
 }

@@ -126,8 +126,8 @@ class Files:
         return done.returncode, done.stdout.decode()
 
 
-def fault_of(told: "tuple[int, str]") -> str:
-    status, said = told
+def fault_of(done: "tuple[int, str]") -> str:
+    status, said = done
     return "" if status == 0 else f"status {status}: {beginning(said.encode())}"
 
 
@@ -201,9 +201,9 @@ def limited(files: Files) -> str:
 def wasi(files: Files) -> str:
     """Words, paths, short reads and writes, errors: what is asked of the host, and what is answered."""
     made = files.compiled("wasi", "-w")
-    told = list(errors())
-    given = "".join(f"{line}\n" for line, _ in (*WASI, *told))
-    wanted = "".join(f"{answer}\n" for _, answer in (*WASI, *told) if answer)
+    rows = list(errors())
+    given = "".join(f"{line}\n" for line, _ in (*WASI, *rows))
+    wanted = "".join(f"{answer}\n" for _, answer in (*WASI, *rows) if answer)
     status, said = files.run(made, given=given)
     return f"status {status}" if status else text_difference(said.encode(), wanted.encode())
 

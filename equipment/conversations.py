@@ -5,6 +5,8 @@ hexadecimal. After `pickles` they are of several pickles, and every command has 
 script after `debug> `, then the lines that answer it, and so on. `$ list`, `$ objects`, `$ calls` (with options: `$ calls --first`) or `$ form` comes
 before what that command writes. A last line `saved` has the bytes that the pickle is saved as. The block ends at an empty line, or at the end of the page.
 
+It is named by the first sentence of the lines above it, so each has to be on its page once; further blocks below that have a number too.
+
 Each script is run with all records and in windows of 1 and 2. The status has to be 1 just where an answer refuses. What is shown of one
 pickle is also tried with --many, where no byte is after its STOP: the answers are the same then.
 """
@@ -32,9 +34,9 @@ REFUSALS: dict[str, tuple[str, ...]] = {"list": REFUSED, "objects": REFUSED, "ca
 
 @dataclass
 class Block:
-    """A conversation on a page: its line there, the options of every command, and what is asked and answered."""
+    """A conversation on a page: its name there, the options of every command, and what is asked and answered."""
 
-    number: int
+    name: str
     options: list[str]
     pickle: bytes
     script: list[str] = field(default_factory=list)
@@ -43,35 +45,59 @@ class Block:
     saved: bytes | None = None
 
     def __post_init__(self) -> None:
-        self.told = self.answers
+        self.output = self.answers
 
     def take(self, line: str) -> None:
         if line.startswith("debug> "):
             self.script.append(line[len("debug> "):])
-            self.told = self.answers
+            self.output = self.answers
         elif line.startswith("$ "):
-            self.told = self.written.setdefault(line[2:], [])
+            self.output = self.written.setdefault(line[2:], [])
         elif line.startswith("saved "):
             self.saved = bytes.fromhex(line[len("saved "):])
         else:
-            self.told.append(line)
+            self.output.append(line)
+
+
+@dataclass
+class Above:
+    """The latest paragraph of a page, and how many blocks are below it."""
+
+    text: str = ""
+    blocks: int = 0
+    is_open: bool = False
+
+    def take(self, line: str) -> None:
+        """Takes a line that is in no block."""
+        if self.is_open and line.strip():
+            self.text += f" {line.strip()}"
+        elif line.strip() and not line.startswith("    "):  # (an indented line is code)
+            self.text, self.blocks = line.lstrip("# "), 0
+        self.is_open = bool(line.strip()) and not line.startswith(("    ", "#"))
+
+    def name(self) -> str:
+        """The name of the next block."""
+        self.blocks += 1
+        sentence = self.text.partition(". ")[0].rstrip(".:")
+        return sentence if self.blocks == 1 else f"{sentence}, {self.blocks}"
 
 
 def blocks_of(page: str) -> Iterator[Block]:
     block = None
     margin = 0
-    for number, line in enumerate(page.splitlines(), 1):
-        if not line.strip():
-            if block is not None:
-                yield block
-            block = None
-        elif start := START.fullmatch(line):
+    above = Above()
+    for line in [*page.splitlines(), ""]:
+        start = START.fullmatch(line)
+        if start is not None:
             margin = start.start(1)
-            block = Block(number, OPTIONS[start[1]], bytes.fromhex(start[2]))
-        elif block is not None:
+            block = Block(above.name(), OPTIONS[start[1]], bytes.fromhex(start[2]))
+        elif block is None:
+            above.take(line)
+        elif line.strip():
             block.take(line[margin:])
-    if block is not None:
-        yield block
+        else:
+            yield block
+            block = None
 
 
 def runs_of(block: Block) -> Iterator[tuple[list[str], bytes]]:
@@ -152,8 +178,8 @@ def fault_of(program: str, block: Block, folder: pathlib.Path) -> str:
 
 
 def trials(program: str, page: pathlib.Path, folder: pathlib.Path) -> list[Trial]:
-    """Each conversation, by its place on the page."""
+    """Each conversation, by its name."""
     return [
-        Trial(f"the conversation of {page.name}, line {block.number}", functools.partial(fault_of, program, block, folder))
+        Trial(f"{page.name}: {block.name}", functools.partial(fault_of, program, block, folder))
         for block in blocks_of(page.read_text("utf-8"))
     ]

@@ -128,13 +128,18 @@ class Run:
     opcodes: int = 0
 
 
+def program_of(crates: pathlib.Path) -> antt.Program:
+    """The definitions of a folder of crates. The opcodes, which a file of Rattle's lists, are those of the table in its order."""
+    table = antt.read_module(TABLE, (crates / "pickle_ops" / "specs" / "Table.antt").read_text())
+    names = [text.split()[1].removeprefix("op.") for text in table.clauses["entry_of"]]
+    return antt.Program(crates, {"ALL": tuple(Made(f"Opcode.{name}") for name in names)})
+
+
 class Definition:
     """The definition, read from the specs/ of a folder of crates."""
 
     def __init__(self, crates: pathlib.Path = ROOT / "crates") -> None:
-        table = antt.read_module(TABLE, (crates / "pickle_ops" / "specs" / "Table.antt").read_text())
-        names = [text.split()[1].removeprefix("op.") for text in table.clauses["entry_of"]]
-        self.program = antt.Program(crates, {"ALL": tuple(Made(f"Opcode.{name}") for name in names)})
+        self.program = program_of(crates)
         self.load_bytes = self.program.value(f"{LOADER}.Bytes", "load_bytes")
         self.load_next = self.program.value(f"{LOADER}.Bytes", "load_next")
         self.load_framed = self.program.value(f"{LOADER}.ByFrames", "load_framed")

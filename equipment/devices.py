@@ -20,8 +20,8 @@ def answered(pickled: bytes, script: str) -> tuple[bytes, str, str, int]:
     block = next((block for block in BLOCKS if block.pickle == pickled and block.script == script.splitlines()), None)
     if block is None:
         raise LookupError(f"no conversation of these bytes has this script alone: {script!r}")
-    told = "".join(answer + "\n" for answer in block.answers)
-    return pickled, script, told, int(any(answer.startswith("refused: ") for answer in block.answers))
+    answers = "".join(answer + "\n" for answer in block.answers)
+    return pickled, script, answers, int(any(answer.startswith("refused: ") for answer in block.answers))
 
 
 def written(pickled: bytes, task: str) -> str:

@@ -375,15 +375,15 @@ class Case:
 
     def answers(self, words: Sequence[str], script: str = "") -> tuple[str, int]:
         self.runs += 1
-        told = None
+        answered = None
         if self.library:
-            told = self.library.answers([*words, *self.options], script.encode())
+            answered = self.library.answers([*words, *self.options], script.encode())
             if "--save" not in words:
-                return told[0].decode(), told[1]
+                return answered[0].decode(), answered[1]
         done = subprocess.run([self.program, *words, *self.options], input=script.encode(), capture_output=True, timeout=100)
         if done.returncode not in (0, 1) or done.stderr:
             raise Broken(f"status {done.returncode}, errors {done.stderr[:200]!r}, words {words}, script {script!r}")
-        if told not in (None, (done.stdout, done.returncode)):
+        if answered not in (None, (done.stdout, done.returncode)):
             raise Broken(f"the library and the program differ, words {words}, script {script!r}")
         return done.stdout.decode(), done.returncode
 
@@ -442,8 +442,8 @@ class Case:
     def check_calls(self, report: str, wanted: int) -> None:
         # (`calls` reads all pickles by itself, and `objects` only with --many)
         first = [] if self.is_many else ["--first"]
-        told, status = self.answers(["calls", *first, str(self.file)])
-        text = HEADING.split(told, maxsplit=1)[0]
+        calls, status = self.answers(["calls", *first, str(self.file)])
+        text = HEADING.split(calls, maxsplit=1)[0]
         unsure = UNSURE_LINE.search(text)
         made, opaque = MADE_LINE.findall(text), OPAQUE_LINE.findall(report)
         if made != (opaque[: len(made)] if unsure else opaque) or status != (wanted or bool(unsure) or "\nkept: " in f"\n{text}"):
@@ -453,7 +453,7 @@ class Case:
         if not re.search(re.escape(counts + closing) + r"(?:kept: \d+ bytes after STOP\n)?$", text):
             raise Broken(f"calls does not end in {counts + closing!r}")
         full, ended = self.answers(["calls", "--full", *first, str(self.file)])
-        lines, whole = told.splitlines(), full.splitlines()
+        lines, whole = calls.splitlines(), full.splitlines()
         if ended != status or len(lines) != len(whole) or any(line != other for line, other in zip(lines, whole) if "+" not in line):
             raise Broken("calls --full has other lines where nothing is cut")
 
@@ -475,20 +475,20 @@ class Case:
         """What each reply says of the views before it and after it."""
         documents, known = [views[0][1].document()], 0
         for text, (reply, view), (_, before) in zip(lines, views[1:], views):
-            told = reply[0] if len(reply) == 1 else ""
-            if not told:
+            answer = reply[0] if len(reply) == 1 else ""
+            if not answer:
                 raise Broken(f"{text!r} is answered {reply}")
-            if told.startswith("refused: "):
+            if answer.startswith("refused: "):
                 if view.all() != before.all():
                     raise Broken(f"{text!r} is refused and changes what is shown")
-            elif told.startswith("at "):
-                if view.place() != int(told.split()[1].rstrip(":")) or view.document() != before.document():
-                    raise Broken(f"{text!r} is answered {told!r} and is elsewhere")
-            elif told.startswith(("edited ", "undone ", "redone ")):
+            elif answer.startswith("at "):
+                if view.place() != int(answer.split()[1].rstrip(":")) or view.document() != before.document():
+                    raise Broken(f"{text!r} is answered {answer!r} and is elsewhere")
+            elif answer.startswith(("edited ", "undone ", "redone ")):
                 if view.state != before.state or view.place() != before.place():
                     raise Broken(f"{text!r} moves")
-                known += -1 if told.startswith("undone") else 1
-                if told.startswith("edited"):
+                known += -1 if answer.startswith("undone") else 1
+                if answer.startswith("edited"):
                     documents[known:] = [view.document()]
                 if view.document() != documents[known]:
                     raise Broken(f"{text!r} shows other items than before")
@@ -571,14 +571,14 @@ def main() -> int:
         name = f"case {words.first + number - 1} of seed {words.seed}"
         case = Case(words.program, library, words.folder, random.Random(f"{words.seed}:{words.first + number - 1}"), pickles)
         try:
-            told, made = case.check()
+            tried, made = case.check()
         except Broken as broken:
             print(f"{name}: {broken}")
             return 1
         except (ValueError, IndexError, StopIteration, TypeError, subprocess.TimeoutExpired) as fault:
             print(f"{name}: the answer cannot be read: {fault!r}")
             return 1
-        lines, runs, edits = lines + told, runs + case.runs, edits + made
+        lines, runs, edits = lines + tried, runs + case.runs, edits + made
     print(f"seed {words.seed}: {number} cases, no law broken ({runs} runs, {lines} lines of scripts, {edits} edits)")
     return 0
 

@@ -309,7 +309,7 @@ MORE_WAYS = {"musl_shared": "x86-64, shared, with musl", "arm_shared": "ARM, sha
 ROWS: list[tuple[str, Callable[[Libraries], "str | Noted"]]] = [
     ("the library: its functions", functions_of),
     ("the library: the header in C++", in_cxx),
-    *((f"the library, {name}: {told}", functools.partial(compared, way=way, kind=kind)) for kind, told in KINDS.items() for way, name in WAYS.items()),
+    *((f"the library, {name}: {text}", functools.partial(compared, way=way, kind=kind)) for kind, text in KINDS.items() for way, name in WAYS.items()),
     *((f"the library, {name}: a few of all", functools.partial(compared, way=way, kind="few")) for way, name in MORE_WAYS.items()),
     *((f"the library, {WAYS[way]}: what edits leave", functools.partial(of_edits, way=way)) for way in ("static", "module")),
     *((f"the library, {WAYS[way]}: options of no task", functools.partial(no_tasks, way=way)) for way in ("static", "module")),

@@ -74,7 +74,7 @@ class Likeness:
     def match(self, value: Value, found: Any) -> None:
         """Ends where an object cannot stand for a value."""
         if not self.is_like(value, found):
-            raise Unlike(f"{_told(value)} is not {found!r:.80}")
+            raise Unlike(f"{_shown(value)} is not {found!r:.80}")
 
     def is_like(self, value: Made, found: Any) -> bool:
         name = short(value)
@@ -163,7 +163,7 @@ class Likeness:
         elif kind in KEYED:
             self.match_members(value, found, place)
         elif not kind and [*map(repr, self.object_of(value))] != [*map(repr, found)]:
-            raise Unlike(f"{_told(value)} does not give {found!r:.80}")
+            raise Unlike(f"{_shown(value)} does not give {found!r:.80}")
 
     def match_names(self, value: Made, found: Mapping[str, Any], place: int) -> None:
         """The keywords of a call."""
@@ -171,7 +171,7 @@ class Likeness:
             for key, item in self.match_members(value, found, place).items():
                 self.match(item, found[key])
         elif {key: self.object_of(value)[key] for key in self.object_of(value).keys()} != found:
-            raise Unlike(f"{_told(value)} does not give {found!r:.80}")
+            raise Unlike(f"{_shown(value)} does not give {found!r:.80}")
 
     def match_name(self, name: Made, found: Any, code: str) -> None:
         """A text that is asked for."""
@@ -251,7 +251,7 @@ class Likeness:
             self.match_content(want, found.contents.get(id(one)), len(last["acts"]))
 
 
-def _told(value: Made) -> str:
+def _shown(value: Made) -> str:
     return f"{short(value)} {' '.join(short(part) if isinstance(part, Made) else str(part) for part in value.parts)}"[:80]
 
 

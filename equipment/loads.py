@@ -42,12 +42,12 @@ HELD = "a loader that keeps its buffer may go on"
 
 
 @dataclass
-class Told:
+class Line:
     """A line, as one act: an `inst` is two. `target` is the line that brought what is called, filled or given a state."""
 
     what: str
     reach: Reach
-    target: Optional["Told"] = None
+    target: Optional["Line"] = None
     count: Optional[int] = None
     may_be_missed: bool = False
 
@@ -56,23 +56,20 @@ class Told:
 class Reader:
     """Reads lines in their order: `brought` has the line that brought an object, by its number, and `extensions` the first of each code."""
 
-    brought: dict[int, Told] = field(default_factory=dict)
-    extensions: dict[int, Told] = field(default_factory=dict)
+    brought: dict[int, Line] = field(default_factory=dict)
+    extensions: dict[int, Line] = field(default_factory=dict)
 
     def copy(self) -> "Reader":
         return Reader(dict(self.brought), dict(self.extensions))
 
     def up_to(self, end: float) -> "Reader":
         """What was brought by objects of lower numbers than this."""
-        return Reader({number: told for number, told in self.brought.items() if number < end}, dict(self.extensions))
+        return Reader({number: line for number, line in self.brought.items() if number < end}, dict(self.extensions))
 
-    def acts(self, reaches: Iterable[Reach]) -> list[Told]:
-        told: list[Told] = []
-        for reach in reaches:
-            told += self._acts(reach)
-        return told
+    def lines(self, reaches: Iterable[Reach]) -> list[Line]:
+        return [line for reach in reaches for line in self._lines(reach)]
 
-    def _acts(self, reach: Reach) -> list[Told]:
+    def _lines(self, reach: Reach) -> list[Line]:
         if reach.what == "readonly":
             # (A thing that can only be read already stays itself.)
             if reach.target in self.brought and reach.number is not None:
@@ -81,28 +78,28 @@ class Reader:
         if reach.what in ("state", *FILLS):
             target = self.brought.get(-1 if reach.target is None else reach.target)
             count = reach.count if reach.what in FILLS else 1
-            return [Told(reach.what, reach, target, count, may_be_missed=target is None or not count)]
-        told = self._named(reach)
+            return [Line(reach.what, reach, target, count, may_be_missed=target is None or not count)]
+        lines = self._named(reach)
         if reach.number is not None:
-            self.brought[reach.number] = self._kept(told[-1])
-        return told
+            self.brought[reach.number] = self._kept(lines[-1])
+        return lines
 
-    def _kept(self, told: Told) -> Told:
+    def _kept(self, line: Line) -> Line:
         """The line that brought the same thing first, where it is one that the cache of extensions keeps."""
-        name = told.reach.name
-        return self.extensions.get(name.code, told) if told.what == "import" and isinstance(name, Extension) else told
+        name = line.reach.name
+        return self.extensions.get(name.code, line) if line.what == "import" and isinstance(name, Extension) else line
 
-    def _named(self, reach: Reach) -> list[Told]:
+    def _named(self, reach: Reach) -> list[Line]:
         if reach.what == "inst":
-            first = Told("import", reach)
-            return [first, Told("call", reach, first, _count(reach))]
+            first = Line("import", reach)
+            return [first, Line("call", reach, first, _count(reach))]
         if reach.what in CALLS:
             target = self.brought.get(reach.name.number) if isinstance(reach.name, Ref) else None
-            return [Told("call", reach, target, _count(reach))]
-        told = Told(reach.what, reach)
+            return [Line("call", reach, target, _count(reach))]
+        line = Line(reach.what, reach)
         if isinstance(reach.name, Extension):
-            told.may_be_missed = self.extensions.setdefault(reach.name.code, told) is not told  # (it is kept in a cache)
-        return [told]
+            line.may_be_missed = self.extensions.setdefault(reach.name.code, line) is not line  # (it is kept in a cache)
+        return [line]
 
 
 def _count(reach: Reach) -> Optional[int]:
@@ -114,7 +111,7 @@ def _is_text(part: object, text: str) -> bool:
 
 
 def _is_import(reach: Reach, module: str, name: str, imported: Optional[Sequence[str]]) -> bool:
-    """Whether a line tells this import: what stands in the pickle, and what Python 3 imports for it."""
+    """Whether a line is of this import: what stands in the pickle, and what Python 3 imports for it."""
     if isinstance(reach.name, Extension):
         return (module, name) == ("extension", str(reach.name.code))
     said = reach.said or reach.name
@@ -126,68 +123,68 @@ def _is_import(reach: Reach, module: str, name: str, imported: Optional[Sequence
 
 
 class Match:
-    """How far the acts of an unpickler are told. `pairs` has for each act its line."""
+    """How far the acts of an unpickler have lines. `pairs` has for each act its line."""
 
     def __init__(self, acts: Sequence[Sequence[Any]]) -> None:
         self.acts = acts
-        self.pairs: list[Told] = []
+        self.pairs: list[Line] = []
         self._texts: set[int] = set()  # (lines that brought a text, of which nothing is written down)
 
-    def go_on(self, told: Sequence[Told]) -> bool:
-        """Goes over lines, and says whether all acts are told. Of a line that fills, several acts may put in its items."""
+    def go_on(self, lines: Sequence[Line]) -> bool:
+        """Goes over lines, and says whether all acts have one. Of a line that fills, several acts may put in its items."""
         left: Optional[int] = None
         at = 0
         while len(self.pairs) < len(self.acts):
             act = self.acts[len(self.pairs)]
-            while at < len(told) and not self._is(act, told[at], left) and self._may_be_missed(told[at]):
+            while at < len(lines) and not self._is(act, lines[at], left) and self._may_be_missed(lines[at]):
                 at, left = at + 1, None
-            if at == len(told) or not self._is(act, told[at], left):
+            if at == len(lines) or not self._is(act, lines[at], left):
                 return False
-            self.pairs.append(told[at])
+            self.pairs.append(lines[at])
             if act[2:] == ["text"]:
-                self._texts.add(id(told[at]))
+                self._texts.add(id(lines[at]))
             if act[0] in FILLS:
-                left = (told[at].count or 0 if left is None else left) - act[2]
+                left = (lines[at].count or 0 if left is None else left) - act[2]
             if act[0] not in FILLS or not left:
                 at, left = at + 1, None
         return True
 
-    def _may_be_missed(self, told: Told) -> bool:
-        return told.may_be_missed or id(told.target) in self._texts
+    def _may_be_missed(self, line: Line) -> bool:
+        return line.may_be_missed or id(line.target) in self._texts
 
-    def _is(self, act: Sequence[Any], told: Told, left: Optional[int]) -> bool:
+    def _is(self, act: Sequence[Any], line: Line, left: Optional[int]) -> bool:
         what, target, *rest = act
-        if ("call" if what == "new" else what) != told.what:
+        if ("call" if what == "new" else what) != line.what:
             return False
         if what == "import":
-            return _is_import(told.reach, *rest)
+            return _is_import(line.reach, *rest)
         if what in ("persistent", "buffer"):
             return True
         brought = self.pairs[target]
-        if told.target is not brought and not self._is_named(told, brought):
+        if line.target is not brought and not self._is_named(line, brought):
             return False
         if what in FILLS:
-            return rest[0] <= (told.count or 0 if left is None else left)
-        return what == "state" or told.count in (None, rest[0])
+            return rest[0] <= (line.count or 0 if left is None else left)
+        return what == "state" or line.count in (None, rest[0])
 
     @staticmethod
-    def _is_named(told: Told, brought: Told) -> bool:
+    def _is_named(line: Line, brought: Line) -> bool:
         """Whether a line without a target names it. Of a buffer that is made read-only no line says which number it has then."""
-        if told.target is not None:
+        if line.target is not None:
             return False
-        if told.reach.name is None or isinstance(told.reach.name, Ref):
+        if line.reach.name is None or isinstance(line.reach.name, Ref):
             return brought.what == "buffer"
-        return brought.what == "import" and told.reach.name == brought.reach.name
+        return brought.what == "import" and line.reach.name == brought.reach.name
 
 
-def untold(text: str, acts: Sequence[Sequence[Any]]) -> str:
-    """What of an unpickler's acts no line tells; an empty text where all are told."""
+def without_line(text: str, acts: Sequence[Sequence[Any]]) -> str:
+    """What of an unpickler's acts has no line; an empty text where all have one."""
     answer = Calls(text)
     reader = Reader()
-    strict = reader.acts(answer)
+    strict = reader.lines(answer)
     before = reader.copy()
     parts = {part.heading: part for part in answer.parts}
-    behind = reader.acts(reach for heading, part in parts.items() if heading not in (BUFFERED, HELD) for reach in part)
+    behind = reader.lines(reach for heading, part in parts.items() if heading not in (BUFFERED, HELD) for reach in part)
     match = Match(acts)
     if match.go_on([*strict, *behind]):
         return ""
@@ -197,13 +194,13 @@ def untold(text: str, acts: Sequence[Sequence[Any]]) -> str:
     readers = (reader, before, before.up_to(min(lost, default=math.inf)))
     if any(heading in parts and _is_buffered(parts[heading], readers, match, pairs) for heading in (BUFFERED, HELD)):
         return ""
-    return f"{acts[len(pairs)]} is not told"
+    return f"{acts[len(pairs)]} has no line"
 
 
-def _is_buffered(part: Iterable[Reach], readers: Iterable[Reader], match: Match, pairs: Sequence[Told]) -> bool:
-    """Whether acts go on in a part for loaders that buffer frames: from some act on of those that are told before it."""
+def _is_buffered(part: Iterable[Reach], readers: Iterable[Reader], match: Match, pairs: Sequence[Line]) -> bool:
+    """Whether acts go on in a part for loaders that buffer frames: from some act on of those that have lines before it."""
     for reader in readers:
-        behind = reader.copy().acts(part)
+        behind = reader.copy().lines(part)
         for count in range(len(pairs), -1, -1):
             match.pairs = list(pairs[:count])
             if match.go_on(behind):
@@ -220,7 +217,7 @@ class Loads:
     cases: int = 0
     acts: int = 0
 
-    def told(self, case: bytes, options: Sequence[str]) -> str:
+    def text(self, case: bytes, options: Sequence[str]) -> str:
         """What the program says of a case."""
         path = self.folder / "case"
         path.write_bytes(case)
@@ -240,15 +237,15 @@ class Loads:
                 yield json.loads(line)
 
     def fault(self, name: str, cases: Sequence[bytes], options: Sequence[str] = ()) -> Noted:
-        """What is not told of some cases. The options are those of load_worker.py."""
+        """Which acts of some cases have no line. The options are those of load_worker.py."""
         self.folder.mkdir(parents=True, exist_ok=True)
         found: list[str] = []
         count = 0
         for case, loads in zip(cases, self.done(name, cases, options)):
-            text = self.told(case, ["--memo", "kept"] if "--one" in options else [])
+            text = self.text(case, ["--memo", "kept"] if "--one" in options else [])
             for loader, acts in loads:
                 count += len(acts)
-                why = untold(text, acts) if text else "the program gives no answer"
+                why = without_line(text, acts) if text else "the program gives no answer"
                 if why:
                     found.append(f"{loader}: {why}: {case.hex()}")
         self.cases, self.acts = self.cases + len(cases), self.acts + count
@@ -283,9 +280,9 @@ def _bytes_of(word: str) -> bytes:
 
 
 def _odd(loads: Loads, rows: Sequence[Oddity]) -> Noted:
-    """Whether each row ends as it says, and what loaders do with it is told."""
+    """Whether each row ends as it says, and what loaders do with it has its line."""
     noted = loads.fault("odd", [row.data for row in rows])
-    ends = [(row, Calls(loads.told(row.data, ())).end.code or "stopped") for row in rows]
+    ends = [(row, Calls(loads.text(row.data, ())).end.code or "stopped") for row in rows]
     wrong = [f"{row.name} ends with {end} and not {row.end}" for row, end in ends if end != row.end]
     return Noted("; ".join([noted.why, *wrong]) if noted.why else "; ".join(wrong), noted.note)
 
@@ -320,17 +317,17 @@ def _old_names() -> Noted:
 
 
 def main(program: str, seed: int, count: int) -> int:
-    """Tries other cases: the status is 1 where something is not told."""
+    """Tries other cases: the status is 1 where an act has no line."""
     pickles = [path.read_bytes() for path in sorted((ROOT / "crates/real_pickles/data").glob("*.pickle"))]
-    is_told = True
+    have_lines = True
     with tempfile.TemporaryDirectory() as folder:
         loads = Loads(program, pathlib.Path(folder))
         for number in range(-(-count // EACH)):
             for kind in ("singles", "rows", "kept"):
                 noted = _tried(loads, kind, number, pickles, seed)
                 print(f"{kind} {number}{noted.note} {noted.why}", flush=True)
-                is_told = is_told and not noted.why
-    return 0 if is_told else 1
+                have_lines = have_lines and not noted.why
+    return 0 if have_lines else 1
 
 
 if __name__ == "__main__":

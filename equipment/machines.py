@@ -19,6 +19,7 @@ from pathlib import Path
 from typing import Callable, NamedTuple
 
 import c_files
+import saves
 from conversations import blocks_of, runs_of
 from roots import Root, like_alpine, put
 from trials.room import beginning, text_difference
@@ -300,7 +301,7 @@ def made_again(machines: Machines) -> str:
 
 
 def other_tools(machines: Machines) -> str:
-    """Tools of another version are told, also where others are missing; and so is the first that is missing."""
+    """Tools of another version are noted, also where others are missing; and so is the first that is missing."""
     stand_in = machines.folder / "tools/dpkg-query"
     stand_in.parent.mkdir(parents=True)
     for said, wanted in (("", "is not installed"), ("[ $4 != binaryen ] || echo -n 109-1", "Debian's binaryen is 109-1, and the released sums are of")):
@@ -411,6 +412,34 @@ def started_in_node(machines: Machines) -> str:
     return ""
 
 
+def is_private_meanwhile(tried: saves.Saves) -> str:
+    """What a killed save leaves, nobody else may read, whatever the mode of the old file is."""
+    tried.begin()
+    (tried.room / "large").write_bytes(saves.payload(50_000_000))
+    (tried.room / "out").write_bytes(saves.OLD)
+    (tried.room / "out").chmod(0o644)
+    killed = [saves.kill_in_the_middle(tried, 1) for _ in range(3)]
+    modes = {f"{tried.mode_of(name):o}" for name in tried.left()}
+    return "" if any(killed) and modes == {"600"} else f"{sum(killed)} were killed in the middle, and the modes are {sorted(modes)}"
+
+
+# What is tried of saves over the module too. (The others break calls of the C library, or need a path of what is open, which WASI has not.)
+SAVED = (saves.keeps_modes, saves.obeys_the_mask, saves.keeps_the_owner, saves.follows_links, saves.goes_round, saves.keeps_other_names,
+         saves.takes_the_longest_name, saves.takes_other_folders, saves.refuses_names, saves.writes_a_fifo, saves.fills_up, saves.may_not_write,
+         saves.run_side_by_side, is_private_meanwhile)
+
+
+def saved_in_node(machines: Machines) -> Noted:
+    """Saves by picklestep.mjs as a user starts it."""
+    machines.tool("node", "Node 20 or later")
+    tried = saves.Saves(str(machines.dist / SCRIPTED), Path, machines.folder / "saves")
+    for attempt in SAVED:
+        why = attempt(tried)
+        if why:
+            return Noted(f"{attempt.__name__}: {why}", "")
+    return Noted("", f": {tried.count} saves")
+
+
 def size_of_all(machines: Machines) -> str:
     size = sum(file.stat().st_size for file in machines.dist.rglob("*") if file.is_file())
     return "" if size < MOST_BYTES else f"dist has {size} bytes"
@@ -435,7 +464,7 @@ def comparisons(way: str, name: str) -> list[Row]:
 
 ROWS: list[Row] = [
     ("further machines: made again, each is the released one", made_again),
-    ("further machines: tools of another version are told", other_tools),
+    ("further machines: tools of another version are noted", other_tools),
     ("further machines: dist is under 8 MB", size_of_all),
     ("x86-64, static: needs no other file", lambda machines: alone(machines, STATIC)),
     ("x86-64, static: all real pickles in an empty root", in_empty_root),
@@ -448,6 +477,7 @@ ROWS: list[Row] = [
     *comparisons("arm", "ARM, under an emulator"),
     ("ARM, under an emulator: out of memory is an answer", memory_of_arm),
     ("the module in Node: as it is started", started_in_node),
+    ("the module in Node: saves", saved_in_node),
     ("the module in Node: all real pickles in a root with nothing else", in_node_root),
     *comparisons("module", "the module in Node"),
     ("the module in Node: out of memory is an answer", memory_of_module),

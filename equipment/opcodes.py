@@ -125,10 +125,10 @@ def fault_of_opcode(program: str, file: Path, opcode: pickletools.OpcodeInfo) ->
         return f"{opcode.name} of protocol {opcode.proto} is listed as {listed}"
     file.write_bytes(b".")
     script = f"insert 0 {opcode.name} {argument.hex()}\nitems\n".encode()
-    told = subprocess.run([program, "debug", str(file)], input=script, capture_output=True, timeout=60, check=False).stdout.decode().splitlines()
+    answers = subprocess.run([program, "debug", str(file)], input=script, capture_output=True, timeout=60, check=False).stdout.decode().splitlines()
     shown = f">     0     0: {'STOP' if opcode.name in NOT_PUT_IN else opcode.name}"
-    if len(told) < 2 or told[0] != NOT_PUT_IN.get(opcode.name, "edited 0") or not f"{told[1]} ".startswith(f"{shown} "):
-        return f"{opcode.name} is put in as {told}"
+    if len(answers) < 2 or answers[0] != NOT_PUT_IN.get(opcode.name, "edited 0") or not f"{answers[1]} ".startswith(f"{shown} "):
+        return f"{opcode.name} is put in as {answers}"
     return ""
 
 

@@ -35,7 +35,6 @@ NOT_THERE = {
     "test_scan_hostile.HostileFolders.test_each_ends_in_a_line_of_its_own": "Windows has no FIFOs",
     "test_scan_runs.Opened.test_each_is_looked_at": "Windows has no /dev/fd",
     "test_scan_runs.Runs.test_ctrl_c": "only Linux ends what neither reads nor writes",
-    "test_sessions.Words.test_large_pages": "Windows has no glibc",
     "test_source_alone": "the page is a browser's; what it is compared with is tried by test_source",
     "test_stores_forms.Hdf5.test_memory_is_bounded": "Windows has no such limit",
     "test_stores_changes": "servers of Linux are started and stopped by signals",
@@ -49,13 +48,13 @@ NOT_THERE = {
 }
 # Classes that the gate leaves out, with the processor seconds that they take.
 DEAR = {"test_scan_runs.Cluster": 38, "test_shell.AtATerminal": 38, "test_stores_files.Bytes": 110, "test_stores_files.Libraries": 33}
-# (the clock counts as processor time there: with more of them than processors, files would be told for their time)
+# (the clock counts as processor time there: with more of them than processors, files would be noted for their time)
 AT_ONCE = min(4, os.cpu_count() or 1)
 SECONDS = 7200
 
 
 @dataclass(frozen=True)
-class Told:
+class Tried:
     """What became of the tests of a class, and the processor time that they took."""
 
     name: str
@@ -93,19 +92,19 @@ def environment(interpreter: Path, system: str) -> dict[str, str]:
     return {**own_environment(), "PYTHONDONTWRITEBYTECODE": "1", "PYTHONPATH": str(ROOT / "python/tests"), "PATH": path, "PICKLESTEP_LESSER": system}
 
 
-def run_class(interpreter: Path, system: str, name: str, folder: Path) -> Told:
+def run_class(interpreter: Path, system: str, name: str, folder: Path) -> Tried:
     lines, log, skipped = (folder / f"{name}.{kind}" for kind in ("lines", "log", "skipped"))
     skipped.write_text("".join(f"{test}\t{reason}\n" for test, reason in NOT_THERE.items()))
     words = [str(interpreter), str(ROOT / "equipment/packages.py"), "--run", str(lines), "--skip", str(skipped), f"python {name}"]
     with open(log, "wb") as out:
         process = subprocess.Popen(words, env=environment(interpreter, system), cwd=folder, stdin=subprocess.DEVNULL, stdout=out, stderr=out)
     status, seconds = ended(process)
-    told = [line.split("\t", 2) for line in lines.read_text("utf-8").splitlines()] if lines.exists() else []
-    faults = [f"{test}: {fault}" for test, _, fault in told if fault]
-    if status != 0 or not told:
+    tests = [line.split("\t", 2) for line in lines.read_text("utf-8").splitlines()] if lines.exists() else []
+    faults = [f"{test}: {fault}" for test, _, fault in tests if fault]
+    if status != 0 or not tests:
         faults.append(f"{name}: its run ended: {status}")
-    skips = sum(note.startswith(" (skipped") for _, note, _ in told)
-    return Told(name, len(told) - skips - sum(bool(fault) for *_, fault in told), skips, tuple(faults), seconds)
+    skips = sum(note.startswith(" (skipped") for _, note, _ in tests)
+    return Tried(name, len(tests) - skips - sum(bool(fault) for *_, fault in tests), skips, tuple(faults), seconds)
 
 
 def ended(process: subprocess.Popen[bytes]) -> tuple[int, float]:
@@ -118,7 +117,7 @@ def ended(process: subprocess.Popen[bytes]) -> tuple[int, float]:
     return process.returncode, used.ru_utime + used.ru_stime
 
 
-def run_classes(interpreter: Path, system: str, names: list[str], folder: Path) -> Iterator[Told]:
+def run_classes(interpreter: Path, system: str, names: list[str], folder: Path) -> Iterator[Tried]:
     """What became of each, as they end."""
     with ThreadPoolExecutor(AT_ONCE) as pool:
         yield from pool.map(lambda name: run_class(interpreter, system, name, folder), names)
@@ -134,9 +133,9 @@ def main() -> int:
         folder = Path(name)
         interpreter = Path(wheels.Wheels(ROOT, ROOT / wheels.RELEASED, folder).lesser())
         failed = 0
-        for told in run_classes(interpreter, words.system, words.names or classes(interpreter), folder):
-            print(told, *told.faults, sep="\n    ", flush=True)
-            failed += len(told.faults)
+        for tried in run_classes(interpreter, words.system, words.names or classes(interpreter), folder):
+            print(tried, *tried.faults, sep="\n    ", flush=True)
+            failed += len(tried.faults)
     return 1 if failed else 0
 
 

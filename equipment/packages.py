@@ -204,15 +204,15 @@ class Package:
         lines = self.folder / 'lines'
         words = [interpreter or sys.executable, str(Path(__file__).resolve()), '--run', str(lines), *names]
         why = call(words, self.folder, MOST_SECONDS_OF_TESTS, **environment)
-        told = lines.read_text(encoding='utf-8').splitlines() if lines.exists() else []
-        for line in told:
+        tested = lines.read_text(encoding='utf-8').splitlines() if lines.exists() else []
+        for line in tested:
             name, note, fault = line.split('\t', 2)
             yield Verdict(name, name + note, fault)
-        if why or not told:
+        if why or not tested:
             yield Verdict(self.name, f'{self.name}: the tests end', why or 'nothing was tried')
         elif not names:
             where = 'the installed wheel' if interpreter else f'the source tree, since {place}'
-            yield Verdict(self.name, f'{len(told)} tests of the Python package in {where}, by packages.py', '')
+            yield Verdict(self.name, f'{len(tested)} tests of the Python package in {where}, by packages.py', '')
 
 
 if __name__ == '__main__':

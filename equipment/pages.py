@@ -43,13 +43,13 @@ CHECKLISTS = [
         "To add an opcode",
         r"(?m)^ +BinInt2 +\{|_of op\.BinInt2\b|'BININT2': (\('|')",
         ["crates/*/src/**/*.rt", "crates/*/specs/**/*.antt", "bench/*", *OUTSIDE, *PACKAGE],
+        {"python/picklestep/shell/explain.py": "of opcodes that pickletools has"},
     ),
     Checklist(
         "To add a number that picklers write",
         r"\b(BININT2|BinInt2)\b",
         ["crates/pickle_form/**/*.rt", "crates/pickle_form/**/*.antt", "equipment/*.py", *PACKAGE],
         {
-            "equipment/measure_loaders.py": "a row has one in a frame",
             "python/picklestep/arguments.py": "an example",
             "python/picklestep/session.py": "an example",
             "python/picklestep/shell/explain.py": "of any opcode",
@@ -98,6 +98,7 @@ CHECKLISTS = [
             "python/picklestep/view/export.py": "the page shows it",
             "python/picklestep/view/lines.py": "the page asks it",
             "python/tests/test_gate.py": "scan has a field of that name",
+            "python/tests/test_other_systems.py": "asks it of files on other drives",
             "python/tests/test_shell.py": "the shell has words of its own",
             "python/tests/test_view.py": "the page shows it",
         },
@@ -157,12 +158,13 @@ def words(page: Path) -> int:
     return len(page.read_text(encoding="utf-8").split())
 
 
-def fault_of_length(pages: list[Path]) -> str:
+def fault_of_length(pages: list[Path], others: list[Path]) -> str:
+    """The words of some pages are counted, and of these and others the columns."""
     faults = []
     counted = sum(words(page) for page in pages)
     if counted > WORDS:
         faults.append(f"{counted} words in all, and not at most {WORDS}")
-    for page in pages:
+    for page in [*pages, *others]:
         if page.name == "README.md" and words(page) > WORDS_OF_README:
             faults.append(f"{words(page)} words in README.md, and not at most {WORDS_OF_README}")
         for number, line in enumerate(page.read_text(encoding="utf-8").splitlines(), 1):
@@ -292,8 +294,8 @@ VERSIONS = {
 def fault_of_version(root: Path) -> str:
     """The newest version of the change log is that of the package and of the library."""
     found = {name: re.search(pattern, (root / name).read_text(encoding="utf-8"), flags=re.M) for name, pattern in VERSIONS.items()}
-    told = {name: match[1] if match else "none" for name, match in found.items()}
-    return "" if len(set(told.values())) == 1 else ", ".join(f"{name} has {version}" for name, version in told.items())
+    versions = {name: match[1] if match else "none" for name, match in found.items()}
+    return "" if len(set(versions.values())) == 1 else ", ".join(f"{name} has {version}" for name, version in versions.items())
 
 
 # --- Commits ---
@@ -313,8 +315,8 @@ def fault_of_bodies(root: Path) -> str:
 
     if git("rev-parse", "--is-shallow-repository").strip() != "false":  # (the first commit of a part seems to add all lines)
         return ""
-    told = git("log", "--no-merges", f"--since={BODIES_SINCE}T00:00:00", "--date=short", "--numstat", "--format=%x00%h %ad%x00%b%x00", "--", "CHANGELOG.md")
-    _, *parts = told.split("\0")
+    log = git("log", "--no-merges", f"--since={BODIES_SINCE}T00:00:00", "--date=short", "--numstat", "--format=%x00%h %ad%x00%b%x00", "--", "CHANGELOG.md")
+    _, *parts = log.split("\0")
     faults = []
     for commit, body, counts in zip(parts[::3], parts[1::3], parts[2::3]):
         name, day = commit.split()
@@ -335,7 +337,7 @@ def trials(root: Path, program: str, folder: Path) -> list[Trial]:
     pages = [root / "README.md", *sorted((root / "docs").glob("*.md"))]
     others = [page for page in sorted([*root.glob("*.md"), *root.glob("python/*.md")]) if page not in pages]
     found = [Trial(f"the links of {page.relative_to(root)}", functools.partial(fault_of_links, page)) for page in [*pages, *others]]
-    found.append(Trial("the length of the pages", functools.partial(fault_of_length, pages)))
+    found.append(Trial("the length of the pages", functools.partial(fault_of_length, pages, others)))
     for example in examples((root / "docs" / "CODES.md").read_text(encoding="utf-8")):
         name = f"the example of {example.code}, {' '.join([example.pickle, *example.commands])}"
         found.append(Trial(name, functools.partial(fault_of_example, program, example, folder / "code.pickle")))

@@ -155,7 +155,7 @@ class Releases:
         return self.run(*words, at=at, **{**environment, "PATH": f"{self.folder}/bin:{self.environment['PATH']}"})
 
     def run_elsewhere(self, *words: str, at: pathlib.Path, PATH: str | None = None) -> Run:
-        """Runs a command with the stand-in, where uname tells of a machine that there is no program for."""
+        """Runs a command with the stand-in, where uname names a machine that there is no program for."""
         self.called.unlink(missing_ok=True)
         folder = self.folder / "elsewhere"
         folder.mkdir(exist_ok=True)
@@ -254,8 +254,8 @@ def is_refused(releases: Releases, at: pathlib.Path, says: str) -> str:
     starts = [["./picklestep", *words, hostile] for words in (["list"], [], ["scan"], ["source"], ["shell"])]
     for words in (*starts, ["./install", str(releases.folder / "nowhere")]):
         start = releases.run_stand_in(*words, at=at)
-        told = start.errors.count("\n") == 1 and says in start.errors and "./build" in start.errors
-        if start.status != 2 or start.output or not told or releases.called.exists():
+        is_sentence = start.errors.count("\n") == 1 and says in start.errors and "./build" in start.errors
+        if start.status != 2 or start.output or not is_sentence or releases.called.exists():
             return f"{' '.join(words)}: status {start.status}, output {start.output[:60]!r}, errors {start.errors[:200]!r}"
     gate = releases.run_stand_in("./test", at=at)
     if gate.status != 1 or not gate.output.endswith("\n0 passed, 1 failed\n") or "run ./release" not in gate.output:
@@ -478,7 +478,7 @@ def builds(releases: Releases) -> str:
     return "" if run.status == 2 and run.errors.startswith("usage: ") else f"--fly: status {run.status}"
 
 
-def told_beside_it(releases: Releases) -> str:
+def stands_beside_it(releases: Releases) -> str:
     dist = releases.clone / BUILT
     names = sorted(os.listdir(dist))
     if names != ["SHA256SUMS", "SOURCES", "TOOLCHAIN", "picklestep"]:
@@ -487,7 +487,7 @@ def told_beside_it(releases: Releases) -> str:
         return "the sum"
     toolchain = (dist / "TOOLCHAIN").read_text().strip()
     readme = " ".join((releases.clone / "README.md").read_text().split())
-    return "" if toolchain in readme else f"README.md does not tell {toolchain}"
+    return "" if toolchain in readme else f"README.md does not name {toolchain}"
 
 
 # --- Installed ---
@@ -495,6 +495,8 @@ def told_beside_it(releases: Releases) -> str:
 PAGES = ("share/man/man1/picklestep.1", "share/man/man1/picklestep-scan.1", "share/man/man1/picklestep-view.1")
 BASH = "share/bash-completion/completions/picklestep"
 ZSH = "share/zsh/site-functions/_picklestep"
+WORDS = ("scan", "view", "list", "objects", "calls", "form", "debug", "shell", "source", "diff", "mend")
+PAGES_OF = {"scan": PAGES[1], "view": PAGES[2]}
 PROGRAM = ("picklestep", "TOOLCHAIN", "libpicklestep.so")
 MODULE = ("picklestep.mjs", "picklestep.wasm", "libpicklestep.wasm", "TOOLCHAIN")
 ASK_LIBRARY = "from picklestep import library, place; print(library.answer(['list'], b'N.') is not None, place.find_program().rpartition('/')[2])"
@@ -589,26 +591,41 @@ def manual(releases: Releases) -> str:
             run = releases.run("man", "--warnings", "-E", "UTF-8", "-Tutf8", "-Z", "-l", page)
             if run.status != 0 or run.errors:
                 return f"{name}: {run.errors[:300]}"
-    return options_told(releases)
+    return options_of_words(releases)
 
 
-def options_told(releases: Releases) -> str:
-    """Each word has its options in its manual page and in both completions."""
-    shells = {name: (releases.clone / name).read_text() for name in (BASH, ZSH)}
-    others = ("list", "objects", "calls", "form", "debug", "shell", "source", "diff", "mend")
-    for word, name in (("scan", PAGES[1]), ("view", PAGES[2]), *((word, PAGES[0]) for word in others)):
+def options_of_words(releases: Releases) -> str:
+    """The options of each word in its help, its manual page and both completions."""
+    shells = {name: completed((releases.clone / name).read_text()) for name in (BASH, ZSH)}
+    for word in WORDS:
         run = releases.run("./picklestep", word, "--help", PYTHONDONTWRITEBYTECODE="1")
-        options = set(re.findall(r"--([a-z][a-z-]*)", run.output)) - {"help"}
-        if run.status != 0 or run.errors or not options:
+        # (an option of which its line says that it changes nothing need not be offered)
+        lines = re.findall(r"^  (--[a-z].*)", run.output, flags=re.M)
+        options = {line.split()[0] for line in lines if "changes nothing" not in line}
+        if run.status != 0 or run.errors or not lines:
             return f"{word} --help: status {run.status}, errors {run.errors[:200]!r}"
-        page = (releases.clone / name).read_text()
-        for option in sorted(options):
-            if f"Fl -{option}" not in page:
-                return f"{name} does not tell --{option} of {word}"
-            for shell, text in shells.items():
-                if f"--{option}" not in text or word not in text:
-                    return f"{shell} does not complete {word} --{option}"
+        name = PAGES_OF.get(word, PAGES[0])
+        for place, found in ((name, in_manual((releases.clone / name).read_text(), word)), *((name, words[word]) for name, words in shells.items())):
+            if found != options:
+                return f"{place}, {word}: {' '.join(sorted(found ^ options))} is there or in its help alone"
     return ""
+
+
+def in_manual(page: str, word: str) -> set[str]:
+    """The options that the synopsis of a manual page has for a word, each of which the page explains; of all where it says `options`."""
+    block = page.partition(f"\n.Cm {word}\n")[2].partition("\n.Nm")[0].partition("\n.Sh")[0]
+    explained = set(re.findall(r"^\.It Fl (-[a-z-]+)", page, flags=re.M))
+    named = explained if ".Op Ar options" in block else set(re.findall(r"Fl (-[a-z-]+)", block))
+    return {f"-{option}" for option in named & explained}
+
+
+def completed(text: str) -> dict[str, set[str]]:
+    """The options that a completion has for each word: those behind a word or words and `)`, where `*` stands for scan."""
+    found: dict[str, set[str]] = {}
+    for names, options in re.findall(r"^ +([a-z| ]+|\*)\)\s+options(?:='|\+=\()(.*?);;", text, flags=re.M | re.S):
+        offered = set(re.findall(r"--[a-z-]+(?=\[)", options) or re.findall(r"--[a-z-]+", options)) - {"--help"}
+        found.update((name, offered) for name in (["scan"] if names == "*" else names.split(" | ")))
+    return {word: found.get(word, set()) for word in WORDS}
 
 
 COMPLETE = """\
@@ -657,7 +674,7 @@ def completions(releases: Releases) -> str:
 TRIED: list[tuple[str, Callable[[Releases], str]]] = [
     ("the first start in a fresh clone", clone_starts),
     ("a start in a clone that may not be written", starts_read_only),
-    ("what stands beside the program of the proofs", told_beside_it),
+    ("what stands beside the program of the proofs", stands_beside_it),
     ("a source that was changed", source_changed),
     ("a released program that was changed", program_changed),
     ("crates that come to it", crates_changed),

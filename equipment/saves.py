@@ -13,7 +13,7 @@ import subprocess
 from collections.abc import Callable
 from dataclasses import dataclass, field
 
-from trials.trial import Noted, Trial
+from trials.trial import Noted, Skip, Trial
 
 OLD = b"K\x01."
 NEW = b"K\x02."
@@ -180,6 +180,29 @@ def goes_round(saves: Saves) -> str:
     return saves.refused(saves.save("link"), "link", None)
 
 
+def link_many(saves: Saves, count: int) -> str:
+    """Makes so many symbolic links, one after another, of which the last leads to `out`, and gives the name of the first."""
+    for number in range(count):
+        (saves.room / f"link{number}").symlink_to(f"link{number - 1}" if number else "out")
+    return f"link{count - 1}"
+
+
+def follows_many_links(saves: Saves) -> str:
+    """Linux follows 40 links, one after another, and no more."""
+    for count, is_followed in ((40, True), (41, False)):
+        for is_there in (True, False):
+            saves.begin()
+            if is_there:
+                (saves.room / "out").write_bytes(OLD)
+            run = saves.save(link_many(saves, count))
+            why = saves.stored(run, "out") if is_followed else saves.refused(run, "out", OLD if is_there else None)
+            if not why and not all((saves.room / f"link{number}").is_symlink() for number in range(count)):
+                why = "a link was replaced"
+            if why:
+                return f"{count} links, {'a file' if is_there else 'no file'}: {why}"
+    return ""
+
+
 def keeps_other_names(saves: Saves) -> str:
     saves.begin()
     (saves.room / "out").write_bytes(OLD)
@@ -317,6 +340,23 @@ def fills_a_device(saves: Saves, words: list[str]) -> str:
     return "" if (run.status, run.errors) == (2, CANNOT) else f"status {run.status}, errors {run.errors!r}"
 
 
+def covers_a_file(saves: Saves, words: list[str]) -> str:
+    """Standard output is a file under a folder where another file system was mounted since. There the file of its name, which has its number
+    too, stays as it is."""
+    script = (
+        "for count in 1 2; do mount -t tmpfs none disk && cp old disk/out || exit 9; [ $count = 2 ] || exec 3<>disk/out; done; "
+        '[ "$(stat -L -c %i /proc/$$/fd/3)" = "$(stat -c %i disk/out)" ] || exit 8; '
+        '"$@" >&3; status=$?; cmp old disk/out >&2; cmp new /proc/$$/fd/3 >&2; ls disk | grep -vx out >&2; exit $status'
+    )
+    saves.begin()
+    (saves.room / "disk").mkdir()
+    (saves.room / "old").write_bytes(OLD)
+    run = saves.save("/dev/stdout", before=[*words, "bash", "-c", script, "bash"])
+    if run.status == 8:
+        raise Skip("it wants file systems that number their files alike")
+    return "" if (run.status, run.errors) == (0, b"") else f"status {run.status}, errors {run.errors!r}"
+
+
 def may_not_write(saves: Saves) -> str:
     """The folder takes no new file; then the file itself may not be written, though its folder takes new ones."""
     for folder_mode, mode in ((0o555, 0o644), (0o755, 0o444)):
@@ -342,6 +382,40 @@ def breaks_calls(saves: Saves) -> str:
             return f"{call}: {why}"
     saves.begin()
     return saves.refused(saves.save("none", LD_PRELOAD=str(saves.library()), FAIL="rename"), "none", None)
+
+
+def cannot_be_emptied(saves: Saves) -> str:
+    """Standard output is a file that was removed while it is open: it is emptied first, and that fails."""
+    saves.begin()
+    (saves.room / "out").write_bytes(LONGER)
+    shell = ["bash", "-c", 'exec 1<>out; rm out; FAIL=ftruncate LD_PRELOAD=$1 "${@:2}"; status=$?; cat /proc/$$/fd/1 >&2; exit $status', "bash"]
+    run = saves.save("/dev/stdout", before=[*shell, str(saves.library())])
+    if (run.status, run.errors) != (2, CANNOT + LONGER) or os.listdir(saves.room) != ["new"]:
+        return f"{run}, and there are {os.listdir(saves.room)}"
+    return ""
+
+
+def save_below(saves: Saves, mode: int, is_there: bool, **environment: str) -> str:
+    """Saves in a folder of this mode, where there is a file or none, and says what is wrong."""
+    saves.begin()
+    folder = saves.room / "below"
+    folder.mkdir()
+    if is_there:
+        (folder / "out").write_bytes(OLD)
+    folder.chmod(mode)
+    run = saves.save("below/out", "new", unprivileged(), None, **environment)
+    folder.chmod(0o755)
+    return saves.stored(run, "below/out")
+
+
+def bears_an_unstored_folder(saves: Saves) -> str:
+    """The folder cannot be stored, which is done after the file has its name: the second fsync fails, or the folder may not be opened."""
+    library = str(saves.library())
+    for is_there in (True, False):
+        why = save_below(saves, 0o755, is_there, LD_PRELOAD=library, FAIL="fsync", FAIL_FROM="2") or save_below(saves, 0o333, is_there)
+        if why:
+            return f"{'a file' if is_there else 'no file'}: {why}"
+    return ""
 
 
 def fails_without_owner(saves: Saves) -> str:
@@ -449,6 +523,7 @@ TRIED: list[tuple[str, Callable[[Saves], str]]] = [
     ("a file saved over keeps its owner", keeps_the_owner),
     ("owners that cannot be given are no fault", fails_without_owner),
     ("symbolic links are followed, and stay", follows_links),
+    ("as many symbolic links as there may be", follows_many_links),
     ("a link to itself", goes_round),
     ("a file with two names", keeps_other_names),
     ("the longest name", takes_the_longest_name),
@@ -461,6 +536,8 @@ TRIED: list[tuple[str, Callable[[Saves], str]]] = [
     ("a run that the limit ends", is_killed_by_the_limit),
     ("a folder and a file that may not be written", may_not_write),
     ("a call of the system that fails", breaks_calls),
+    ("a removed file that cannot be emptied", cannot_be_emptied),
+    ("a folder that cannot be stored", bears_an_unstored_folder),
     ("a saved file is private, and stored before it is renamed", stores_before_it_renames),
     ("a new file is stored before it is renamed", stores_a_new_file),
     ("runs that are killed while they save", is_killed),
@@ -468,13 +545,19 @@ TRIED: list[tuple[str, Callable[[Saves], str]]] = [
 ]
 
 
-def full_file_system(saves: Saves) -> Noted:
+MOUNTED: list[tuple[str, Callable[[Saves, list[str]], str]]] = [
+    ("a full file system", fills_a_device),
+    ("a file of one number on another file system", covers_a_file),
+]
+
+
+def mounted(saves: Saves, attempt: Callable[[Saves, list[str]], str]) -> Noted:
     words = may_mount()
     if words is None:
         return Noted("", " (not tried: nothing may be mounted here)")
-    return Noted(fills_a_device(saves, words), "")
+    return Noted(attempt(saves, words), "")
 
 
 def trials(saves: Saves) -> list[Trial]:
     found = [Trial(name, functools.partial(attempt, saves)) for name, attempt in TRIED]
-    return [*found, Trial("a full file system", functools.partial(full_file_system, saves))]
+    return [*found, *(Trial(name, functools.partial(mounted, saves, attempt)) for name, attempt in MOUNTED)]

@@ -158,8 +158,8 @@ class Inputs:
     count: int = 0
 
     def answer(self, words: Sequence[str], script: str = "") -> tuple[str, int]:
-        told = [self.program, *words]
-        done = subprocess.run(told, input=script.encode(), capture_output=True, timeout=100, close_fds=False, check=False)
+        command = [self.program, *words]
+        done = subprocess.run(command, input=script.encode(), capture_output=True, timeout=100, close_fds=False, check=False)
         if done.stderr:
             raise ValueError(f"errors {done.stderr[:100]!r}")
         return done.stdout.decode("utf-8", "surrogateescape"), done.returncode

@@ -174,9 +174,9 @@ def over_node(wheels: Wheels) -> Noted:
     if shutil.which("node") is None:
         raise Lack("there is no Node (equipment/install_servers)")
     interpreter = Path(wheels.lesser())
-    told = list(run_classes(interpreter, "windows", [name for name in classes(interpreter) if name not in DEAR], wheels.folder))
-    faults = [fault for one in told for fault in one.faults]
-    return Noted(beginning("; ".join(faults).encode()), f": {sum(one.passed for one in told)} tests of {len(told)} classes")
+    tried = list(run_classes(interpreter, "windows", [name for name in classes(interpreter) if name not in DEAR], wheels.folder))
+    faults = [fault for one in tried for fault in one.faults]
+    return Noted(beginning("; ".join(faults).encode()), f": {sum(one.passed for one in tried)} tests of {len(tried)} classes")
 
 
 ROWS: list[tuple[str, Callable[[Wheels], "str | Noted"]]] = [

@@ -1,6 +1,6 @@
 """What the program says of how bytes begin, and what `picklestep scan` makes of them: the two have a list each.
 
-Where the program says that scan looks into a file, scan opens it, or tells why it does not.
+Where the program says that scan looks into a file, scan opens it, or notes why it does not.
 """
 
 from __future__ import annotations
@@ -132,8 +132,8 @@ class Begins:
         """The lines of `scan --json`, by the names of the files."""
         settings = [f"PYTHONPATH={self.room.root / 'python'}", f"PICKLESTEP_PROGRAM={self.room.program}", "PYTHONDONTWRITEBYTECODE=1"]
         words: list[Word] = ["env", *settings, sys.executable, "-m", "picklestep", "scan", "--json", "."]
-        told = run(words, self.folder).output.decode().splitlines()
-        return {Path(line["path"]).name: line for line in map(json.loads, told)}
+        lines = run(words, self.folder).output.decode().splitlines()
+        return {Path(line["path"]).name: line for line in map(json.loads, lines)}
 
     def fault(self, number: int) -> str:
         """What is wrong with a row."""
@@ -154,6 +154,6 @@ class Begins:
 def trials(room: Room) -> list[Trial]:
     begins = Begins(room)
     return [
-        Trial(f"what begins like {kind.name} is opened or told", functools.partial(begins.fault, number))
+        Trial(f"what begins like {kind.name} is opened or noted", functools.partial(begins.fault, number))
         for number, kind in enumerate(begins.kinds)
     ]

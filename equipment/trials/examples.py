@@ -72,14 +72,16 @@ def of_readme(room: Room) -> list[Trial]:
 
 
 def of_pages(room: Room) -> list[Trial]:
-    """The conversations of all pages. None may be overlooked by the one who reads the page."""
+    """The conversations of all pages. None may be overlooked by the one who reads the page, and each has a name of its own."""
     trials = []
     for name in PAGES:
         page = room.root / name
         found = conversations.trials(str(room.program), page, room.folder / "conversations")
         wanted = len(BLOCK.findall(page.read_text("utf-8")))
-        if len(found) != wanted or not found:
-            why = f"{len(found)} of {wanted} were found"
+        names = [trial.name for trial in found]
+        why = f"{len(found)} of {wanted} were found" if len(found) != wanted or not found else ""
+        why = why or next((f"two are named '{name}'" for name in names if names.count(name) > 1), "")
+        if why:
             trials.append(Trial(f"the conversations of {page.name}", functools.partial(str, why)))
         trials += found
     return trials

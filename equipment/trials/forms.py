@@ -1,4 +1,4 @@
-"""What picklers write is in form: the program says so of pickles of this Python's picklers, and of real files. Other batches are told."""
+"""What picklers write is in form: the program says so of pickles of this Python's picklers, and of real files. Other batches are not."""
 
 from __future__ import annotations
 

@@ -9,6 +9,7 @@ from collections.abc import Iterator, Set
 from typing import Optional, Protocol
 
 import count_calls
+import crate_rows
 import devices
 import hostile
 import libraries
@@ -21,9 +22,10 @@ import releases
 import saves
 import several
 import try_definition
+import try_lines
 import wheels
 
-from . import begins, examples, forms, large, listings, memory, options, program
+from . import begins, examples, forms, large, listings, memory, options, program, usage
 from .room import Room, Word
 from .trial import Group, Noted, Trial, Verdict
 
@@ -68,9 +70,11 @@ def of_program(room: Room) -> list[AnyGroup]:
     """What the program does by itself."""
     return [
         Group("program", functools.partial(program.trials, room)),
+        Group("usage", functools.partial(usage.trials, room)),
         Group("options", functools.partial(options.trials, room)),
         Group("readme", functools.partial(examples.of_readme, room)),
         Group("conversations", functools.partial(examples.of_pages, room)),
+        Group("rows", functools.partial(crate_rows.trials, room.root)),
         Group("begins", functools.partial(begins.trials, room)),
         Group("forms", functools.partial(forms.trials, room)),
         Group("opcodes", functools.partial(opcodes.trials, room.root, str(room.program), room.folder / "opcodes")),
@@ -85,6 +89,7 @@ def of_pickles(room: Room) -> list[AnyGroup]:
     inputs = several.Inputs(str(room.program), room.folder / "several")
     return [
         Group("listings", functools.partial(listings.trials, room)),
+        Group("lines", functools.partial(try_lines.trials, room.program, room.folder / "lines", room.pickles)),
         Group("calls", functools.partial(count_calls.trials, counts, room.pickles), counts.closing),
         Group("there-and-back", functools.partial(listings.there_and_back, room)),
         Group("several", functools.partial(several.trials, inputs, room.pickles, answers), inputs.closing),

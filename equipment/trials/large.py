@@ -25,6 +25,7 @@ EDITS = (
         output=WHERE.format(3, f"F1 ended at {LARGE + 1}"),
     ),
 )
+FORM = Row("the form of a large input", ("form", "large_dump.pickle"), output="in form\n")
 LONGER = Row(
     "an edit of the largest input",
     ("debug", "largest.pickle"),
@@ -49,7 +50,7 @@ PIPES = (
     ),
 )
 GIGABYTES = 6
-LISTING_SECONDS = 300
+MOST_SECONDS = 300
 CHUNK = 1 << 20
 
 
@@ -71,38 +72,49 @@ def with_gigabytes(room: Room, attempt: Callable[[Room], str]) -> str:
     return attempt(room)
 
 
-def largest_listing() -> Iterator[bytes]:
-    """The listing of the largest input in pieces: four characters for each of its bytes, so it is not kept."""
-    yield b"    0: B    BINBYTES   '"
-    zeros = LARGEST - 6
+def zeros_between(before: str, count: int, behind: str) -> Iterator[bytes]:
+    """A text in pieces, with so many zeros in quotes: four characters for each of them, so it is not kept."""
+    yield f"{before}'".encode()
     chunk = rb"\x00" * (CHUNK // 4)
-    for _ in range(4 * zeros // CHUNK):
+    for _ in range(4 * count // CHUNK):
         yield chunk
-    yield rb"\x00" * (zeros % (CHUNK // 4))
-    yield b"'\n%d: .    STOP\nhighest protocol among opcodes = 3\n" % (LARGEST - 1)
+    yield rb"\x00" * (count % (CHUNK // 4))
+    yield f"'{behind}".encode()
 
 
-def lists_largest(room: Room) -> str:
-    words: list[Word] = ["timeout", str(LISTING_SECONDS), room.start, "list", "largest.pickle"]
+def writes(room: Room, task: str, file: str, pieces: Iterator[bytes]) -> str:
+    """A task writes this text, and ends well."""
+    words: list[Word] = ["timeout", str(MOST_SECONDS), room.start, task, file]
     with subprocess.Popen(
         words, cwd=room.files, stdin=subprocess.DEVNULL, stdout=subprocess.PIPE, stderr=subprocess.PIPE
-    ) as lister:
-        assert lister.stdout and lister.stderr
-        is_same = all(lister.stdout.read(len(piece)) == piece for piece in largest_listing())
-        is_same = is_same and not lister.stdout.read(1)
+    ) as writer:
+        assert writer.stdout and writer.stderr
+        is_same = all(writer.stdout.read(len(piece)) == piece for piece in pieces)
+        is_same = is_same and not writer.stdout.read(1)
         if not is_same:
-            lister.terminate()
-        errors = lister.stderr.read()
-        status = lister.wait()
+            writer.terminate()
+        errors = writer.stderr.read()
+        status = writer.wait()
     if not is_same:
         return f"another output, and errors that begin: {beginning(errors)}"
     return "" if status == 0 else f"status {status}, with errors that begin: {beginning(errors)}"
 
 
+def lists_largest(room: Room) -> str:
+    closing = f"\n{LARGEST - 1}: .    STOP\nhighest protocol among opcodes = 3\n"
+    return writes(room, "list", "largest.pickle", zeros_between("    0: B    BINBYTES   ", LARGEST - 6, closing))
+
+
+def shows_large(room: Room) -> str:
+    """The objects of a large input: the bytes, which are the result."""
+    return writes(room, "objects", "large.pickle", zeros_between("#0 bytes ", LARGE - 6, "\nresult #0\n"))
+
+
 def trials(room: Room) -> list[Trial]:
     return [
         Trial("a large input", functools.partial(reads_large, room)),
-        *trials_of(EDITS, room),
+        *trials_of((*EDITS, FORM), room),
+        Trial("the objects of a large input", functools.partial(shows_large, room)),
         *(Trial(row.name, functools.partial(with_gigabytes, room, row.fault)) for row in (LONGER, *PIPES)),
         Trial("the listing of the largest input", functools.partial(with_gigabytes, room, lists_largest)),
     ]

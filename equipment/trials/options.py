@@ -5,11 +5,19 @@ from __future__ import annotations
 from devices import BREAKPOINTS
 
 from .room import Room
-from .row import Row, fails, is_usage, misused, trials_of
+from .row import Row, fails, misused, repeated, trials_of, unexpected, valueless
 from .trial import Trial
 
 _, BREAK_LINES, BREAK_ANSWERS, BREAK_STATUS = BREAKPOINTS
-NO_WINDOWS = ("0", "1000001", "-1", "x", "", "1.5", "18446744073709551617")
+# What is no number of step records, each with what is said of it. A minus begins an option.
+NO_WINDOWS = (
+    ("0", "0 is not in 1..=1000000"),
+    ("1000001", "1000001 is not in 1..=1000000"),
+    ("x", "invalid digit found in string"),
+    ("", "cannot parse integer from empty string"),
+    ("1.5", "invalid digit found in string"),
+    ("18446744073709551617", "number too large to fit in target type"),
+)
 
 WINDOWS = (
     *(
@@ -34,10 +42,14 @@ WINDOWS = (
         "goto 3\nback\nback\nstack\n",
         output="at 3\nat 2\nat 1\nstack #0\n",
     ),
-    *(misused(f"a window of '{count}'", "debug", "doubled.pickle", "--window", count) for count in NO_WINDOWS),
-    misused("a window without a number", "debug", "doubled.pickle", "--window"),
-    is_usage("two windows", "debug", "doubled.pickle", "--window", "2", "--window", "2"),
-    is_usage("a window of list", "list", "doubled.pickle", "--window", "2"),
+    *(
+        misused(f"a window of '{count}'", "debug", "doubled.pickle", "--window", count, why=f"invalid value '{count}' for '--window <N>': {why}")
+        for count, why in NO_WINDOWS
+    ),
+    unexpected("a window of '-1'", "-1", "debug [OPTIONS] <FILE>", "debug", "doubled.pickle", "--window", "-1"),
+    valueless("a window without a number", "--window <N>", "debug", "doubled.pickle", "--window"),
+    repeated("two windows", "--window <N>", "debug", "doubled.pickle", "--window", "2", "--window", "2"),
+    unexpected("a window of list", "--window", "list <FILE>", "list", "doubled.pickle", "--window", "2"),
 )
 
 
@@ -140,8 +152,9 @@ SAVES = (
         "unsaved.pickle",
         unmade="unsaved.pickle",
     ),
-    misused("a name to save missing", "debug", "doubled.pickle", "--save"),
-    is_usage("the option --save of list", "list", "doubled.pickle", "--save", "saved.pickle"),
+    valueless("a name to save missing", "--save <OUT>", "debug", "doubled.pickle", "--save"),
+    repeated("two names to save", "--save <OUT>", "debug", "doubled.pickle", "--save", "one.pickle", "--save", "two.pickle"),
+    unexpected("the option --save of list", "--save", "list <FILE>", "list", "doubled.pickle", "--save", "saved.pickle"),
 )
 
 

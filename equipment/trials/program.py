@@ -1,4 +1,4 @@
-"""What the program does with files, devices and words, a row for each."""
+"""What the program does with files and devices, a row for each."""
 
 from __future__ import annotations
 
@@ -10,14 +10,14 @@ import tty
 from collections.abc import Sequence
 
 from .room import SECONDS, Room, Run, Word, beginning
-from .row import CLOSED, CUT, FULL, SMALL_STACK, UNPRIVILEGED, Row, fails, is_usage, misused, trials_of
+from .row import CLOSED, CUT, FULL, LITTLE_MEMORY, SMALL_STACK, UNPRIVILEGED, Row, fails, trials_of
 from .samples import PAIR_LISTING, PAIR_OBJECTS
 from .trial import Trial
 
 NO_CALLS = "0 imports, 0 calls\n"
 UNKNOWN = "refused: X1 unknown word\n"
 STEPS = "step\nstep\nstep\nback\nstack\nstep\nstep\nstep\nfly\n"
-STEPS_TOLD = "at 1\nat 2\nat 3\nat 2\nstack #0 #0\nat 3\nat 4\nrefused: C2 at the end, stopped\n" + UNKNOWN
+STEPS_ANSWERED = "at 1\nat 2\nat 3\nat 2\nstack #0 #0\nat 3\nat 4\nrefused: C2 at the end, stopped\n" + UNKNOWN
 CUT_LISTING = "    0: K    BININT1    1\nfault: F3 truncated at 2\nhighest protocol among opcodes = 1\n"
 MANY = 50_000
 # Lines of 65,536 bytes at most are obeyed; of a longer one no word is.
@@ -26,7 +26,7 @@ LONG_LINES = (
     f"    {BLANKS}\n     {BLANKS}\n{BLANKS}step\nstep{BLANKS} \nfly{BLANKS}  \nstep{BLANKS}\nback {BLANKS}"
 )
 TOO_LONG = "refused: X7 line too long\n"
-LONG_LINES_TOLD = f"{TOO_LONG}at 1\n{TOO_LONG}{TOO_LONG}at 2\n{TOO_LONG}"
+LONG_LINES_ANSWERED = f"{TOO_LONG}at 1\n{TOO_LONG}{TOO_LONG}at 2\n{TOO_LONG}"
 
 # A FIFO that is written, read, or left in the middle of a line, at the other end.
 FIFO_GIVES = 'rm -f fifo && mkfifo fifo && { cat pair.pickle >fifo & } && "$@" fifo'
@@ -106,14 +106,21 @@ OBJECTS = (
     fails("the objects of no such file", "cannot read", "objects", "missing.pickle"),
     fails("the objects of a file past the size limit", "too large", "objects", "too_large.pickle"),
     fails("the objects, on a full device", "cannot write", "objects", "pair.pickle", through=FULL),
-    is_usage("objects without a file", "objects"),
 )
 
-NO_HOLES = ("", "1", ":", "1:", ":1", "1:-1", "+1:1", "1:1:1", "1,1", "0x1:1", " 1:1", "1:9223372036854775808", "18446744073709551616:1")
 # A thousand opcodes NONE with three bytes behind each, between an import and its call; and where these bytes are.
 HOLED = '''printf 'NN\\377\\377\\377cm\\nn\\n' >holed.pickle; echo 2:3 >holes.txt
 for ((i = 0; i < 999; i++)); do printf 'N0\\377\\377\\377' >>holed.pickle; echo "$((i * 5 + 12)):3" >>holes.txt; done
 printf ')R.' >>holed.pickle; "$@"'''
+# Two holes between white space, that of other scripts too (U+00A0, U+3000), and lines that have nothing else.
+SPACED = '''printf 'cm\\nn\\n\\377)\\377R.' >spaced.pickle
+printf '\\n \\t\\v5:1 \\f\\r\\n\\302\\240\\n\\t\\r\\n\\343\\200\\2007:1\\302\\240' >spaced.txt; "$@"'''
+
+
+def holes_fail(name: str, why: str, file: str, *holes: str, through: str = "") -> Row:
+    """The calls of a file without the bytes that files of holes name."""
+    return fails(name, why, "calls", file, *(word for path in holes for word in ("--skip", f"@{path}")), through=through)
+
 
 CALLS = (
     Row("the calls of a pair", ("calls", "pair.pickle"), output=NO_CALLS),
@@ -135,37 +142,31 @@ CALLS = (
     fails("the calls of no such file", "cannot read", "calls", "missing.pickle"),
     fails("the calls of a file past the size limit", "too large", "calls", "too_large.pickle"),
     fails("the calls, on a full device", "cannot write", "calls", "pair.pickle", through=FULL),
-    is_usage("calls without a file", "calls"),
-    is_usage("a window of calls", "calls", "pair.pickle", "--window", "2"),
-    is_usage("bytes of list that are left out", "list", "pair.pickle", "--skip", "1:1"),
-    *(
-        misused(f"a hole '{hole}'", "calls", "pair.pickle", "--skip", hole, says=f"error: '{hole}' is no OFFSET:LENGTH")
-        for hole in NO_HOLES
-    ),
-    misused(
-        "a hole before another",
-        "calls",
-        "pair.pickle",
-        "--skip",
-        "2:1",
-        "--skip",
-        "1:1",
-        says="error: '1:1' is no OFFSET:LENGTH, or does not stand behind the bytes that are left out before it",
-    ),
-    misused("a hole over another", "calls", "pair.pickle", "--skip", "0:3", "--skip", "2:1", says="error: '2:1' is no"),
-    misused("a hole without bytes or a file", "calls", "pair.pickle", "--skip"),
     Row(
         "the calls of what a thousand holes leave",
         ("calls", "holed.pickle", "--skip", "@holes.txt"),
         output="    5: import 'm' 'n' as #2\n 5006: call 'm' 'n' () as #1003\n1 imports, 1 calls\n",
         through=HOLED,
     ),
+    Row(
+        "holes from a file, between white space",
+        ("calls", "spaced.pickle", "--skip", "@spaced.txt"),
+        output="    0: import 'm' 'n' as #0\n    8: call 'm' 'n' () as #2\n1 imports, 1 calls\n",
+        through=SPACED,
+    ),
     Row("holes from a file without a line", ("calls", "pair.pickle", "--skip", "@/dev/null"), output=NO_CALLS),
-    fails("holes from no such file", "cannot read", "calls", "pair.pickle", "--skip", "@missing.txt"),
+    holes_fail("holes from no such file", "cannot read", "pair.pickle", "missing.txt"),
+    holes_fail("holes from a file that is no text", "cannot read", "pair.pickle", "pair.pickle"),
+    holes_fail("holes from a file past the size limit", "too large", "pair.pickle", "too_large.pickle"),
+    # Of files that fail the first in the order of the words is named, and files of holes come before FILE.
+    holes_fail("holes from a file past the size limit, and from no such file", "too large", "pair.pickle", "too_large.pickle", "missing.txt"),
+    holes_fail("holes from no such file, and from one past the size limit", "cannot read", "pair.pickle", "missing.txt", "too_large.pickle"),
+    holes_fail("holes from a file past the size limit, of no such file", "too large", "missing.pickle", "too_large.pickle"),
+    holes_fail("holes from no such file, of one past the size limit", "cannot read", "too_large.pickle", "missing.txt"),
 )
 
 CONVERSATIONS = (
-    Row("a conversation", ("debug", "doubled.pickle"), STEPS, status=1, output=STEPS_TOLD),
+    Row("a conversation", ("debug", "doubled.pickle"), STEPS, status=1, output=STEPS_ANSWERED),
     Row("a conversation without a line", ("debug", "doubled.pickle")),
     Row(
         "lines with returns and tabs, the last without its end",
@@ -187,7 +188,7 @@ CONVERSATIONS = (
         ("debug", "popped.pickle"),
         LONG_LINES,
         status=1,
-        output=LONG_LINES_TOLD,
+        output=LONG_LINES_ANSWERED,
     ),
     Row("a quit without its end", ("debug", "none.pickle"), "step\nquit", output="at 1\n"),
     Row(
@@ -254,72 +255,15 @@ FAULTS = (
     fails("no such file, with closed standard output", "cannot read", "list", "missing.pickle", through=CLOSED),
 )
 
-WORDS = (
-    is_usage("no words"),
-    is_usage("debug without a file", "debug"),
-    is_usage("list without a file", "list"),
-    is_usage("list with two files", "list", "pair.pickle", "pair.pickle"),
-    is_usage("an unknown subcommand", "fly", "pair.pickle"),
-    is_usage("an unknown option", "--fast"),
-    is_usage("an unknown option of list", "list", "--fast", "pair.pickle"),
-    is_usage("the option --help", "--help"),
-    is_usage("the option --help of list", "list", "--help"),
-    is_usage("the subcommand help", "help"),
-    fails("a word that is not text", "cannot read", "list", b"\xff"),
-    fails("a word that is not text after others", "cannot read", "debug", "pair.pickle", "--save", b"a\xff"),
-)
-
-FILE_HELP = "Arguments:\n  <FILE>  the pickle\n"
-MANY_HELP = "read FILE as pickles that follow one another: go on after each STOP"
-UNFRAMED_HELP = "take FRAME for an opcode like others, as a pickle needs that was cut off"
-WHAT_EACH_DOES = (
-    ("list", "Lists the opcodes of FILE with their offsets and arguments"),
-    ("objects", "Prints the objects that the opcodes of FILE make, and which of them is the result"),
-    ("calls", "Prints what the pickles of FILE would import and call, a line for each opcode that does so"),
-    ("debug", "Runs the commands of standard input on FILE: steps forwards and back, shows, edits"),
-    ("form", "Says whether FILE is a pickle in the form that picklers write, else where it is not and why"),
-)
-OPTIONS = {
-    "list": (("    --many", MANY_HELP), ("    --unframed", UNFRAMED_HELP)),
-    "objects": (("    --many", MANY_HELP), ("    --unframed", UNFRAMED_HELP)),
-    "form": (("    --many", "changes nothing: FILE is to be one pickle"),),
-    "calls": (
-        ("    --many", "changes nothing: all pickles of FILE are read without it too"),
-        ("    --first", "read the first pickle alone, up to its STOP"),
-        ("    --memo <kept>", "read FILE as one unpickler does that loads again and again and keeps its memo"),
-        ("    --full", "print arguments in full: whole texts, and all parts of a tuple"),
-        ("    --skip <OFFSET:LENGTH>", "leave bytes of FILE out, as raw numbers between opcodes; offsets stay those in FILE"),
+# Nothing is read of a file that is too large: there is no room for a tenth of it, as the last two rows show.
+TOO_LARGE = (
+    *(
+        fails(f"{task} of a file past the size limit, with little memory", "too large", task, "too_large.pickle", through=LITTLE_MEMORY)
+        for task in ("list", "objects", "calls", "form", "debug")
     ),
-    "debug": (
-        ("    --many", MANY_HELP),
-        ("    --unframed", UNFRAMED_HELP),
-        ("    --window <N>", "keep the records of the latest N steps; to go back further, run from the start again"),
-        ("    --save <OUT>", "write the pickle to OUT after the last line"),
-    ),
-}
-NO_MORE_HELP = ("-h, --help", "Print help")
-
-
-def columns(heading: str, rows: Sequence[tuple[str, str]]) -> str:
-    width = max(len(name) for name, _ in rows)
-    return heading + "".join(f"  {name:<{width}}  {words}\n" for name, words in rows)
-
-
-def help_of(name: str, about: str) -> Row:
-    """The help of a subcommand of the program itself; the entrance has its own."""
-    usage = f"{about}\n\nUsage: picklestep {name} [OPTIONS] <FILE>\n\n"
-    errors = f"{usage}{FILE_HELP}\n" + columns("Options:\n", (*OPTIONS[name], NO_MORE_HELP))
-    return Row(f"the help of {name}", (name, "--help"), status=2, errors=errors, is_bare=True)
-
-
-PROGRAM_HELP = (
-    "Shows what a Python pickle would import, call and build, and runs nothing of it\n\nUsage: picklestep <COMMAND>\n\n"
-    + columns("Commands:\n", (*WHAT_EACH_DOES, ("help", "Print this message or the help of the given subcommand(s)")))
-    + columns("\nOptions:\n", (NO_MORE_HELP,))
-)
-HELPS = (
-    Row("the help of the program", ("--help",), status=2, errors=PROGRAM_HELP, is_bare=True),
-    *(help_of(name, about) for name, about in WHAT_EACH_DOES),
+    holes_fail("holes from a file past the size limit, with little memory", "too large", "pair.pickle", "too_large.pickle", through=LITTLE_MEMORY),
+    fails("a conversation about the largest file, with little memory", "out of memory", "debug", "largest.pickle", through=LITTLE_MEMORY),
+    holes_fail("holes from the largest file, with little memory", "out of memory", "pair.pickle", "largest.pickle", through=LITTLE_MEMORY),
 )
 
 
@@ -411,7 +355,6 @@ def trials(room: Room) -> list[Trial]:
         Trial("a conversation line by line", lambda: talks([[exchange] for exchange in TALK], room)),
         Trial("ten lines at once, and ten answers", lambda: talks([TEN], room)),
         Trial("a conversation at a terminal", lambda: talks_at_a_terminal(room)),
-        *trials_of(FAULTS, room),
+        *trials_of((*FAULTS, *TOO_LARGE), room),
         Trial("a reader that leaves early", lambda: leaves_early(room)),
-        *trials_of((*WORDS, *HELPS), room),
     ]

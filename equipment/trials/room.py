@@ -59,15 +59,14 @@ class Run:
             return ""
         return f"status {self.status} and not {wanted}, with errors that begin: {beginning(self.errors)}"
 
-    def difference(self, status: int, output: str, errors: Optional[str]) -> str:
-        """Where the run differs from this status, this output and these errors (None is any)."""
+    def difference(self, status: int, output: str, errors: str) -> str:
+        """Where the run differs from this status, this output and these errors."""
         if self.status != status:
             return self.fault_of_status(status)
         why = text_difference(self.output, output.encode())
         if why:
             return f"of the output {why}"
-        if errors is not None:
-            why = text_difference(self.errors, errors.encode())
+        why = text_difference(self.errors, errors.encode())
         return f"of the errors {why}" if why else ""
 
 

@@ -10,13 +10,15 @@ from typing import Optional
 
 from saves import unprivileged
 
-from .room import Room, Run, Word, beginning
+from .room import Room, Run, Word
 from .trial import Trial
 
 # Lines of bash for `through`: "$@" is the program with its words.
 FULL = 'exec "$@" >/dev/full'
 CLOSED = 'exec "$@" >&-'
 SMALL_STACK = 'ulimit -s 256; exec "$@"'
+# (in KiB: a tenth of the most bytes that a file may have)
+LITTLE_MEMORY = 'ulimit -v 100000; exec "$@"'
 CUT = 'head -c 3 pair.pickle | "$@"'
 UNPRIVILEGED = shlex.join(unprivileged()) + ' "$@"'
 
@@ -25,10 +27,9 @@ UNPRIVILEGED = shlex.join(unprivileged()) + ' "$@"'
 class Row:
     """A run of the program with these words, in the folder of the sample files.
 
-    `through` is a line of bash that starts it, where it is not started directly. `says` is how a line
-    of the errors begins, where their whole text belongs to a library. `saved` is a file that has the
-    bytes of another one afterwards, and `unmade` a file that must not be there. With `is_bare` the
-    program is started without the entrance, which has words and a help of its own.
+    `through` is a line of bash that starts it, where it is not started directly. `saved` is a file that
+    has the bytes of another one afterwards, and `unmade` a file that must not be there. With `is_bare`
+    the program is started without the entrance, which has words and a help of its own.
     """
 
     name: str
@@ -38,7 +39,6 @@ class Row:
     output: str = ""
     errors: str = ""
     through: str = ""
-    says: str = ""
     saved: Optional[tuple[str, str]] = None
     unmade: str = ""
     is_bare: bool = False
@@ -52,18 +52,7 @@ class Row:
     def fault(self, room: Room) -> str:
         """What is wrong with a run, or an empty text."""
         found = self.run(room)
-        errors = None if self.says else self.errors
-        return (
-            found.difference(self.status, self.output, errors)
-            or self.fault_of_words(found)
-            or self.fault_of_files(room)
-        )
-
-    def fault_of_words(self, found: Run) -> str:
-        begin = self.says.encode()
-        if not begin or any(line.startswith(begin) for line in found.errors.split(b"\n")):
-            return ""
-        return f"errors without '{self.says}', which begin: {beginning(found.errors)}"
+        return found.difference(self.status, self.output, self.errors) or self.fault_of_files(room)
 
     def fault_of_files(self, room: Room) -> str:
         if self.saved is not None:
@@ -85,11 +74,26 @@ def fails(name: str, why: str, *words: Word, given: str = "", through: str = "",
     return Row(name, words, given, status=2, errors=errors, through=through, unmade=unmade)
 
 
-def misused(name: str, *words: Word, says: str = "error: ") -> Row:
-    """The program takes the words as no task."""
-    return Row(name, words, status=2, says=says)
+def misused(name: str, *words: Word, why: str, usage: str = "", through: str = "", is_bare: bool = False) -> Row:
+    """The program takes the words as no task. Its errors are what clap 4 writes: why, which words it takes
+    (but where only a value is wrong), and where more is said."""
+    called = f"\n\nUsage: picklestep {usage}" if usage else ""
+    errors = f"error: {why}{called}\n\nFor more information, try '--help'.\n"
+    return Row(name, words, status=2, errors=errors, through=through, is_bare=is_bare)
 
 
-def is_usage(name: str, *words: Word) -> Row:
-    """The program says which words it takes."""
-    return Row(name, words, status=2, says="Usage: picklestep", is_bare=True)
+def unexpected(name: str, option: str, usage: str, *words: Word) -> Row:
+    """A task is given an option that it does not have. The usage names what stands before it."""
+    why = f"unexpected argument '{option}' found\n\n  tip: to pass '{option}' as a value, use '-- {option}'"
+    return misused(name, *words, why=why, usage=usage)
+
+
+def repeated(name: str, option: str, task: str, *words: Word) -> Row:
+    """An option is given twice that may be given once."""
+    why = f"the argument '{option}' cannot be used multiple times"
+    return misused(name, task, *words, why=why, usage=f"{task} [OPTIONS] <FILE>")
+
+
+def valueless(name: str, option: str, *words: Word) -> Row:
+    """The value of an option is missing."""
+    return misused(name, *words, why=f"a value is required for '{option}' but none was supplied")

@@ -78,9 +78,9 @@ def run_groups(chosen: Chosen, report: Report) -> None:
         found = asides[group.name].verdicts() if group.name in asides else group.verdicts(wanted)
         try:
             for verdict in found:
-                report.tell(verdict)
+                report.take(verdict)
         except Exception as fault:  # (what lists the trials of a group has failed, and the next group still runs)
-            report.tell(Verdict(group.name, group.name, f"{type(fault).__name__}: {fault}"[:600]))
+            report.take(Verdict(group.name, group.name, f"{type(fault).__name__}: {fault}"[:600]))
 
 
 def alone(name: str) -> str:
@@ -98,15 +98,15 @@ def count_proofs(report: Report, log: Path, status: int) -> None:
     closing = CLOSING.fullmatch(lines[-1]) if lines else None
     if closing is not None:
         report.passed += int(closing[1])
-        told = [line.partition("FAILED: ")[2] for line in lines if "FAILED: " in line][-1:] if int(closing[2]) else []
-        failed = [name for names in told for name in FAILED.findall(names)]
+        named = [line.partition("FAILED: ")[2] for line in lines if "FAILED: " in line][-1:] if int(closing[2]) else []
+        failed = [name for names in named for name in FAILED.findall(names)]
     else:
         failed = [found[1] + (" (tests)" if found[2] else "") for found in map(UNPROVED.fullmatch, lines) if found]
     for name in failed:
         report.fail(f"FAIL rt ci: {name}\n    alone: {alone(name)}", 1)
     if not failed and (closing is None or int(closing[2]) or status != 0):
         ending = f"'{closing[0]}'" if closing else "no closing line"
-        report.tell(Verdict("", "rt ci", f"it ended with status {status} and {ending}, and names nothing that failed"))
+        report.take(Verdict("", "rt ci", f"it ended with status {status} and {ending}, and names nothing that failed"))
 
 
 def run_all(room: Room, log: Path, status: int, seconds: int, lacks: Path) -> int:
@@ -114,11 +114,11 @@ def run_all(room: Room, log: Path, status: int, seconds: int, lacks: Path) -> in
     report = Report(is_whole=True)
     begin = tried = time.monotonic()
     count_proofs(report, log, status)
-    report.tell(Verdict("", "what the trials need is installed", "; ".join(lacks.read_text("utf-8", "replace").splitlines())))
+    report.take(Verdict("", "what the trials need is installed", "; ".join(lacks.read_text("utf-8", "replace").splitlines())))
     if report.failed:
-        report.tell(Verdict("", "the program", "it is not tried, since rt ci failed"))
+        report.take(Verdict("", "the program", "it is not tried, since rt ci failed"))
     elif not os.access(room.proved, os.X_OK):
-        report.tell(Verdict("", "the program", "rt ci built none"))
+        report.take(Verdict("", "the program", "rt ci built none"))
     else:
         chosen = choose(room, [])
         run_groups([pair for pair in chosen if pair[0].name != MEMORY], report)

@@ -50,12 +50,13 @@ SMALL = {
 }
 
 
-def make_holes(path: Path, size: int, behind: bytes = b"") -> None:
-    """One BINBYTES of zeros and STOP, of this size together. Most of the file takes no room on a disk."""
+def make_holes(path: Path, size: int, before: bytes = b"", behind: bytes = b".") -> None:
+    """One BINBYTES of zeros between these bytes, of this size together. Most of the file takes no room on a disk."""
+    zeros = size - len(before) - len(behind) - 5
     with open(path, "wb") as file:
-        file.write(b"B" + (size - 6).to_bytes(4, "little"))
-        file.seek(size - 1)
-        file.write(b"." + behind)
+        file.write(before + b"B" + zeros.to_bytes(4, "little"))
+        file.seek(size - len(behind))
+        file.write(behind)
 
 
 def make(folder: Path, start: Path) -> None:
@@ -65,7 +66,9 @@ def make(folder: Path, start: Path) -> None:
         (folder / name).write_bytes(content)
     (folder / "unreadable.pickle").chmod(0)
     make_holes(folder / "large.pickle", LARGE)
-    make_holes(folder / "larger.pickle", LARGE, b"N")
+    make_holes(folder / "larger.pickle", LARGE + 1, behind=b".N")
+    # (as Python's picklers write bytes in protocol 3)
+    make_holes(folder / "large_dump.pickle", LARGE, b"\x80\x03", b"q\x00.")
     make_holes(folder / "largest.pickle", LARGEST)
     with open(folder / "too_large.pickle", "wb") as file:
         file.truncate(LARGEST + 1)

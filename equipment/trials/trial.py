@@ -34,10 +34,10 @@ class Trial:
 
 @dataclass(frozen=True)
 class Verdict:
-    """How a trial ended. `name` runs it again, if it can be run alone; `told` may say more, for example a count."""
+    """How a trial ended. `name` runs it again, if it can be run alone; `text` may say more, for example a count."""
 
     name: str
-    told: str
+    text: str
     why: str
     is_skipped: bool = False
     is_lacking: bool = False
@@ -80,8 +80,8 @@ class Group:
                 count += 1
                 yield judge(trial)
         if wanted is None and (self.closing is not None or count == 0):
-            told = self.closing() if self.closing is not None else self.name
-            yield Verdict(self.name, told, "" if count else "nothing was tried")
+            text = self.closing() if self.closing is not None else self.name
+            yield Verdict(self.name, text, "" if count else "nothing was tried")
 
 
 @dataclass
@@ -93,15 +93,15 @@ class Report:
     failed: int = 0
     failures: list[str] = field(default_factory=list)
 
-    def tell(self, verdict: Verdict) -> None:
+    def take(self, verdict: Verdict) -> None:
         if verdict.is_skipped and not (self.is_whole and verdict.is_lacking):
-            print(f"skip {verdict.told}: {verdict.why}", flush=True)
+            print(f"skip {verdict.text}: {verdict.why}", flush=True)
         elif not verdict.why:
-            print(f"ok   {verdict.told}", flush=True)
+            print(f"ok   {verdict.text}", flush=True)
             self.passed += 1
         else:
             again = f"\n    alone: ./test {shlex.quote(verdict.name)}" if verdict.name else ""
-            self.fail(f"FAIL {verdict.told}: {verdict.why}{again}", 1)
+            self.fail(f"FAIL {verdict.text}: {verdict.why}{again}", 1)
 
     def fail(self, text: str, count: int) -> None:
         """Counts failures, and keeps what is printed of them for the end."""

@@ -5,24 +5,105 @@ FOLDER is where the package is. It comes behind the standard library, so that it
 
 import contextlib
 import os
+import re
+import stat
 import sys
+from typing import Any, Callable, List, Optional, Tuple
 
-__all__ = ['main']
+__all__ = ['main', 'on_drives']
 
-
-def _plain(path: str, drive: str) -> str:
-    """A path as the module has it. Each drive of Windows is a folder of its own, and the module has that of the current folder; elsewhere there is
-    one root. Raises ValueError for a path on another drive or on another machine."""
-    if os.name != 'nt':
-        return path
-    plain = path.replace('\\', '/')
-    has_drive = plain[1:3] == ':/'
-    if plain[:2] == '//' or has_drive and plain[:2].lower() != drive.lower():
-        raise ValueError(f'{path} is not on the drive of the current folder ({drive}), and no other is read')
-    return plain[2:] if has_drive else plain
+# --- Paths ---
 
 
-def main(folder: str, file: str, words: 'list[str]') -> int:
+def _placed(word: str, current: str) -> str:
+    """A path of Windows as the module has it, in whose root the drives are folders (`/C:`). A word that is no path stays as it is. Raises
+    ValueError for what is on no drive."""
+    plain = word.replace('\\', '/')
+    drive, path = (plain[:2].upper(), plain[2:]) if re.match('[A-Za-z]:', plain) else ('', plain)
+    is_whole = path.startswith('/')
+    if not is_whole and drive not in ('', current) or not drive and path.startswith('//'):
+        raise ValueError(f'{word} does not begin at the root of a drive')
+    return f'/{drive or current}{path}' if is_whole else path
+
+
+def on_drives(words: List[str], folder: str) -> Tuple[List[str], str, List[str]]:
+    """What the module is given on Windows for words in a folder: words, that folder, and the drives of all of them."""
+    current = folder[:2].upper()
+    marks = ['--save=' if word.startswith('--save=') else '@' if last == '--skip' and word.startswith('@') else ''
+             for last, word in zip(['', *words], words)]
+    home, *paths = [_placed(path, current) for path in (folder, *(word[len(mark):] for mark, word in zip(marks, words)))]
+    drives = dict.fromkeys(path[1:3] for path in (home, *paths) if path.startswith('/'))
+    return [mark + path for mark, path in zip(marks, paths)], home, list(drives)
+
+
+def _give(wasi: Any, words: List[str]) -> None:
+    """Gives the module its words, the folder that paths start from, the folders of the system that it may open, and the standard streams."""
+    home = os.getcwd()
+    roots = {'/': '/'}
+    if os.name == 'nt':
+        words, home, drives = on_drives(words, home)
+        roots = {f'/{drive}': f'{drive}\\' for drive in drives}
+    wasi.argv = ['picklestep', *words]
+    wasi.env = [('PWD', home)]
+    for name, root in roots.items():
+        if os.path.isdir(root):
+            wasi.preopen_dir(root, name)
+    wasi.inherit_stdin()
+    wasi.inherit_stdout()
+    wasi.inherit_stderr()
+
+
+# --- Modes ---
+
+
+def _saved_to(words: List[str]) -> str:
+    """The file that the words save to, where they save."""
+    for at, word in enumerate(words):
+        if word == '--save':
+            return ''.join(words[at + 1:at + 2])
+        if word.startswith('--save='):
+            return word[len('--save='):]
+    return ''
+
+
+def _settle(file: int, before: Optional[os.stat_result], mask: int) -> None:
+    """Gives a new file the owner and the mode of the one whose place it took (a change of owner may clear bits of the mode), or the mode that
+    the mask leaves. A file that is no other than before was not saved."""
+    after = os.fstat(file)
+    if not stat.S_ISREG(after.st_mode) or before is not None and os.path.samestat(before, after):
+        return
+    if before is not None:
+        for owner, group in ((-1, before.st_gid), (before.st_uid, -1)):
+            with contextlib.suppress(OSError):
+                os.fchown(file, owner, group)
+    os.fchmod(file, 0o666 & ~mask if before is None else stat.S_IMODE(before.st_mode))
+
+
+def _keep_mode(out: str, start: Callable[[], int]) -> int:
+    """Runs the module, which makes a file where it saves and no other. WASI has no modes: until the file has its own, nobody else may read it."""
+    if not out or os.name == 'nt':
+        return start()
+    mask = os.umask(0o077)
+    path = os.path.realpath(out)
+    before = os.stat(path) if os.path.exists(path) else None
+    status = start()
+    if before is not None and not stat.S_ISREG(before.st_mode):
+        return status
+    try:
+        file = os.open(path, os.O_RDONLY | os.O_NOFOLLOW | os.O_NONBLOCK)
+    except OSError:  # (nothing was saved)
+        return status
+    try:
+        _settle(file, before, mask)
+    finally:
+        os.close(file)
+    return status
+
+
+# --- The start ---
+
+
+def main(folder: str, file: str, words: List[str]) -> int:
     """Runs the module with these words, and answers its status."""
     try:
         return _run(folder, file, words)
@@ -31,7 +112,7 @@ def main(folder: str, file: str, words: 'list[str]') -> int:
         return 2
 
 
-def _run(folder: str, file: str, words: 'list[str]') -> int:
+def _run(folder: str, file: str, words: List[str]) -> int:
     sys.path.append(folder)
     import wasmtime
     config = wasmtime.Config()
@@ -39,14 +120,7 @@ def _run(folder: str, file: str, words: 'list[str]') -> int:
         config.cache = True  # (to compile the module takes longer than most runs)
     engine = wasmtime.Engine(config)
     wasi = wasmtime.WasiConfig()
-    here = os.getcwd()
-    drive = here[:2]
-    wasi.argv = ['picklestep', *(_plain(word, drive) for word in words)]
-    wasi.env = [('PWD', _plain(here, drive))]
-    wasi.preopen_dir(f'{drive}\\' if os.name == 'nt' else '/', '/')
-    wasi.inherit_stdin()
-    wasi.inherit_stdout()
-    wasi.inherit_stderr()
+    _give(wasi, words)
     store = wasmtime.Store(engine)
     store.set_wasi(wasi)
     most = os.environ.get('PICKLESTEP_MEMORY')
@@ -62,11 +136,15 @@ def _run(folder: str, file: str, words: 'list[str]') -> int:
             raise
         print('picklestep: out of memory', file=sys.stderr)  # (the module's own memory is above the limit)
         return 2
-    try:
-        instance.exports(store)['_start'](store)
-    except wasmtime.ExitTrap as end:
-        return int(end.code)
-    return 0
+
+    def start() -> int:
+        try:
+            instance.exports(store)['_start'](store)
+        except wasmtime.ExitTrap as end:
+            return int(end.code)
+        return 0
+
+    return _keep_mode(_saved_to(words), start)
 
 
 if __name__ == '__main__':

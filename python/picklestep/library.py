@@ -34,7 +34,7 @@ _DONE, _NO_ROOM = 0, 3
 
 
 class _Written(ctypes.Structure):
-    """What is told of a text."""
+    """The size and the status of a text."""
 
     _fields_ = [('size', ctypes.c_size_t), ('status', ctypes.c_uint8)]
 

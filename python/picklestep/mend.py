@@ -24,7 +24,7 @@ def main(arguments: List[str]) -> int:
     parser.add_argument('file', metavar='FILE', help='the pickle, which stays as it is')
     parser.add_argument('out', metavar='OUT', nargs='?', help='write the result to this file, which cannot be FILE')
     parser.add_argument('--many', action='store_true', help='FILE holds several pickles one after another')
-    parser.add_argument('--save', metavar='OUT', help='the same')
+    parser.add_argument('--save', metavar='OUT', help='the same as OUT')
     options = parser.parse_args(arguments)
     if options.out is not None and options.save is not None:
         parser.error('OUT is given twice')

@@ -151,9 +151,9 @@ def _closed(content: bytes, many: bool, steps: List[str]) -> bytes:
     with Input(content) as given, OwnFile() as made:
         script = ''.join(f'{line}\n' for line in (*closing.script, 'run'))
         words = ['debug', given.path, *modes(many), '--save', made.path]
-        told = run_program(words, [*given.files, *made.files], script.encode('ascii')).decode('ascii').splitlines()
-        if any(refused_in(line) is not None for line in told) or ran_of(told[-1]).why != 'end':
-            raise PicklestepError(f'what was under way cannot be closed: {told[-1]}')
+        answers = run_program(words, [*given.files, *made.files], script.encode('ascii')).decode('ascii').splitlines()
+        if any(refused_in(line) is not None for line in answers) or ran_of(answers[-1]).why != 'end':
+            raise PicklestepError(f'what was under way cannot be closed: {answers[-1]}')
         return made.content()
 
 

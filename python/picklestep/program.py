@@ -53,26 +53,19 @@ _OF_PROGRAM = 1 << 20
 _WORDS = 'out of memory'
 
 
-# What lets glibc ask for large pages of memory: with small ones their first use takes half the time of a long way. Other systems pass it over.
-_TUNABLES = 'GLIBC_TUNABLES'
-_LARGE_PAGES = 'glibc.malloc.hugetlb=1'
-
 # What names certificates for Node. It would read them at its start, which takes longer than all the rest of that; the module asks no server.
 _CERTIFICATES = 'NODE_EXTRA_CA_CERTS'
 
 
-def _command(words: Sequence[str], memory: Optional[int], is_large: bool = False) -> Tuple[List[str], Optional[Dict[str, str]]]:
-    """The command that runs the program on these words, with at most this many bytes of memory, or in large pages, and its environment if that
-    is another."""
+def _command(words: Sequence[str], memory: Optional[int]) -> Tuple[List[str], Optional[Dict[str, str]]]:
+    """The command that runs the program on these words, with at most this many bytes of memory, and its environment if that is another."""
     program = find_program()
     command = [*program_words(program), *words]
     if memory is not None and memory <= _OF_PROGRAM:
         raise OutOfMemory(_WORDS)
     if is_module(program):
         return command, {**_environment_of_node(), **({} if memory is None else {'PICKLESTEP_MEMORY': str(memory)})}
-    if memory is None:
-        return command, {_TUNABLES: _LARGE_PAGES, **os.environ} if is_large else None
-    return [*_LIMITED, str(max(1, memory // 1024)), *command], None
+    return command if memory is None else [*_LIMITED, str(max(1, memory // 1024)), *command], None
 
 
 def _environment_of_node() -> Dict[str, str]:
@@ -87,9 +80,9 @@ class Process:
     """A running program, whose standard streams are pipes. It ends when the interpreter does."""
 
     def __init__(self, words: Sequence[str], files: Sequence[int] = (), memory: Optional[int] = None, stdin: bool = False,
-                 command: Optional[List[str]] = None, is_large: bool = False) -> None:
-        """`command` starts a script of Node instead of the program on these words. `is_large`: much memory will be used."""
-        command, environment = _command(words, memory, is_large) if command is None else (command, _environment_of_node())
+                 command: Optional[List[str]] = None) -> None:
+        """`command` starts a script of Node instead of the program on these words."""
+        command, environment = _command(words, memory) if command is None else (command, _environment_of_node())
         self._is_limited = memory is not None
         self._is_open = False
         self._timed_out = False
@@ -143,7 +136,7 @@ class Process:
     def communicate(self, script: Optional[bytes], timeout: Optional[float]) -> bytes:
         """Gives the program its whole input, and answers its whole output. The program has ended then, also after an exception."""
         try:
-            with _counted_where_untold():
+            with _counted_by_the_clock():
                 output, errors = self._popen.communicate(script, timeout)
         except subprocess.TimeoutExpired:
             raise TimedOut(f'no answer within {timeout} seconds') from None
@@ -194,7 +187,7 @@ class Process:
         try:
             if timer is not None:
                 timer.start()
-            with _counted_where_untold():
+            with _counted_by_the_clock():
                 yield
         finally:
             if timer is not None:
@@ -231,25 +224,25 @@ class Process:
 
 
 class _Counted:
-    """The seconds of other processes that the system does not tell."""
+    """The seconds of other processes that the system does not count."""
 
     seconds = 0.0
 
 
 def count_seconds(seconds: float) -> None:
-    """Counts processor time of a process that goes on. (The system tells it after its end.)"""
+    """Counts processor time of a process that goes on. (The system counts it after its end.)"""
     _Counted.seconds += seconds
 
 
 def count_ended(seconds: float) -> None:
-    """Counts it no more, where the system tells it now."""
+    """Counts it no more, where the system counts it now."""
     if resource is not None:
         _Counted.seconds -= seconds
 
 
 @contextlib.contextmanager
-def _counted_where_untold() -> Iterator[None]:
-    """Within it a program is waited for. Where the system does not tell what it took (Windows), the time by the clock is taken for that."""
+def _counted_by_the_clock() -> Iterator[None]:
+    """Within it a program is waited for. Where the system does not count what it took (Windows), the time by the clock is taken for that."""
     begin = time.monotonic()
     try:
         yield

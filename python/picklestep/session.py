@@ -24,7 +24,6 @@ __all__ = ['SHIFTS', 'Session']
 
 _Bytes = bytes  # (a session has a method of this name)
 _SHOWN = 1000
-_LARGE = 1 << 20
 
 
 # The edits, and how many opcodes more there are after each.
@@ -168,7 +167,7 @@ class Session(contextlib.AbstractContextManager['Session']):
         self._words = ['debug', self._input.path, *modes(many, unframed)]
         try:
             talk = _Talk(Process([*self._words, *(['--window', str(index(window))] if window is not None else [])], self._input.files,
-                                 memory, stdin=True, is_large=self._input.size() >= _LARGE), timeout)
+                                 memory, stdin=True), timeout)
         except BaseException:
             self._input.close()
             raise
@@ -434,7 +433,7 @@ class Session(contextlib.AbstractContextManager['Session']):
             return listing_of(asked, self._many, self._unframed)
 
     def calls(self, *, first: bool = False, memo_kept: bool = False, full: bool = False) -> Calls:
-        """What the pickle with the edits that are not undone imports and calls, as `picklestep.calls` tells it; of a pickle
+        """What the pickle with the edits that are not undone imports and calls, as `picklestep.calls` answers it; of a pickle
         that is read unframed without its FRAMEs.
 
         >>> with Session(b'.') as session:

@@ -186,8 +186,8 @@ class _Asked:
             return _last_offset(blocks)
         except TooDeep:
             given = self._given()
-            told = run_program(['debug', given.path, *words], given.files, b'run\nwhere\n', self._left(), self._memory)
-            return where_of(told.decode('ascii').splitlines()[-1]).offset
+            answers = run_program(['debug', given.path, *words], given.files, b'run\nwhere\n', self._left(), self._memory)
+            return where_of(answers.decode('ascii').splitlines()[-1]).offset
 
     def _left(self) -> Optional[float]:
         """The time that is left, in seconds."""

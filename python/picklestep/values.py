@@ -26,7 +26,7 @@ class Unreadable(ValueError):
 
 
 class Unread(bytes):
-    """The bytes of a text or a number that no loader reads, or only one that is told an encoding. `kind` is that of its object."""
+    """The bytes of a text or a number that no loader reads, or only one that is given an encoding. `kind` is that of its object."""
 
     def __new__(cls, data: bytes, kind: str) -> Unread:
         made = super().__new__(cls, data)

@@ -60,7 +60,7 @@ class StoreCase(ScanCase):
         self.assertEqual((done.returncode, done.stderr[-2000:] if done.returncode else ''), (0, ''))
 
     def told(self, *words: str, python: str = sys.executable, **variables: str) -> List[str]:
-        """The lines of `scan --brief` that ask for a closer look. No traceback, and no password, is in what it writes."""
+        """The lines of `scan --brief` that are marked. No traceback, and no password, is in what it writes."""
         run = subprocess.run([python, '-m', 'picklestep', 'scan', '--brief', '--allow', 'numpy', *words], cwd=self.folder, capture_output=True,
                              text=True, errors='surrogateescape', timeout=600, env={**environment(), **variables})
         self.assertNotIn('Traceback', run.stderr)

@@ -1,13 +1,17 @@
 """The package where the system has less than Linux: it can be imported, and asks the program."""
 
 import importlib.util
+import json
+import ntpath
 import os
+import shlex
 import shutil
 import subprocess
 import sys
 import tempfile
 import unittest
 from pathlib import Path
+from typing import Any
 from unittest import mock
 
 from picklestep import in_wasmtime, place
@@ -24,15 +28,39 @@ print(picklestep.calls(hostile, timeout=60).calls, picklestep.objects(b'N.'), pi
 with picklestep.Session(b'N.') as session:
     session.insert(0, 'NONE')
     print(session.bytes(), session.run().why)
-try:
-    picklestep.calls(b'N' * 100_000 + b'.', memory=1 << 20)
-except picklestep.OutOfMemory as error:
-    print(error)
+# The package starts nothing, the module does not start, and it answers by itself: what it has room for, and what not.
+small, large = b'N' * 100_000 + b'.', b'](' + b'\\x8c\\x03abc\\x94' * 1_000_000 + b'e.'
+for data, memory in ((small, 1 << 20), (small, (1 << 20) + 1), (small, 16 << 20), (large, 16 << 20)):
+    try:
+        print(picklestep.objects(data, memory=memory))
+    except picklestep.OutOfMemory as error:
+        print(error, error.status)
 """
 SAID = """\
 1|<Objects: 1 objects, stopped>|(b'posix', b'system')
 b'NN.' end
-out of memory
+out of memory None
+out of memory 2
+<Objects: 100000 objects, stopped>
+out of memory 2
+"""
+SAVE = """\
+import os, picklestep, sys
+os.umask(0o002)
+for name, mode in (('private', 0o600), ('of a group', 0o640), ('new', None)):
+    path = os.path.join(sys.argv[1], name)
+    if mode is not None:
+        os.close(os.open(path, os.O_CREAT, mode))
+    with picklestep.Session(b'N.') as session:
+        session.insert(0, 'NONE')
+        session.save(path)
+    with open(path, 'rb') as file:
+        print(f'{name}: {os.stat(path).st_mode & 0o7777:o} {file.read()}')
+"""
+SAVED = """\
+private: 600 b'NN.'
+of a group: 640 b'NN.'
+new: 664 b'NN.'
 """
 
 
@@ -74,13 +102,131 @@ class OtherSystems(unittest.TestCase):
     def test_macos_has_less(self) -> None:
         self.assertEqual(self.lesser('macos'), SAID)
 
-    def test_wasmtime_runs_the_module(self) -> None:
-        """By the package itself where it is installed, else by what stands in for its interface."""
+    def over_wasmtime(self, *words: str) -> str:
+        """What it says where wasmtime starts the module: the package itself where it is installed, else what stands in for its interface."""
         has = importlib.util.find_spec('wasmtime')
         folder = str(TESTS / 'lesser/stand_in') if has is None or has.origin is None else str(Path(has.origin).parent.parent)
-        found = asked('-c', ASK, PYTHONPATH=f'{PACKAGE}{os.pathsep}{folder}', PATH='/nowhere', PICKLESTEP_PROGRAM=str(MODULE),
-                      WASMTIME_STAND_IN=str(shutil.which('node')))
-        self.assertEqual(found, SAID)
+        return asked(*words, PYTHONPATH=f'{PACKAGE}{os.pathsep}{folder}', PATH='/nowhere', PICKLESTEP_PROGRAM=str(MODULE),
+                     WASMTIME_STAND_IN=str(shutil.which('node')))
+
+    def test_wasmtime_runs_the_module(self) -> None:
+        self.assertEqual(self.over_wasmtime('-c', ASK), SAID)
+
+    def test_a_saved_file_keeps_its_mode(self) -> None:
+        with tempfile.TemporaryDirectory() as folder:
+            self.assertEqual(self.over_wasmtime('-c', SAVE, folder), SAVED)
+        with tempfile.TemporaryDirectory() as folder:
+            self.assertEqual(asked('-c', SAVE, folder, PATH=os.environ['PATH'], PICKLESTEP_PROGRAM=str(MODULE)), SAVED)
+
+    def test_an_older_node_is_told(self) -> None:
+        with tempfile.TemporaryDirectory() as folder:
+            Path(folder, 'older.cjs').write_text("Object.defineProperty(process, 'versions', { value: { ...process.versions, node: '18.20.4' } });\n")
+            node = Path(folder, 'node')
+            node.write_text(f'#!/bin/sh\nexec {shlex.quote(str(shutil.which("node")))} --require {shlex.quote(folder)}/older.cjs "$@"\n')
+            node.chmod(0o755)
+            said = 'the program is a module, which runs with Node 20 or later on the path (https://nodejs.org), and this is Node 18.20.4'
+            done = subprocess.run([node, MODULE, 'list', 'none.pickle'], capture_output=True, text=True, check=False, timeout=120)
+            self.assertEqual((done.returncode, done.stdout, done.stderr), (2, '', f'picklestep: {said}\n'))
+            ask = 'import picklestep\ntry:\n    picklestep.calls(b"N.", timeout=60)\nexcept picklestep.ProgramError as error:\n    print(error)'
+            self.assertEqual(asked('-c', ask, PATH=folder, PICKLESTEP_PROGRAM=str(MODULE)), f'{said}\n')
+
+
+# A current folder of Windows, words, and what the module is given for them.
+HERE = 'C:\\Users\\me'
+WORDS = (
+    (('list', '--many', 'a\\b.pickle'), ('list', '--many', 'a/b.pickle'), 'C:'),
+    (('list', 'C:\\a\\b c.pickle'), ('list', '/C:/a/b c.pickle'), 'C:'),
+    (('list', 'c:near.pickle'), ('list', 'near.pickle'), 'C:'),
+    (('form', '\\a\\b.pickle'), ('form', '/C:/a/b.pickle'), 'C:'),
+    (('objects', 'd:/b.pickle'), ('objects', '/D:/b.pickle'), 'C: D:'),
+    (('debug', 'D:\\b.pickle', '--window', '3', '--save', 'E:\\out'), ('debug', '/D:/b.pickle', '--window', '3', '--save', '/E:/out'), 'C: D: E:'),
+    (('debug', '--save=D:\\out', '..\\b.pickle'), ('debug', '--save=/D:/out', '../b.pickle'), 'C: D:'),
+    (('calls', 'b.pickle', '--skip', '3:2', '--skip', '@D:\\a\\holes'), ('calls', 'b.pickle', '--skip', '3:2', '--skip', '@/D:/a/holes'), 'C: D:'),
+    (('calls', '@D\\b.pickle', '--skip', '@holes'), ('calls', '@D/b.pickle', '--skip', '@holes'), 'C:'),
+)
+ON_NO_DRIVE = ('\\\\server\\share\\a.pickle', '//server/share/a.pickle', '\\\\?\\C:\\a.pickle', 'D:a.pickle')
+IN_NODE = """\
+import { onDrives } from 'MODULE?parts';
+const said = JSON.parse(process.argv[1]).map(([words, folder]) => {
+    try {
+        const { args, home, drives } = onDrives(words, folder);
+        return [args, home, drives];
+    } catch (error) {
+        return error.message;
+    }
+});
+console.log(JSON.stringify(said));
+"""
+# The module in Node, with a folder for each drive that is there.
+DRIVES = """\
+import { existsSync, readFileSync } from 'node:fs';
+import { WASI } from 'node:wasi';
+import { onDrives } from 'MODULE?parts';
+const [folder, here, ...words] = process.argv.slice(1);
+const { args, home, drives } = onDrives(words, here);
+const roots = drives.map((drive) => [`/${drive}`, `${folder}/${drive[0]}`]).filter(([, root]) => existsSync(root));
+const preopens = Object.fromEntries(roots);
+const wasi = new WASI({ version: 'preview1', args: ['picklestep', ...args], env: { PWD: home }, preopens, returnOnExit: true });
+const module = new WebAssembly.Module(readFileSync(new URL('picklestep.wasm', 'MODULE')));
+process.exitCode = wasi.start(new WebAssembly.Instance(module, wasi.getImportObject()));
+"""
+
+
+class Drives(unittest.TestCase):
+    """The paths of Windows, as the module is given them."""
+
+    def in_node(self, script: str, *words: str, given: str = '') -> str:
+        """What a script says in Node, which has the parts of the module's start."""
+        if MODULE is None or shutil.which('node') is None:
+            self.skipTest('the module or Node is not there')
+        flags = ('--no-warnings', '--no-turbo-fast-api-calls', '--input-type=module')
+        command = ['node', *flags, '-e', script.replace('MODULE', MODULE.as_uri()), *words]
+        done = subprocess.run(command, input=given, capture_output=True, text=True, check=False, timeout=120)
+        return done.stdout + done.stderr
+
+    def over_node(self, *asked_of: 'tuple[tuple[str, ...], str]') -> Any:
+        return json.loads(self.in_node(IN_NODE, json.dumps(asked_of)))
+
+    def test_each_is_on_its_drive(self) -> None:
+        wanted = [[list(args), '/C:/Users/me', drives.split()] for _, args, drives in WORDS]
+        self.assertEqual([list(in_wasmtime.on_drives(list(words), HERE)) for words, *_ in WORDS], wanted)
+        self.assertEqual(self.over_node(*((words, HERE) for words, *_ in WORDS)), wanted)
+
+    def test_each_is_the_file_that_windows_takes(self) -> None:
+        """(By Python's own rules for its paths.)"""
+        def whole(path: str) -> str:
+            return ntpath.normcase(ntpath.normpath(ntpath.join(HERE, path)))
+        for words, args, _ in WORDS:
+            for word, placed in zip(words, args):
+                for before in ('@/', '--save=/'):
+                    if placed.startswith(before):
+                        word, placed = word[len(before) - 1:], placed[len(before) - 1:]
+                self.assertEqual(whole(placed[1:] if placed.startswith('/') else placed), whole(word))
+
+    def test_what_is_on_no_drive_is_refused(self) -> None:
+        """Also where the current folder is there."""
+        asked_of = [(('list', path), HERE) for path in ON_NO_DRIVE] + [(('list', 'a.pickle'), path) for path in ON_NO_DRIVE[:-1]]
+        said = [f'{path} does not begin at the root of a drive' for path in (*ON_NO_DRIVE, *ON_NO_DRIVE[:-1])]
+        self.assertEqual(self.over_node(*asked_of), said)
+        for (words, folder), wanted in zip(asked_of, said):
+            with self.assertRaises(ValueError) as caught:
+                in_wasmtime.on_drives(list(words), folder)
+            self.assertEqual(str(caught.exception), wanted)
+
+    def test_the_module_finds_them(self) -> None:
+        """A pickle and holes on another drive than the current folder, and a file that is saved to a third."""
+        with tempfile.TemporaryDirectory() as folder:
+            for name in ('C/here', 'D/in', 'E'):
+                Path(folder, name).mkdir(parents=True)
+            Path(folder, 'D/in/a.pickle').write_bytes(b'NNNN.')
+            Path(folder, 'D/holes').write_text('1:2\n')
+            Path(folder, 'C/here/near.pickle').write_bytes(b'N.')
+            here = (folder, 'C:\\here')
+            self.assertEqual(self.in_node(DRIVES, *here, 'objects', 'near.pickle'), '#0 none\nresult #0\n')
+            self.assertEqual(self.in_node(DRIVES, *here, 'calls', 'D:\\in\\a.pickle', '--skip', '@D:\\holes'), '0 imports, 0 calls\n')
+            self.assertEqual(self.in_node(DRIVES, *here, 'debug', '\\here\\near.pickle', '--save', 'E:\\out', given='insert 0 NONE\n'), 'edited 0\n')
+            self.assertEqual(Path(folder, 'E/out').read_bytes(), b'NN.')
+            self.assertEqual(self.in_node(DRIVES, *here, 'list', 'F:\\a.pickle'), 'picklestep: cannot read\n')
 
 
 class ALaterPython(unittest.TestCase):
@@ -97,14 +243,6 @@ class InWasmtime(unittest.TestCase):
                               capture_output=True, text=True, check=False, timeout=120)
         self.assertEqual((done.returncode, done.stdout), (2, ''))
         self.assertRegex(done.stderr, '^picklestep: .')
-
-    def test_another_drive_is_not_taken_for_the_current_one(self) -> None:
-        with mock.patch('os.name', 'nt'):
-            for path, wanted in (('C:\\a\\b.pkl', '/a/b.pkl'), ('c:/b.pkl', '/b.pkl'), ('a\\b.pkl', 'a/b.pkl'), ('--many', '--many')):
-                self.assertEqual(in_wasmtime._plain(path, 'C:'), wanted)
-            for path in ('D:\\a.pkl', 'd:/a.pkl', '\\\\server\\share\\a.pkl', '//server/share/a.pkl'):
-                with self.assertRaisesRegex(ValueError, 'not on the drive of the current folder'):
-                    in_wasmtime._plain(path, 'C:')
 
 
 class WhichProgram(unittest.TestCase):

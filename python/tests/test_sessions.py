@@ -7,13 +7,11 @@ import pickletools
 import random
 import struct
 import subprocess
-import sys
 import tempfile
 import threading
 import unittest
 from pathlib import Path
 from typing import Callable, Dict, List, Tuple
-from unittest import mock
 
 import picklestep
 from picklestep import Change, End, Item, Mark, Object, Ran, Ref, Refused, Session, Shown, Where
@@ -111,18 +109,6 @@ class Words(unittest.TestCase):
     def test_a_window(self) -> None:
         with Session(b'N0' * 50 + b'N.', window=2) as session:
             self.assertEqual([session.goto(60), *(session.back() for _ in range(60))], list(range(60, -1, -1)))
-
-    @unittest.skipUnless(sys.platform == 'linux', 'it is where Linux shows it')
-    def test_large_pages(self) -> None:
-        """A session of a large pickle asks for large pages, unless whoever calls it has said otherwise; the answers are the same."""
-        data = b'N0' * 600_000 + b'N.'
-        for own, wanted in ((None, b'GLIBC_TUNABLES=glibc.malloc.hugetlb=1'), ('glibc.malloc.hugetlb=0', b'GLIBC_TUNABLES=glibc.malloc.hugetlb=0')):
-            with mock.patch.dict(os.environ, {'GLIBC_TUNABLES': own} if own else {}), Session(data) as session, Session(LIST) as small:
-                def environment(of: Session) -> List[bytes]:
-                    return Path(f'/proc/{of._talk._process._popen.pid}/environ').read_bytes().split(b'\0')
-                self.assertIn(wanted, environment(session))
-                self.assertEqual(wanted in environment(small), own is not None)
-                self.assertEqual((session.goto(1_000_001), session.goto(3), session.stack()), (1_000_001, 3, (Ref(1),)))
 
     def test_the_programs_own_answers(self) -> None:
         with Session(LIST) as session:

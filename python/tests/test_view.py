@@ -190,11 +190,11 @@ class Documents(unittest.TestCase):
 
 class Opening(unittest.TestCase):
     def test_how_far_it_is(self) -> None:
-        told: List[str] = []
-        document = Document(b'(' + b'K\x01' * 300_000 + b'l.', 'a pickle', told=told.append)
+        texts: List[str] = []
+        document = Document(b'(' + b'K\x01' * 300_000 + b'l.', 'a pickle', progress=texts.append)
         document.close()
-        self.assertIn('list: 300,004 lines', told)
-        self.assertEqual([word for word in ('list', 'objects') if any(text.startswith(f'{word}: ') for text in told)], ['list', 'objects'])
+        self.assertIn('list: 300,004 lines', texts)
+        self.assertEqual([word for word in ('list', 'objects') if any(text.startswith(f'{word}: ') for text in texts)], ['list', 'objects'])
 
 
 class Cutting(unittest.TestCase):

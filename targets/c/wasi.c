@@ -208,7 +208,8 @@ i64 lseek(i32 fd, i64 offset, i32 whence) {
     return status(wasi_fd_seek(fd, offset, whence, AT(&at))) ? -1 : (i64)at;
 }
 
-// WASI has no modes, owners or locks: a change of mode is taken for done, and the other two are refused.
+// WASI has no modes, owners or locks: a change of mode is taken for done, and the other two are refused. (What starts the module gives a saved
+// file its mode and owner.)
 i32 fchmod(i32 fd, u32 mode) { return 0; }
 i32 fchown(i32 fd, u32 owner, u32 group) {
     error = 95;

@@ -4,7 +4,7 @@ use Rattle.std.specs.Prelude.{Bool, IsTrue, false, IfSome, IfErr, IsErrAnd, opti
 use Rattle.std.specs.Str.Parse.{IsNumeral, digits_value, without_leading_plus}
 use Rattle.std.specs.Option.{unwrap_or}
 use Rattle.std.proofs.lemmas.Slice.Eq.{bytes_eq-Decides}
-use Rattle.clap.specs.Words.{App, HasMatchesOf, Row, Text, TriesOne, all_of, first_of, is_simple, kind_of, subcommand_of, subcommand_rows_of, takes}
+use Rattle.clap.specs.Words.{App, HasMatchesOf, Row, Text, TriesOne, all_of, fault_of, first_of, is_simple, is_simple_and_free, kind_of, subcommand_of, subcommand_rows_of, takes}
 use Rattle.clap.specs.declared.parser.matches.ArgMatches.{ArgMatches}
 use Rattle.pickle_holes.specs.declared.hole.Hole.{Hole}
 use Rattle.pickle_holes.specs.Text.{holes_of}
@@ -176,6 +176,10 @@ no_reading matches rows p none t = let has = fits_has rows (t.fits rows p) in no
 -- the program's command line is one of those whose matches clap's words say
 pub matched : (a : App) (words : List Text) (m : ArgMatches) → a ≡ program → HasMatchesOf a words m → subcommand_rows_of m ≡ subcommand_of program words
 matched a words m e has = (has (ap is_simple e)).1 ∙ ap (λ (x : App). subcommand_of x words) e
+
+-- and clap finds no fault in words whose matches it answers
+pub faultless : (a : App) (words : List Text) → a ≡ program → (is_simple_and_free a ≡ true → fault_of a words ≡ []) → fault_of program words ≡ []
+faultless a words e none = sym (ap (λ (x : App). fault_of x words) e) ∙ none (ap is_simple_and_free e)
 
 -- ---- a refusal
 

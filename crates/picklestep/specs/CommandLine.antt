@@ -102,15 +102,19 @@ IsWindow (Some text) (Some n) = IsCount text n
 IsWindow None (Some n) = ⊥
 IsWindow (Some text) None = ⊥
 
--- the subcommand of this name was used, with this FILE, and with `--many` and with `--unframed` or not
-pub record IsUsed (name : Text) (matches : Matches) (input : GivenFile) : Type 0 where
-  pub rows : List Row
-  pub used : matches ≡ Some (name, rows)
+-- with this FILE, and with `--many` and with `--unframed` or not
+pub record HasInput (rows : List Row) (input : GivenFile) : Type 0 where
   pub file_is : first_of (codes "FILE") rows ≡ Some (string_bytes input.file)
   pub many_is : IsTrue input.many → first_of (codes "many") rows ≡ Some (codes "true")
   pub one_is : first_of (codes "many") rows ≡ Some (codes "true") → IsTrue input.many
   pub unframed_is : IsTrue input.unframed → first_of (codes "unframed") rows ≡ Some (codes "true")
   pub framed_is : first_of (codes "unframed") rows ≡ Some (codes "true") → IsTrue input.unframed
+
+-- the subcommand of this name was used on this input
+pub record IsUsed (name : Text) (matches : Matches) (input : GivenFile) : Type 0 where
+  pub rows : List Row
+  pub used : matches ≡ Some (name, rows)
+  pub input_is : HasInput rows input
 
 -- the pickles that are read: all, the first, or all with the memo kept
 abbrev pub GivesReading : Bool → Option Text → Pickles → Type 0

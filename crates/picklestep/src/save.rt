@@ -92,7 +92,8 @@ fn target_of(rt: &HostRuntime, path: &str) -> Result<PathBuf, Stop>
     ensures { IfErr result (λ e. IsTrue (is_loss e)) }
 {
     let mut target = PathBuf::from_str(rt.alloc(), path)?;
-    for _ in 0..MOST_LINKS {
+    // (the last look finds that the target is no link)
+    for _ in 0..=MOST_LINKS {
         match fs::read_link(rt, &target) {
             Ok(next) => {
                 target.pop();

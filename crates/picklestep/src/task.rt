@@ -1,10 +1,10 @@
 //! What the words of the command line ask for.
 
-ghost use Rattle.std.specs.Prelude.{◌≡◌, ◌≤◌, IsTrue, ℕ, Option, Some, None, Ok, IfOk, IfErr, IfSome, map, option_map, true, codes};
+ghost use Rattle.std.specs.Prelude.{◌≡◌, ◌≤◌, IsTrue, ℕ, [], Option, Some, None, Ok, IfOk, IfErr, IfSome, map, option_map, true, codes};
 ghost use Rattle.std.specs.String.{string_bytes};
-ghost use Rattle.clap.specs.Words.{found_of, first_of, one_of, rows_of, subcommand_of, subcommand_rows_of, takes};
+ghost use Rattle.clap.specs.Words.{found_of, first_of, one_of, rows_of, fault_of, subcommand_of, subcommand_rows_of, takes};
 ghost use Rattle.pickle_holes.specs.Text.{holes_of};
-ghost use Rattle.picklestep.specs.CommandLine.{program, most_records, GivesReading, HasReading, HasDetail, HasCallsOptions, skips_of, HasOptions, IsWindow, IsNamed, FitsOptions, NamesTask, IsBounded, IsMemory};
+ghost use Rattle.picklestep.specs.CommandLine.{program, most_records, GivesReading, HasReading, HasInput, HasDetail, HasCallsOptions, skips_of, HasOptions, IsWindow, IsNamed, FitsOptions, NamesTask, IsBounded, IsMemory};
 
 use crate::command_line::{MOST_RECORDS, command_line};
 use clap::error::ErrorKind;
@@ -240,6 +240,24 @@ fn why_none(alloc: Global, matches: &ArgMatches<'_>) -> Result<String, AllocErro
     }
 }
 
+/// The file that a subcommand is done on, and how it is read; no answer where there is none.
+fn input_of(alloc: Global, found: &ArgMatches<'_>) -> Result<Option<GivenFile>, AllocError>
+    ensures some { IfOk result (λ r. IfSome r (HasInput (rows_of (found_of found.now)))) }
+    ensures none { result ≡ Ok None → None ≡ first_of (codes "FILE") (rows_of (found_of found.now)) }
+{
+    let Some(file) = found.get_str("FILE") else {
+        return Ok(None);
+    };
+    let many = is_given(found, "many");
+    let unframed = is_given(found, "unframed");
+    let file = String::from_str(alloc, file)?;
+    Ok(Some(GivenFile {
+        file,
+        many,
+        unframed,
+    }))
+}
+
 /// The task that matches name, if they name one.
 fn named(alloc: Global, matches: &ArgMatches<'_>) -> Result<Option<Task>, AllocError>
     ensures some { IfOk result (λ r. IfSome r (IsNamed (subcommand_rows_of matches.now))) }
@@ -248,58 +266,25 @@ fn named(alloc: Global, matches: &ArgMatches<'_>) -> Result<Option<Task>, AllocE
     let Some((name, found)) = matches.subcommand() else {
         return Ok(None);
     };
-    let Some(file) = found.get_str("FILE") else {
+    let Some(input) = input_of(alloc, found)? else {
         return Ok(None);
     };
-    let many = is_given(found, "many");
-    let unframed = is_given(found, "unframed");
     if name == "list" {
-        let file = String::from_str(alloc, file)?;
-        Ok(Some(Task::List(GivenFile {
-            file,
-            many,
-            unframed,
-        })))
+        Ok(Some(Task::List(input)))
     } else if name == "objects" {
-        let file = String::from_str(alloc, file)?;
-        Ok(Some(Task::Objects(GivenFile {
-            file,
-            many,
-            unframed,
-        })))
+        Ok(Some(Task::Objects(input)))
     } else if name == "calls" {
         let Some(options) = calls_options_of(alloc, found)? else {
             return Ok(None);
         };
-        let file = String::from_str(alloc, file)?;
-        Ok(Some(Task::Calls(
-            GivenFile {
-                file,
-                many,
-                unframed,
-            },
-            options,
-        )))
+        Ok(Some(Task::Calls(input, options)))
     } else if name == "debug" {
         let Some(options) = options_of(alloc, found)? else {
             return Ok(None);
         };
-        let file = String::from_str(alloc, file)?;
-        Ok(Some(Task::Debug(
-            GivenFile {
-                file,
-                many,
-                unframed,
-            },
-            options,
-        )))
+        Ok(Some(Task::Debug(input, options)))
     } else if name == "form" {
-        let file = String::from_str(alloc, file)?;
-        Ok(Some(Task::Form(GivenFile {
-            file,
-            many,
-            unframed,
-        })))
+        Ok(Some(Task::Form(input)))
     } else {
         Ok(None)
     }
@@ -310,7 +295,8 @@ fn named(alloc: Global, matches: &ArgMatches<'_>) -> Result<Option<Task>, AllocE
 /// `Usage::Words` has what `clap` says of words that it does not take, and of a call for help; `Usage::Memory` comes where there is no
 /// room for what `clap` builds or for a text of the task.
 pub fn task_of(alloc: Global, words: &[&str]) -> Result<Task, Usage>
-    // A task is one that clap's matches of the words name.
+    // Words are taken only where clap finds no fault in them, and the task is one that its matches of them name.
+    ensures taken { IfOk result (λ _. fault_of program (map (λ w. w.now) words.now) ≡ []) }
     ensures named { IfOk result (IsNamed (subcommand_of program (map (λ w. w.now) words.now))) }
     ensures bounded { IfOk result IsBounded }
 

@@ -19,20 +19,21 @@
 extern "C" {
 #endif
 
-/* What a function answers. */
+/* What a function answers. Where it is not PICKLESTEP_DONE, `out` stays as it was; where it is, what is behind the text does. */
 enum {
-    PICKLESTEP_DONE = 0,          /* the whole text is in `out` */
+    PICKLESTEP_DONE = 0,          /* the whole text is at the start of `out` */
     PICKLESTEP_OUT_OF_MEMORY = 1, /* memory ran out, or the limit of the thread was met */
     PICKLESTEP_TOO_LARGE = 2,     /* the input has more than 1,073,741,824 bytes */
     PICKLESTEP_NO_ROOM = 3,       /* the text has no room in `out`: its size is told, so that one can ask again with that much room */
-    PICKLESTEP_NO_TASK = 4        /* the options are not those of the function, or do not go together, or a hole does not stand behind the others */
+    PICKLESTEP_NO_TASK = 4        /* the options are not those of the function, or do not go together, or a hole begins before the end of the one
+                                     before it, or ends behind 2^62 */
 };
 
 /* What is told of a text, where the answer is PICKLESTEP_DONE or PICKLESTEP_NO_ROOM. */
 typedef struct {
     size_t size;    /* its bytes */
-    uint8_t status; /* the status of the program: 1 where an opcode or a line is refused, the bytes have a fault, or the lines of `calls` end in
-                       `unsure:` or `kept:`, or a pickle is not in the form, else 0 */
+    uint8_t status; /* the status of the program: 1 where an opcode or a line is refused, the bytes have a fault, the lines of `calls` end in
+                       `unsure:` or `kept:`, a pickle is not in the form, or a hole ends behind the last byte, else 0 */
 } picklestep_written;
 
 /* The opcodes of a pickle; with `many`, of several pickles that follow one another (`picklestep list FILE [--many]`). */
@@ -76,7 +77,7 @@ uint8_t picklestep_edited_calls_one_memo(bool many, const uint8_t *bytes, size_t
 /* The options of the functions below, whose sum is given: those of the program. */
 enum {
     PICKLESTEP_MANY = 1,      /* --many */
-    PICKLESTEP_UNFRAMED = 2,  /* --unframed (not for `calls_with`) */
+    PICKLESTEP_UNFRAMED = 2,  /* --unframed (not for picklestep_calls_with) */
     PICKLESTEP_FIRST = 4,     /* --first (for calls) */
     PICKLESTEP_MEMO_KEPT = 8, /* --memo kept (for calls, not with --first) */
     PICKLESTEP_FULL = 16      /* --full (for calls) */

@@ -65,12 +65,12 @@ def tar_sum_fits(block: bytes) -> bool:
     """Whether a block of 512 bytes has the sum of a tar header. Some writers count bytes above 127 as numbers below zero."""
     if len(block) < _BLOCK_OF_TAR:
         return False
-    told = tar_number(block[148:156])
-    if not told:
+    written = tar_number(block[148:156])
+    if not written:
         return False
     counted = block[:148] + block[156:512]
     unsigned = 8 * 32 + sum(counted)
-    return told in (unsigned, unsigned - 256 * len(counted.translate(None, _BELOW_128)))
+    return written in (unsigned, unsigned - 256 * len(counted.translate(None, _BELOW_128)))
 
 
 def may_be_pickle(head: bytes, size: int) -> bool:

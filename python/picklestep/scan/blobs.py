@@ -167,7 +167,7 @@ def _own_size() -> int:
 
 @lru_cache(maxsize=1)
 def _statm(process: int) -> int:
-    """What tells the size of this process, which stays open: opening it takes longer than reading it."""
+    """The file with the size of this process, which stays open: opening it takes longer than reading it."""
     return os.open(f'/proc/{process}/statm', os.O_RDONLY | os.O_CLOEXEC)
 
 

@@ -19,7 +19,7 @@ __all__ = ['check']
 
 
 def check(source: Source, *, allow: Iterable[str] = (), names: Iterable[str] = (), options: Options = Options()) -> bytes:
-    """The bytes of a source, where nothing in them asks for a closer look. Who wants to load it loads these bytes: a file may change.
+    """The bytes of a source, where nothing in them is marked. Who wants to load it loads these bytes: a file may change.
 
     `allow` has sets and files as `scan --allow` takes them, `names` names and patterns; without both only names that are known to run what
     they are given are refused. `options` has the limits. Raises NotAllowed with a line for each look; OSError where a file cannot be read.

@@ -32,7 +32,7 @@ from .stores.server import NoServer, Task, Wanted, tasks, total_of
 
 __all__ = ['main']
 
-# The status of a program that SIGPIPE ended, as a shell tells it.
+# The status of a program that SIGPIPE ended, as a shell gives it.
 _OF_NO_READER = 128 + 13
 _UNITS = {'': 1, 'K': 1 << 10, 'M': 1 << 20, 'G': 1 << 30}
 
@@ -272,7 +272,7 @@ def _scan(words: argparse.Namespace) -> int:
     if interrupted:
         print(f'interrupted: this is what was found in {output.report.counts["files"]} files', file=output.summary)
     output.end(is_whole=not interrupted)
-    return 130 if interrupted else int(output.report.asks)
+    return 130 if interrupted else int(output.report.has_marks)
 
 
 def main(words: Optional[List[str]] = None) -> int:

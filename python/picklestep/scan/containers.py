@@ -43,7 +43,7 @@ class AsPickle(Enum):
 class Container:
     """A kind of container, or of store that is a file.
 
-    `name` is how lines name it, and `opener` the function that opens it, as an entry point names it: none does where the kind is only told.
+    `name` is how lines name it, and `opener` the function that opens it, as an entry point names it: none does where the kind is only noted.
     A kind begins with `magic`, or else as the pattern `sign` says; where that does not settle it, `known_by` does. `writers` says who writes
     the strict form. `endings` are those of names by which loaders choose it, `tar_ending` that of a tar archive which is packed so, and
     `other_endings` those by which none chooses. A kind that packs one file has a `stream`.
@@ -71,7 +71,7 @@ class Container:
     opener_at_end: str = ''
     # Whether its values are looked at as pickles where it is a value itself: a loader of pickles reads it.
     is_pickles: bool = False
-    # Whether what unpacks it is there: else it is one of those that are told.
+    # Whether what unpacks it is there: else it is one of those that are noted.
     is_installed: Optional[Callable[[], bool]] = None
 
     def __str__(self) -> str:

@@ -87,7 +87,7 @@ class Looker:
         if self.budget is self._of_file:
             self.forms[form or ending(where[-1] if where else self.name)] += 1
 
-    def tell(self, where: Place, writers: str, reason: NotCanonical) -> None:
+    def note_form(self, where: Place, writers: str, reason: NotCanonical) -> None:
         """Says that something is not in the form that its usual writers write."""
         self.note(where, f'not in the form that {writers}: {reason}', missed=True)
 
@@ -112,7 +112,7 @@ class Looker:
             self.is_read(blob, head, where, names, depth=depth)
 
     def _kinds(self, blob: Blob, head: bytes, where: Place, names: Tuple[str, ...]) -> List[Container]:
-        """The kinds of containers that some reader may take these bytes for. Several, or another one than the name asks for, are told."""
+        """The kinds of containers that some reader may take these bytes for. Several, or another one than the name asks for, are noted."""
         kinds = kinds_of(blob, head)
         name = names[0] if names else ''
         asked = asked_form(name) if name != self.name or not where else None  # (pandas gives a member the name of its archive)
@@ -124,8 +124,8 @@ class Looker:
         if begun is not None and begun is not asked:
             self.note(where, f'it begins like {begun}, and is not in the form that {begun.writers}', missed=True)
         if len(kinds) > 1:
-            told = ' or '.join(map(str, kinds))
-            self.note(where, f'not in one form: readers take it for {told}: it is looked at as each of them', missed=True)
+            named = ' or '.join(map(str, kinds))
+            self.note(where, f'not in one form: readers take it for {named}: it is looked at as each of them', missed=True)
         return kinds
 
     def _may_be_pickle_too(self, kinds: List[Container], blob: Blob, head: bytes, names: Tuple[str, ...]) -> bool:
@@ -152,7 +152,7 @@ class Looker:
         return reach is not None or stops > 0
 
     def look_at_numbers(self, blob: Blob, where: Place, names: Tuple[str, ...], depth: int) -> None:
-        """Raw numbers of the size that a pickle or a header tells. They are not read, but no loader may get anywhere from their beginning."""
+        """Raw numbers of the size that a pickle or a header gives. They are not read, but no loader may get anywhere from their beginning."""
         self.at = where
         head = blob.read(0, HEAD)
         kinds = kinds_of(blob, head, tries=False)
@@ -171,7 +171,7 @@ class Looker:
         """Asks the program, and keeps its answer where the bytes are a pickle. False where they are none. `calls` is its answer, if it was
         asked. What the pickle holds may be looked at where it is said in how many others it is."""
         self.at = where
-        layout, told = self._layout(blob, reads)
+        layout, layout_note = self._layout(blob, reads)
         opcodes = JoinedBlob(blob, layout.raw) if layout is not None and layout.raw else blob
         pickle = self._asked(opcodes, blob, where, is_sure or _begins_as_pickle(head, names), calls)
         if pickle is None:
@@ -180,8 +180,8 @@ class Looker:
         why = why_unread(head, pickle)
         if why is not None:
             self.note(where, why)
-        if told is not None:
-            self.note(where, told, missed=True)
+        if layout_note is not None:
+            self.note(where, layout_note, missed=True)
         if layout is not None and layout.inner:
             self._look_at_inner(blob, layout, where)
         if depth is not None:
@@ -249,20 +249,20 @@ class Looker:
         return self.is_too_deep(held) or held.kind.look_into(self, held)
 
     def is_too_deep(self, held: Held) -> bool:
-        """Whether a container is in too many others to be opened, which is told."""
+        """Whether a container is in too many others to be opened, which is noted."""
         most = self.options.limits.depth
         if held.depth >= most:
             self.note(held.where, f'{held.kind}: containers are opened to a depth of {most}: this one is not', missed=True)
         return held.depth >= most
 
     def form(self, held: Held, verify: Callable[[Blob, Budget], Form]) -> Optional[Form]:
-        """The strict form of a container, or None, which is told."""
+        """The strict form of a container, or None, which is noted."""
         try:
             return verify(held.blob, self.budget)
         except NotCanonical as reason:
-            self.tell(held.where, held.kind.writers, reason)
+            self.note_form(held.where, held.kind.writers, reason)
         except struct.error:
-            self.tell(held.where, held.kind.writers, NotCanonical('the file became shorter'))
+            self.note_form(held.where, held.kind.writers, NotCanonical('the file became shorter'))
         return None
 
     def note_name(self, name: str, where: Place, seen: 'Counter[str]') -> None:
@@ -292,8 +292,8 @@ class Looker:
     def look_at_unpacked(self, unpacking: Unpacking, where: Place, names: Tuple[str, ...], depth: int, holder: 'Unpacked') -> None:
         """Looks at what a stream unpacks to.
 
-        All of it is unpacked, so that its end is seen too. It is kept (in memory) only where its beginning, its name or its end asks
-        for a closer look.
+        All of it is unpacked, so that its end is seen too. It is kept (in memory) only where its beginning, its name or its end gives
+        a reason to look at it.
         """
         self.at = where
         pieces = self._counted(unpacking, holder)

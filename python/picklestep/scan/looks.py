@@ -1,4 +1,4 @@
-"""What asks for a closer look in a file, and why. The report, the lines of JSON, SARIF and `check` all ask here."""
+"""What to look at in a file, and why. The report, the lines of JSON, SARIF and `check` all ask here."""
 
 from __future__ import annotations
 
@@ -38,7 +38,7 @@ _WITHOUT_NAME = {'persistent': 'persistent id', 'call': 'call of what the pickle
 
 @dataclass(frozen=True)
 class Look:
-    """Something that asks for a closer look.
+    """Something to look at.
 
     `where` is the place in the file, `rule` one of RULES, `text` says what and why, `name` is what is imported (or ''), `offset` where in the
     pickle, and `calls` are the first calls of what is imported, with their arguments.
@@ -138,7 +138,7 @@ class Judge:
         return what != ODD and (self.allowed is None or self.mark(name) is not None or self.allowed.allows_done(what, name))
 
     def looks(self, result: Result) -> Iterator[Look]:
-        """All that asks for a closer look in a file."""
+        """All that is to be looked at in a file."""
         if result.error is not None:
             yield Look((), 'cannot-be-read', f'cannot be read: {shown(result.error)}')
         for pickle in result.pickles:
@@ -148,7 +148,7 @@ class Judge:
                 yield Look(note.where, 'not-looked-at', shown(note.text))
 
     def looks_in(self, pickle: Pickle) -> Iterator[Look]:
-        """All that asks for a closer look in one pickle. A marked import brings its calls; the last one those of what has no name, too."""
+        """All that is to be looked at in one pickle. A marked import brings its calls; the last one those of what has no name, too."""
         marked = [(found, mark) for found in pickle.imports for mark in (self.mark(found.name),) if mark is not None]
         for found, (rule, why) in marked:
             calls = [done for done in calls_of(pickle, found.name) if done.part == found.part or not found.part]

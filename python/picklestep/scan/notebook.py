@@ -15,7 +15,7 @@ _SHOWN_LINES = 200
 
 
 def html_of(result: Result) -> str:
-    """The report about a file as `scan` prints it, with what asks for a closer look in bold. All texts are escaped.
+    """The report about a file as `scan` prints it, with what is marked in bold. All texts are escaped.
 
     >>> html_of(Result('<b>', error='no'))
     '<pre><b>! &lt;b&gt;: cannot be read: no</b></pre>'
@@ -23,7 +23,7 @@ def html_of(result: Result) -> str:
     out = io.StringIO()
     Report(out, Judge()).add(result)
     lines = out.getvalue().splitlines()
-    told = [f'<b>{html.escape(line)}</b>' if line.startswith('!') else html.escape(line) for line in lines[:_SHOWN_LINES]]
+    shown = [f'<b>{html.escape(line)}</b>' if line.startswith('!') else html.escape(line) for line in lines[:_SHOWN_LINES]]
     if len(lines) > _SHOWN_LINES:
-        told.append(f'.. {len(lines) - _SHOWN_LINES} lines more')
-    return '<pre>' + '\n'.join(told) + '</pre>'
+        shown.append(f'.. {len(lines) - _SHOWN_LINES} lines more')
+    return '<pre>' + '\n'.join(shown) + '</pre>'

@@ -6,11 +6,11 @@ import re
 from collections import Counter
 from typing import Iterable, Tuple
 
-__all__ = ['ending', 'forms_of', 'told_forms']
+__all__ = ['ending', 'forms_of', 'named_forms']
 
 _ENDING = re.compile(r'\.[A-Za-z0-9_+-]{1,12}$')
-# So many forms of a file are kept by their names, and so many are told.
-_MOST_KEPT, _MOST_TOLD = 50, 6
+# So many forms of a file are kept by their names, and so many are named.
+_MOST_KEPT, _MOST_NAMED = 50, 6
 
 
 def ending(name: str) -> str:
@@ -33,12 +33,12 @@ def forms_of(others: int, found: 'Counter[str]') -> Tuple[Tuple[str, int], ...]:
     return tuple((form, count) for form, count in sorted(kept.items(), key=lambda each: (-each[1], each[0])) if count)
 
 
-def told_forms(forms: Iterable[Tuple[str, int]]) -> str:
+def named_forms(forms: Iterable[Tuple[str, int]]) -> str:
     """The forms as the summary has them.
 
-    >>> told_forms([('.txt', 10), ('.md', 2)])
+    >>> named_forms([('.txt', 10), ('.md', 2)])
     '.txt 10, .md 2'
     """
     ordered = sorted(forms, key=lambda each: (-each[1], each[0]))
-    told = [f'{form} {count:,}' for form, count in ordered[:_MOST_TOLD]]
-    return ', '.join(told + ['..'] * (len(ordered) > _MOST_TOLD))
+    named = [f'{form} {count:,}' for form, count in ordered[:_MOST_NAMED]]
+    return ', '.join(named + ['..'] * (len(ordered) > _MOST_NAMED))

@@ -259,7 +259,7 @@ def _goes_along(task: _Task) -> bool:
         return False
     try:
         return os.stat(path).st_size <= _MOST_OF_SMALL
-    except (OSError, ValueError):  # (whoever looks at it tells why)
+    except (OSError, ValueError):  # (whoever looks at it says why)
         return True
 
 

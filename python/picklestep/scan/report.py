@@ -7,7 +7,7 @@ from collections import Counter
 from typing import Dict, Iterator, List, TextIO, Tuple
 
 from .looks import OF_CALLS, Judge, Look, call_text, end_text, import_text
-from .other_forms import told_forms
+from .other_forms import named_forms
 from .results import Pickle, Result, to_json
 from .wording import count_of, place_of, shown, times
 
@@ -15,14 +15,14 @@ __all__ = ['Report']
 
 
 class Report:
-    """Writes each result as it comes, and counts for the summary. `asks` is set where something asks for a closer look."""
+    """Writes each result as it comes, and counts for the summary. `has_marks` is set where something is marked."""
 
     def __init__(self, out: TextIO, judge: Judge, as_json: bool = False, brief: bool = False) -> None:
         self.out = out
         self.judge = judge
         self.as_json = as_json
         self.brief = brief
-        self.asks = False
+        self.has_marks = False
         self.counts: Counter[str] = Counter()
         self.forms: Counter[str] = Counter()
         self.imports: Counter[str] = Counter()
@@ -35,14 +35,14 @@ class Report:
     # --- Results ---
 
     def add(self, result: Result, is_new: bool = True) -> List[Look]:
-        """Counts a result and writes it, and answers what asks for a closer look in it. One that an earlier run wrote is counted alone."""
+        """Counts a result and writes it, and answers what is marked in it. One that an earlier run wrote is counted alone."""
         looks = self.count(result)
         if is_new:
             self.write(result, looks)
         return looks
 
     def count(self, result: Result) -> List[Look]:
-        """Counts a result, and answers what asks for a closer look in it."""
+        """Counts a result, and answers what is marked in it."""
         looks = list(self.judge.looks(result))
         self._count(result, looks)
         return looks
@@ -81,14 +81,14 @@ class Report:
                 self.first_with[found.name] = min(place, self.first_with.get(found.name, place))
 
     def _count_looks(self, result: Result, looks: List[Look]) -> None:
-        self.asks = True
+        self.has_marks = True
         rules = Counter(look.rule for look in looks)
-        if self._is_told(result):
+        if self._is_repeated(result):
             del rules['cannot-be-read']
         self.counts['not-looked-at'] += rules.pop('not-looked-at', 0) > 0
         self.counts.update(rules)
 
-    def _is_told(self, result: Result) -> bool:
+    def _is_repeated(self, result: Result) -> bool:
         """Whether a server has an error that one of its earlier results had."""
         return result.error is not None and self.errors[result.path, result.error] > 1
 
@@ -105,15 +105,15 @@ class Report:
 
     def _brief_lines(self, result: Result, looks: List[Look]) -> Iterator[str]:
         for look in looks:
-            if look.rule != 'cannot-be-read' or not self._is_told(result):
+            if look.rule != 'cannot-be-read' or not self._is_repeated(result):
                 yield from (f'! {place_of(result.path, look.where)}: {line}' for line in look.lines)
 
     def _lines(self, result: Result) -> Iterator[str]:
-        """A line for each thing that was found; `!` is before those that ask for a closer look."""
+        """A line for each thing that was found; `!` is before those that are marked."""
         path = place_of(result.path, ())
         if result.left is not None:
             yield f'  {path}: skipped: {result.left}'
-        if result.error is not None and not self._is_told(result):
+        if result.error is not None and not self._is_repeated(result):
             yield f'! {path}: cannot be read: {shown(result.error)}'
         for pickle in result.pickles:
             yield from self._pickle_lines(result, pickle)
@@ -125,14 +125,14 @@ class Report:
         yield f'  {place_of(result.path, pickle.where)}: {pickle.size} bytes'
         all_looks = list(self.judge.looks_in(pickle))
         looks = {(look.name, look.offset): look for look in all_looks if look.name and look.rule not in OF_CALLS}
-        told = {call for look in looks.values() for call in look.calls}
+        beside = {call for look in looks.values() for call in look.calls}
         done = {look.text for look in all_looks if look.rule in OF_CALLS}
         for found in pickle.imports:
             if (found.name, found.offset) in looks:
                 yield from (f'!     {line}' for line in looks[found.name, found.offset].lines)
             else:
                 yield f'      {import_text(found, None)}'
-        yield from (f'{"!" if text in done else " "}     {text}' for text in map(call_text, pickle.calls) if text not in told)
+        yield from (f'{"!" if text in done else " "}     {text}' for text in map(call_text, pickle.calls) if text not in beside)
         yield from (f'      {shown(line)}' for line in pickle.lines)
         yield f'{" " if pickle.end.is_stopped else "!"}     end: {end_text(pickle.end)}'
 
@@ -141,13 +141,13 @@ class Report:
     def summary(self) -> List[str]:
         """The counts over all files, and the imports: those that are marked, then the rarest first."""
         counts = self.counts
-        told = [count_of(counts['files'], 'file')] if counts['files'] or not self.servers else []
+        parts = [count_of(counts['files'], 'file')] if counts['files'] or not self.servers else []
         if self.servers:
-            told.append(f'{count_of(len(self.servers), "server")} with {count_of(counts["keys"], "key")}')
-        told.append(f'{count_of(counts["pickles"], "pickle")} in {counts["files with pickles"] + sum(self.servers.values())} of them')
+            parts.append(f'{count_of(len(self.servers), "server")} with {count_of(counts["keys"], "key")}')
+        parts.append(f'{count_of(counts["pickles"], "pickle")} in {counts["files with pickles"] + sum(self.servers.values())} of them')
         if counts['others']:
-            forms = told_forms(self.forms.items())
-            told.append(f'{count_of(counts["others"], "file or member", "files or members")} of other forms{": " if forms else ""}{forms}')
+            forms = named_forms(self.forms.items())
+            parts.append(f'{count_of(counts["others"], "file or member", "files or members")} of other forms{": " if forms else ""}{forms}')
         for key, *words in (('not-read', 'pickle not read to a STOP', 'pickles not read to a STOP'),
                             ('not-looked-at', 'file not looked at whole', 'files not looked at whole'),
                             ('cannot-be-read', 'file that cannot be read', 'files that cannot be read'), ('skipped', 'skipped', 'skipped'),
@@ -157,9 +157,9 @@ class Report:
                             ('odd', 'thing that no library writes', 'things that no library writes'),
                             ('worked-out', 'import worked out while loading', 'imports worked out while loading')):
             if counts[key]:
-                told.append(count_of(counts[key], *words))
+                parts.append(count_of(counts[key], *words))
         marked = {name: self.judge.mark(name) is not None for name in self.imports}
-        lines = [', '.join(told)]
+        lines = [', '.join(parts)]
         for name in sorted(self.imports, key=lambda name: (not marked[name], self.pickles_with[name], name)):
             mark = '!' if marked[name] else ' '
             lines.append(f'{mark} {shown(name)}: {times(self.imports[name])}, in {count_of(self.pickles_with[name], "pickle")}, first in '

@@ -103,18 +103,18 @@ def to_json(result: Result) -> Dict[str, Any]:
             **{name: count for name, count in (('keys', result.keys), ('plain', result.plain)) if count}}
 
 
-def _told(each: Union[Import, Call]) -> Dict[str, Any]:
+def _object(each: Union[Import, Call]) -> Dict[str, Any]:
     """The object that stands for an import or a call: without a part where it stands before all headings."""
-    told = dict(vars(each))
+    made = dict(vars(each))
     if not each.part:
-        del told['part']
-    return told
+        del made['part']
+    return made
 
 
 def _pickle_object(pickle: Pickle) -> Dict[str, Any]:
     end = pickle.end
-    made = {'where': pickle.where, 'size': pickle.size, 'imports': [_told(each) for each in pickle.imports],
-            'calls': [_told(each) for each in pickle.calls],
+    made = {'where': pickle.where, 'size': pickle.size, 'imports': [_object(each) for each in pickle.imports],
+            'calls': [_object(each) for each in pickle.calls],
             'end': {'how': end.how, 'code': end.code, 'text': end.text, 'offset': end.offset, 'item': end.item}}
     return {**made, 'lines': pickle.lines} if pickle.lines else made
 

@@ -1,4 +1,4 @@
-"""What asks for a closer look, as SARIF 2.1.0: the form in which code hosts take the findings of a tool."""
+"""What to look at, as SARIF 2.1.0: the form in which code hosts take the findings of a tool."""
 
 from __future__ import annotations
 
@@ -18,13 +18,13 @@ _ERRORS = ('known', 'worked-out', 'denied', 'not-allowed', 'not-allowed-done')
 
 
 class Sarif:
-    """Keeps what asks for a closer look, file by file, and answers the whole as the object of a SARIF file."""
+    """Keeps what is to be looked at, file by file, and answers the whole as the object of a SARIF file."""
 
     def __init__(self) -> None:
         self._results: List[Dict[str, Any]] = []
 
     def add(self, path: str, looks: List[Look]) -> None:
-        """Keeps what asks for a closer look in a file."""
+        """Keeps what is to be looked at in a file."""
         self._results.extend(_result(path, look) for look in looks)
 
     def object(self) -> Dict[str, Any]:

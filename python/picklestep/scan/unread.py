@@ -1,7 +1,7 @@
-"""Containers that this package does not open: archives, packed files, databases, file systems. Each is told, since a loader may open it.
+"""Containers that this package does not open: archives, packed files, databases, file systems. Each is noted, since a loader may open it.
 
 They are known by how they begin, some by how they end. What begins with letters alone may be a text: it counts where a byte follows that no
-text has. Of short values, and of what texts stand for, the surest signs alone are told.
+text has. Of short values, and of what texts stand for, the surest signs alone are noted.
 
 Source: the list of `file` (archives, packed data, databases, file systems), and the documents of these forms.
 """
@@ -18,7 +18,7 @@ __all__ = ['SURE', 'TAIL', 'kind_by_end', 'kind_of_file', 'kind_of_long', 'kind_
 # Such a byte comes soon, which no text has.
 _SOON = rb'(?=[^\0-\x08\x0e-\x1a\x1c-\x1f\x7f]{0,400}[\0-\x08\x0e-\x1a\x1c-\x1f\x7f])'
 
-# Told of all bytes that begin so.
+# Noted of all bytes that begin so.
 _SURE: Dict[str, bytes] = {
     'zstd': rb'\x28\xb5\x2f\xfd',
     'zstd or lz4 (a frame that is skipped)': rb'[\x50-\x5f]\x2a\x4d\x18',
@@ -46,7 +46,7 @@ _SURE: Dict[str, bytes] = {
     'cab': rb'MSCF\0\0\0\0',
 }
 
-# Told of files, members and long values.
+# Noted of files, members and long values.
 _LONG: Dict[str, bytes] = {
     # Packed files
     'zstd (an old form, or a dictionary)': rb'[\x22-\x27]\xb5\x2f\xfd|\x37\xa4\x30\xec',
@@ -159,7 +159,7 @@ _LONG: Dict[str, bytes] = {
     'Perl': rb'pst0' + _SOON,
 }
 
-# Told of files and members alone: they are known by few bytes.
+# Noted of files and members alone: they are known by few bytes.
 _FILES: Dict[str, bytes] = {'pack, freeze or LZH': rb'\x1f[\x1e\x1f\x9e-\xa1]'}
 
 # Some bytes before the end, or at a place behind what is looked at first.

@@ -1,6 +1,6 @@
-"""The pickle right after edits, before it is read anew: what can be told of it from what was read before them, and nothing else.
+"""The pickle right after edits, before it is read anew: what can be said of it from what was read before them, and nothing else.
 
-It is told of edits that put, replace or take away opcodes which push one plain value each. These leave what is before them as it is. Behind them
+It is said of edits that put, replace or take away opcodes which push one plain value each. These leave what is before them as it is. Behind them
 no mark is set or taken otherwise and nothing else is stored, where no POP comes: lines have other offsets, and objects other numbers. Whether an
 opcode is refused only the session knows, so what is shown of those behind an edit it has to have stepped over. Where objects are shown as they are
 at the end, plain ones stay, and those that nothing behind the edits can change. All else is unknown, and waits.
@@ -22,7 +22,7 @@ from ..values import PLAIN_KINDS
 from ..view.document import MOST_EXACT, MOST_TEXT, Done, Reaches
 from ..view.lines import CODE_BY_NAME, Line, Lines, Makers, OpcodeLines, lines_of
 
-__all__ = ['MOST_EDITS', 'Between', 'Objects', 'Put', 'Unknown', 'can_tell', 'line_put']
+__all__ = ['MOST_EDITS', 'Between', 'Objects', 'Put', 'Unknown', 'is_known_edit', 'line_put']
 
 # So many edits are looked at.
 MOST_EDITS = 100
@@ -85,7 +85,7 @@ class _Piece(NamedTuple):
     put: Optional[Put]
 
 
-def can_tell(code: int, edit: str, name: str) -> bool:
+def is_known_edit(code: int, edit: str, name: str) -> bool:
     """Whether an edit is one of those of which something is known: where it puts an opcode of a name, where there is one of a code."""
     return edit in _PUTS and (edit == 'delete' or name in _VALUES) and (edit == 'insert' or code in _VALUE_CODES)
 
@@ -137,7 +137,7 @@ class Between:
         raise Unknown(name)
 
     @staticmethod
-    def can_tell_of(lines: OpcodeLines, listed: int, reaches: Reaches, edits: Sequence[Done], codes: bytes) -> bool:
+    def is_known_after(lines: OpcodeLines, listed: int, reaches: Reaches, edits: Sequence[Done], codes: bytes) -> bool:
         """Whether something is known after these edits."""
         return (listed == len(lines) and behind_word(lines.closing, 'refused') is None and not reaches.is_part
                 and len(edits) <= MOST_EDITS and _READONLY not in codes
@@ -231,8 +231,8 @@ class Between:
             raise Unknown
         begin, end = self._final.span(old)
         kind = kind_in(self._final.text[begin:min(begin + _HEAD, end)].decode('ascii'))
-        is_told = self._is_same or kind in _STAY or kind == 'tuple' and number < self._made
-        if not is_told and not (number < self._made and self._is_left(number)):
+        is_known = self._is_same or kind in _STAY or kind == 'tuple' and number < self._made
+        if not is_known and not (number < self._made and self._is_left(number)):
             raise Unknown
         line = self._final.brief(old) if end - begin > _LONGEST else self._final.raw(old)
         return _whole(f'#{number} {without_number(line)}', line if number != old else '')

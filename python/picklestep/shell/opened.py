@@ -20,7 +20,7 @@ from ..texts import LinesError, behind_word, key_in, object_of
 from ..values import PLAIN_KINDS, kind_value
 from ..view.document import Document, Done, Reaches, places_edited
 from ..view.lines import CODE_BY_NAME, Line, Lines, OpcodeLines
-from .between import MOST_EDITS, Between, Objects, Put, Unknown, can_tell
+from .between import MOST_EDITS, Between, Objects, Put, Unknown, is_known_edit
 from .history import History
 from .later import Later
 
@@ -219,17 +219,17 @@ class Opened(Document):
 
     def _read_beside(self, edits: List[bytes], edition: int, codes: bytes) -> _Read:
         """Reads the pickle as it is after edits, beside the prompt."""
-        def told(text: str) -> None:
+        def progress(text: str) -> None:
             self._free.wait()
             if self._edition != edition:
                 raise _Stale
 
         content = self.session._bytes_after(edits)
-        told('')
+        progress('')
         with Input(content) as given:
-            lines, final, reaches, listed = self._lists(given, len(codes), codes, told)
+            lines, final, reaches, listed = self._lists(given, len(codes), codes, progress)
             if len(lines) != len(codes):
-                lines, final, reaches, listed = self._lists(given, len(codes), None, told)
+                lines, final, reaches, listed = self._lists(given, len(codes), None, progress)
         history = None
         if _READONLY not in codes:
             lines.makers.finish(final, lambda place, number: False)
@@ -265,7 +265,7 @@ class Opened(Document):
         if known is not None:
             self._read_known(known, edits, undone, here)
             return
-        between = self._told_of(base, edits)
+        between = self._between_of(base, edits)
         if between is not None or was_unread:
             self._base, self._between, self._edits, self._undone = base, between, edits, undone
             sent, edition, codes = self.session._talk.edits(), self._edition, self._codes
@@ -285,13 +285,13 @@ class Opened(Document):
             Document._changed(self, edits, undone, back_and_return)
         self._reading = Later(read)
 
-    def _told_of(self, base: _Base, edits: List[Done]) -> Optional[Between]:
+    def _between_of(self, base: _Base, edits: List[Done]) -> Optional[Between]:
         """What is known after edits before the pickle is read anew, if something is."""
         more, lists = edits[len(base.edits):], base.lists
         if edits[:len(base.edits)] != base.edits or not all(edit.put for edit in more) or len(more) > MOST_EDITS:
             return None
         codes = self._codes or b''
-        if not Between.can_tell_of(lists['lines'], lists['listed'], lists['reaches'], more, codes):
+        if not Between.is_known_after(lists['lines'], lists['listed'], lists['reaches'], more, codes):
             return None
         try:
             return Between(lists['lines'], lists['_final'], lists['reaches'], more, codes, self)
@@ -379,11 +379,11 @@ class Opened(Document):
         if first < here:
             self.session.goto(first)
         self._edited_codes = self._codes_now()
-        is_told = len(self._edited_codes) > self._most_waited and len(edits) <= MOST_EDITS
+        may_wait = len(self._edited_codes) > self._most_waited and len(edits) <= MOST_EDITS
         try:
             for edit in edits:
                 code = self._edited_codes[edit.place] if edit.place < len(self._edited_codes) else 0
-                put = Put.of(edit.word, edit.name, edit.values, edit.raw) if is_told and can_tell(code, edit.word, edit.name) else None
+                put = Put.of(edit.word, edit.name, edit.values, edit.raw) if may_wait and is_known_edit(code, edit.word, edit.name) else None
                 place = self._edit_one(edit)
                 done.append(Done(edit.word, place, edit.name, bool(done), self._put_code(edit.word, place, CODE_BY_NAME.get(edit.name, 0)), put))
                 self._here += SHIFTS[edit.word] if edit.place < self._here else 0

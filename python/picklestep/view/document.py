@@ -152,10 +152,10 @@ class Done(NamedTuple):
 class Document:
     """A pickle that is looked at and edited; with `many`, several that follow one another."""
 
-    def __init__(self, source: Source, name: str, many: bool = False, told: Callable[[str], None] = silent, unframed: bool = False) -> None:
-        """Reads a pickle. While that goes on, `told` is given how far it is."""
+    def __init__(self, source: Source, name: str, many: bool = False, progress: Callable[[str], None] = silent, unframed: bool = False) -> None:
+        """Reads a pickle. While that goes on, `progress` is given how far it is."""
         self.name = name
-        self._told = told
+        self._progress = progress
         self.session = Session(source, many=many, unframed=unframed)
         self._options = modes(many, unframed)
         self.breaks: Set[int] = set()
@@ -171,7 +171,7 @@ class Document:
         except BaseException:
             self.session.close()
             raise
-        self._told = silent
+        self._progress = silent
 
     def close(self) -> None:
         """Ends the session."""
@@ -205,7 +205,7 @@ class Document:
         return True
 
     def _read_from(self, given: Input) -> None:
-        self._take(*self._lists(given, self.session.where().places, self._codes, self._told))
+        self._take(*self._lists(given, self.session.where().places, self._codes, self._progress))
 
     def _take(self, lines: OpcodeLines, final: Lines, reaches: Reaches, listed: int) -> None:
         """Keeps what the program says."""
@@ -215,9 +215,9 @@ class Document:
         self._makers.finish(self._final, self._makes_object)
         self.session.goto(here)
 
-    def _lists(self, given: Input, places: int, codes: Optional[bytes], told: Callable[[str], None]) -> Tuple[OpcodeLines, Lines, Reaches, int]:
-        """What the program says of an input of so many opcodes, and of how many of them `list` tells. The session is not asked."""
-        answers = read_all(given, self._options, told, codes)
+    def _lists(self, given: Input, places: int, codes: Optional[bytes], progress: Callable[[str], None]) -> Tuple[OpcodeLines, Lines, Reaches, int]:
+        """What the program says of an input of so many opcodes, and of how many of them `list` has a line. The session is not asked."""
+        answers = read_all(given, self._options, progress, codes)
         listed = len(answers[0])
         if listed < places:
             add_items(answers[0], given, self._options)

@@ -213,15 +213,15 @@ def silent(text: str) -> None:
     """Says nothing of how far it is."""
 
 
-def _read(into: Lines, blocks: Iterable[bytes], told: Callable[[str], None] = silent, word: str = '') -> None:
-    """Reads all that the program answers, and says to `told` how far it is."""
+def _read(into: Lines, blocks: Iterable[bytes], progress: Callable[[str], None] = silent, word: str = '') -> None:
+    """Reads all that the program answers, and says to `progress` how far it is."""
     cutter = _Cutter(into)
     for block in blocks:
         cutter.feed(block)
-        told(f'{word}: {len(into):,} lines')
+        progress(f'{word}: {len(into):,} lines')
 
 
-def read_all(given: Input, options: Sequence[str] = (), told: Callable[[str], None] = silent,
+def read_all(given: Input, options: Sequence[str] = (), progress: Callable[[str], None] = silent,
              codes: Optional[bytes] = None) -> 'Tuple[OpcodeLines, Lines, str, bool]':
     """The lines of `list`, those of `objects` without its closing lines, the text of `calls`, and whether this is only its first lines. The
     program works on all of them at once where the input is not large. Of a pickle that is read unframed, `calls` comes after `list`, which says
@@ -235,9 +235,9 @@ def read_all(given: Input, options: Sequence[str] = (), told: Callable[[str], No
             return process
         started = map(start, [*tasks, of_calls] if is_framed else tasks)  # (it starts each where it is asked for)
         processes = iter(list(started)) if os.stat(given.path).st_size <= _MOST_AT_ONCE else started
-        listing = _read_listing(bounded(next(processes).blocks(), os.stat(given.path).st_size), OpcodeLines(codes), told)
-        objects = _read_objects(next(processes).blocks(), told)
-        told('calls ..')
+        listing = _read_listing(bounded(next(processes).blocks(), os.stat(given.path).st_size), OpcodeLines(codes), progress)
+        objects = _read_objects(next(processes).blocks(), progress)
+        progress('calls ..')
         holes = running.enter_context(left_out(() if is_framed else frames_in(listing.text)))
         calls, is_part = _read_calls((next(processes) if is_framed else start([*of_calls, *holes])).blocks())
     return listing, objects, calls, is_part
@@ -263,8 +263,8 @@ def read_answers(answer: Callable[[List[str]], Optional[bytes]], options: Sequen
     return (_read_listing(listing, OpcodeLines(codes), silent), _read_objects(objects, silent), *_read_calls(calls))
 
 
-def _read_listing(blocks: Iterable[bytes], listing: OpcodeLines, told: Callable[[str], None]) -> OpcodeLines:
-    _read(listing, blocks, told, 'list')
+def _read_listing(blocks: Iterable[bytes], listing: OpcodeLines, progress: Callable[[str], None]) -> OpcodeLines:
+    _read(listing, blocks, progress, 'list')
     while len(listing) and not begins_with_offset(listing.raw(len(listing) - 1)):
         listing.closing.insert(0, listing.drop_last())
     if not listing.closing:
@@ -302,9 +302,9 @@ def add_items(listing: OpcodeLines, given: Input, options: Sequence[str] = ()) -
         begin = end
 
 
-def _read_objects(blocks: Iterable[bytes], told: Callable[[str], None]) -> Lines:
+def _read_objects(blocks: Iterable[bytes], progress: Callable[[str], None]) -> Lines:
     objects = Lines()
-    _read(objects, blocks, told, 'objects')
+    _read(objects, blocks, progress, 'objects')
     while len(objects) and not is_object_at(objects.text, objects.start(len(objects) - 1)):
         objects.drop_last()
     return objects

@@ -1,9 +1,9 @@
 //! What sinks take, and what sources give.
 
 use pickle_io::{
-    Failed, Page, ToWrite, write_all, write_decimal, write_hex, write_quoted, write_signed,
+    Failed, Page, Sink, ToWrite, write_all, write_decimal, write_hex, write_quoted, write_signed,
 };
-use std::io::Cursor;
+use std::io::{BufWriter, Cursor};
 use std::test::Fail;
 use test_equipment::{page_over, paper, taken, written_out};
 
@@ -28,5 +28,22 @@ fn full_sinks(rt: HostRuntime) -> Result<(), Fail> {
     assert!(rt; written_out(&mut small, answer) == Err(Failed));
     let cut = small.into_inner().into_inner().into_inner();
     assert_eq!(rt; cut.as_slice(), b"7-70f'it".as_slice());
+    Ok(())
+}
+
+/// What a writer keeps back, it hands on where the sink is flushed, and no sooner.
+#[test]
+fn flushed_writers(rt: HostRuntime) -> Result<(), Fail> {
+    let alloc = rt.alloc();
+    for is_flushed in [false, true] {
+        let mut sink = ToWrite::new(BufWriter::new(alloc, Vec::new(alloc))?);
+        write_all(&mut sink, b"kept")?;
+        if is_flushed {
+            sink.flush()?;
+        }
+        let writer = sink.into_inner();
+        assert!(rt; writer.get_ref().is_empty() != is_flushed);
+        assert!(rt; writer.buffer().is_empty() == is_flushed);
+    }
     Ok(())
 }

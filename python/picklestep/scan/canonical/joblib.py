@@ -31,17 +31,17 @@ def on_build(reader: Reader, target: Made) -> None:
         return
     if target.function != _WRAPPER:
         reader.fail('joblib before 0.10, whose arrays are in other files')
-    told = _told(reader, target)
+    state = _state(reader, target)
     if reader.frame_end not in (None, reader.at):
         reader.fail('an array within a frame')
     try:
-        size, has_objects = item_of_pickled(told['dtype'])
-        count = count_of_shape(told['shape'])
+        size, has_objects = item_of_pickled(state['dtype'])
+        count = count_of_shape(state['shape'])
     except NotCanonical as reason:
         reader.fail(reason.reason)
     if reader.gives_kinds:
         reader.fail('a kind of items that a call may have changed')
-    if has_objects and told['allow_mmap']:  # (joblib maps it, and reads on behind as many bytes)
+    if has_objects and state['allow_mmap']:  # (joblib maps it, and reads on behind as many bytes)
         reader.fail('an array of objects that may be mapped')
     reader.frame_end = None
     target.state = ()  # (it has one, which is no longer needed)
@@ -50,21 +50,21 @@ def on_build(reader: Reader, target: Made) -> None:
         reader.pickle.inner.append(inner)
         reader.skip(inner.end - reader.at)
         return
-    alignment = told.get(_ALIGNMENT)
+    alignment = state.get(_ALIGNMENT)
     if alignment is not None:
         _padding(reader, alignment)
     reader.skip(size * count)
 
 
-def _told(reader: Reader, target: Made) -> Dict[str, Any]:
+def _state(reader: Reader, target: Made) -> Dict[str, Any]:
     """The state of a wrapper: exactly joblib's keys, with values as joblib writes them."""
     if not isinstance(target.state, PDict) or target.arguments != ():
         reader.fail('an array whose state is no dictionary')
-    told = target.state.by_text()
-    has_all = _KEYS <= set(told) <= _KEYS | {_ALIGNMENT} and target.state.is_whole and len(target.state) == 2 * len(told)
-    if not has_all or told['order'] not in ('C', 'F') or type(told['allow_mmap']) is not bool or told['subclass'] not in _SUBCLASSES:
+    state = target.state.by_text()
+    has_all = _KEYS <= set(state) <= _KEYS | {_ALIGNMENT} and target.state.is_whole and len(target.state) == 2 * len(state)
+    if not has_all or state['order'] not in ('C', 'F') or type(state['allow_mmap']) is not bool or state['subclass'] not in _SUBCLASSES:
         reader.fail('an array with another state than joblib gives it')
-    return told
+    return state
 
 
 def _padding(reader: Reader, alignment: Any) -> None:

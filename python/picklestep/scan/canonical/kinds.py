@@ -12,7 +12,7 @@ from ..unread import kind_of_file, kind_of_short
 
 __all__ = ['asked_form', 'begun_form', 'kinds_of', 'without_ending']
 
-# Loaders (pandas, numpy, tarfile) choose what they read by these endings: another form under them is told.
+# Loaders (pandas, numpy, tarfile) choose what they read by these endings: another form under them is noted.
 _ASKED = {ending: each for each in CONTAINERS for ending in (*each.endings, each.tar_ending) if ending}
 # People name what torch.save writes so.
 _NOT_TAR = re.compile(r'.*\.(pth|pt|ckpt|bin)\.tar', re.IGNORECASE | re.DOTALL)

@@ -44,13 +44,13 @@ class Stream:
     """How a file that packs one other is unpacked, and its strict form.
 
     `verify_begin` raises NotCanonical where the header is not as the writers of this kind fill it. `starts` says where the stream begins that
-    `start` unpacks, if that is not at once, and `tells_size` the size of what it unpacks to, if its header does.
+    `start` unpacks, if that is not at once, and `size_in_header` the size of what it unpacks to, if its header does.
     """
 
     start: Callable[[], Decompressor]
     verify_begin: Callable[[Blob], None]
     starts: Optional[Callable[[Blob], int]] = None
-    tells_size: Optional[Callable[[Blob], int]] = None
+    size_in_header: Optional[Callable[[Blob], int]] = None
     # Whether several may follow one another in a file.
     has_several: bool = True
     # What some reader takes for it, where that is not what begins so; it is tried where one of these bytes is the first.
@@ -76,8 +76,8 @@ class Stream:
         """Raises NotCanonical where a stream that was unpacked to so many bytes is not whole, or does not fill the file."""
         require(unpacking.trouble is None, str(unpacking.trouble))
         require(unpacking.streams == 1 and unpacking.end == packed.size, 'bytes stand behind the end of the stream', unpacking.first_end)
-        told = size if self.tells_size is None else self.tells_size(packed)
-        require(told in (size, _NO_SIZE), 'its size is wrong', 2)
+        written = size if self.size_in_header is None else self.size_in_header(packed)
+        require(written in (size, _NO_SIZE), 'its size is wrong', 2)
 
 
 def _gzip(packed: Blob) -> None:
@@ -179,7 +179,7 @@ def _is_zlib(head: bytes) -> bool:
         return False
 
 
-# --- Where they begin, and what their headers tell ---
+# --- Where they begin, and the sizes in their headers ---
 
 def _start_of_zfile(packed: Blob) -> int:
     """Behind the header that joblib before 0.10 puts before the stream."""
@@ -198,7 +198,7 @@ BZ2 = Stream(bz2.BZ2Decompressor, _bz2, takes=lambda blob, head: _BZ2.match(head
              behind_few=rb'BZh[1-9](?:1AY|\x17rE)')
 GZIP = Stream(inflate_gzip, _gzip, takes=lambda blob, head: head[:3] == b'\x1f\x8b\x08', firsts=frozenset(b'\x1f'), behind_few=rb'\x1f\x8b\x08')
 XZ = Stream(unpack_xz, _xz, takes=lambda blob, head: head[:6] == b'\xfd7zXZ\0', firsts=frozenset(b'\xfd'), behind_few=rb'\xfd7zXZ\0')
-LZMA = Stream(unpack_lzma, _lzma, tells_size=_size_of_lzma, has_several=False, takes=lambda blob, head: _is_lzma(blob), firsts=_BEGINS_LZMA,
+LZMA = Stream(unpack_lzma, _lzma, size_in_header=_size_of_lzma, has_several=False, takes=lambda blob, head: _is_lzma(blob), firsts=_BEGINS_LZMA,
               is_weak=True, is_any=True)
 ZLIB = Stream(inflate_zlib, _zlib, takes=lambda blob, head: _is_zlib(head), firsts=_BEGINS_ZLIB, is_weak=True, behind_few=rb'\x78[\x01\x5e\x9c\xda]')
 ZSTD = Stream(Zstd, _zstd, behind_few=rb'\x28\xb5\x2f\xfd')

@@ -96,18 +96,18 @@ def storages_in(calls: str) -> Optional[Storages]:
 
 
 def with_numbers(sizes: Storages, members: Sequence[Member], prefix: str) -> List[Member]:
-    """The members of a zip archive, with those that are raw numbers of the exact size told as such."""
-    told: List[Member] = []
+    """The members of a zip archive, with those that are raw numbers of the exact size as such."""
+    found: List[Member] = []
     for member in members:
         size = sizes.pop(member.name[len(prefix):], None) if member.name.startswith(prefix) else None
         if size is not None:
             if member.method != 0 or member.size != size[0]:
                 wrong(f'{member.name!a} has another size than its tensor')
             member = member.as_numbers()
-        told.append(member)
+        found.append(member)
     if sizes:
         wrong(f'the numbers of {len(sizes)} tensors are missing, such as {next(iter(sizes))!a}')
-    return told
+    return found
 
 
 def _raw(blob: Blob, at: int, item: int) -> int:
@@ -158,10 +158,10 @@ def tar_member(name: str, blob: Blob, budget: Optional[Budget] = None) -> Rows:
     if name != 'pickle':
         require(type(count) is int and 0 <= count < _MOST_STORAGES, 'the first pickle is no number')
         for _ in range(count):
-            told = pickle()
-            require(isinstance(told, tuple) and len(told) == 3, 'a storage or tensor that is not told as torch does')
+            described = pickle()
+            require(isinstance(described, tuple) and len(described) == 3, 'a storage or tensor that is not told as torch does')
             at = found.pickles[-1].end
-            found.raw.append((at, _raw(blob, at, _item(told[2])) if name == 'storages' else _sizes_of_tensor(blob, at)))
+            found.raw.append((at, _raw(blob, at, _item(described[2])) if name == 'storages' else _sizes_of_tensor(blob, at)))
     if name == 'storages':
         require(isinstance(pickle(), PList), 'the views are no list')
     end = max([found.pickles[-1].end] + [end for _, end in found.raw[-1:]])

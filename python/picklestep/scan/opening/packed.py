@@ -27,7 +27,7 @@ def look_into(looker: Looker, held: Held) -> bool:
         if not unpacked.is_cut:
             stream.verify_end(blob, unpacking, unpacked.size)
     except NotCanonical as reason:
-        looker.tell(where if unpacking.trouble is None else inner, held.kind.writers, reason)
+        looker.note_form(where if unpacking.trouble is None else inner, held.kind.writers, reason)
     if unpacking.trouble is None and unpacking.end < blob.size and not unpacked.is_cut:
         looker.look_at_gap(blob, unpacking.end, blob.size, where, (), held.depth + 1)
     # What cannot be packed stands there as it is, perhaps with the end of an archive, which the unpacked bytes then have too.

@@ -98,7 +98,7 @@ def _with_numbers(looker: Looker, blob: Blob, form: Form, pickle: str, where: Pl
         read = read_pickle(part, 0, None, looker.budget)
         return tuple(torch.with_numbers(torch.storages_of(read), form.members, prefix)), _AsPickle(partial(of_one, read))
     except NotCanonical as reason:
-        looker.tell(where, WRITERS['torch'], reason)
+        looker.note_form(where, WRITERS['torch'], reason)
         return form.members, _AsPickle(alone)
 
 
@@ -127,11 +127,11 @@ def _look_at_member(looker: Looker, held: Held, member: Member, where: Place, re
     try:
         _verify_content(unpacking, packed.size, unpacked, member)
     except NotCanonical as reason:
-        looker.tell(where, held.kind.writers, reason)
+        looker.note_form(where, held.kind.writers, reason)
 
 
 def _verify_content(unpacking: Unpacking, packed: int, unpacked: Unpacked, member: Member) -> None:
-    """Raises NotCanonical where a member does not unpack to exactly what the directory tells."""
+    """Raises NotCanonical where a member does not unpack to exactly the size in the directory."""
     name = f'{member.name!a}'
     if unpacking.trouble is not None:
         raise NotCanonical(f'{name}: {unpacking.trouble}')

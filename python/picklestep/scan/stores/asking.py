@@ -82,14 +82,14 @@ def _together(contents: Sequence[bytes], budget: Budget, keep_lines: bool, full:
         except PicklestepError:
             return []
     # (Behind a heading a marker does not show how the pickle before it ended.)
-    told = before_headings(text.decode('ascii', 'replace'))
+    answer = before_headings(text.decode('ascii', 'replace'))
     sizes = [len(content) for content in contents]
-    return list(_taken_apart(told, sizes, f"import 'picklestep' '{name}' as #", len(marker), budget, keep_lines))
+    return list(_taken_apart(answer, sizes, f"import 'picklestep' '{name}' as #", len(marker), budget, keep_lines))
 
 
-def _taken_apart(told: str, sizes: Sequence[int], marker: str, width: int, budget: Budget, keep_lines: bool) -> Iterator[Summary]:
+def _taken_apart(answer: str, sizes: Sequence[int], marker: str, width: int, budget: Budget, keep_lines: bool) -> Iterator[Summary]:
     """The answer about each of several pickles, as far as each is followed by its marker."""
-    lines = lines_with_offsets(told)
+    lines = lines_with_offsets(answer)
     start = objects = 0
     for size in sizes:
         own: List[str] = []

@@ -16,7 +16,7 @@ from typing import TYPE_CHECKING, Dict, Iterator, List, Optional, Tuple
 from ..blobs import Blob
 from ..containers import Held
 from ..results import Place
-from .ends import tell_file
+from .ends import note_file
 from .values import Values, key_name
 
 if TYPE_CHECKING:
@@ -92,7 +92,7 @@ def look_into_gnu(looker: 'Looker', held: Held) -> bool:
     kind = _GNU[held.blob.read(0, 4)]
     _look(looker, held.blob, held.where, held.depth, _gnu_pairs(held.blob, kind))
     header = held.blob.read(4, kind.header.size)
-    tell_file(looker, held, kind.header.unpack(header)[-1] if len(header) == kind.header.size else None)
+    note_file(looker, held, kind.header.unpack(header)[-1] if len(header) == kind.header.size else None)
     return True
 
 
@@ -137,7 +137,7 @@ def look_into_berkeley(looker: 'Looker', held: Held) -> bool:
     _look(looker, held.blob, held.where, held.depth, _berkeley_pairs(held.blob, order))
     header = held.blob.read(0, _BERKELEY_HEADER)
     size, last = struct.unpack_from(f'{order}I8xI', header, 20) if len(header) == _BERKELEY_HEADER else (0, 0)
-    tell_file(looker, held, (last + 1) * size)
+    note_file(looker, held, (last + 1) * size)
     return True
 
 

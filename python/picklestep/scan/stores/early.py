@@ -1,6 +1,6 @@
 """Finds pickles behind a few bytes where nothing but their opcodes says that they begin: an import and a call, without a sign before them.
 
-From each place a walk goes to its end, also behind long arguments. All walks over the same bytes share one limit, and what is behind it is told.
+From each place a walk goes to its end, also behind long arguments. All walks over the same bytes share one limit, and what is behind it is noted.
 """
 
 from __future__ import annotations

@@ -1,4 +1,4 @@
-"""Where stores that are files end, by their headers, and what is told of such a file as a whole."""
+"""Where stores that are files end, by their headers, and what is noted of such a file as a whole."""
 
 from __future__ import annotations
 
@@ -12,7 +12,7 @@ from ..containers import HDF5, Held
 if TYPE_CHECKING:
     from ..looking import Looker
 
-__all__ = ['end_of_hdf5', 'end_of_sqlite', 'tell_file']
+__all__ = ['end_of_hdf5', 'end_of_sqlite', 'note_file']
 
 _SQLITE_HEADER = struct.Struct('>16sH6xI I60xI')
 _LARGEST_PAGE = 65_536
@@ -22,8 +22,8 @@ _LARGEST_PAGE = 65_536
 _HDF5_VERSIONS = {0: (13, 24, 2), 1: (13, 28, 2), 2: (9, 12, 2), 3: (9, 12, 2)}
 
 
-def tell_file(looker: 'Looker', held: Held, end: Optional[int]) -> None:
-    """Tells where a store is named as a pickle, and where bytes stand behind its end, which are looked at. (Some stores grow by zeros.)"""
+def note_file(looker: 'Looker', held: Held, end: Optional[int]) -> None:
+    """Notes where a store is named as a pickle, and where bytes stand behind its end, which are looked at. (Some stores grow by zeros.)"""
     blob, where = held.blob, held.where
     if any(is_pickle_name(name) for name in held.names):
         looker.note(where, f'its name says that it is a pickle, and it is {held.kind}', missed=True)

@@ -13,7 +13,7 @@ from typing import TYPE_CHECKING, Any, Iterator, List, Set, Tuple
 from ..blobs import Blob
 from ..containers import HDF5, Held
 from ..results import Place
-from .ends import end_of_hdf5, tell_file
+from .ends import end_of_hdf5, note_file
 from .values import Values
 
 if TYPE_CHECKING:
@@ -45,7 +45,7 @@ def begins_late(blob: Blob) -> bool:
 def look_into(looker: 'Looker', held: Held) -> bool:
     """Looks at all attributes and all datasets of bytes."""
     _look(looker, held.blob, held.where, held.depth)
-    tell_file(looker, held, end_of_hdf5(held.blob))
+    note_file(looker, held, end_of_hdf5(held.blob))
     return True
 
 

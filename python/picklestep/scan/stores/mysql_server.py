@@ -1,6 +1,6 @@
 """MySQL and MariaDB: all tables of a database, through PyMySQL. The password is that of the URL, or MYSQL_PWD; `?ssl=true` asks for TLS.
 
-What a view would run is not run: views are told, as are earlier rows, which some tables keep.
+What a view would run is not run: views are noted, as are earlier rows, which some tables keep.
 """
 
 from __future__ import annotations

@@ -1,7 +1,7 @@
 """PostgreSQL: all tables and large objects, through psycopg (3 or 2). Passwords and TLS are those of libpq: the URL, PGPASSWORD, PGSSLMODE and
 the like.
 
-What a view or a foreign table would run is not run: these are told, as are columns of types that are not read.
+What a view or a foreign table would run is not run: these are noted, as are columns of types that are not read.
 """
 
 from __future__ import annotations

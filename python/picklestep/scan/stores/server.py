@@ -107,7 +107,7 @@ def _servers() -> Dict[str, Server]:
 
 
 def _silent() -> Dict[str, str]:
-    """What is told of the servers that are silent."""
+    """Why servers are silent, by their URLs."""
     silent: Dict[str, str] = _held.__dict__.setdefault('silent', {})
     return silent
 
@@ -115,10 +115,10 @@ def _silent() -> Dict[str, str]:
 def _given_up(address: Address, failure: NoServer) -> str:
     """Gives a connection up, and answers why. The next task makes another, unless the server is silent."""
     _servers().pop(address.url, None)
-    told = address.cleaned(str(failure))
+    why = address.cleaned(str(failure))
     if isinstance(failure, IsSilent):
-        _silent()[address.url] = told
-    return told
+        _silent()[address.url] = why
+    return why
 
 
 def ask_again(address: Address) -> None:

@@ -146,13 +146,13 @@ class SqlServer(Server):
         if not asked and self.address.asked:
             raise NoServer('there is no such table with such a column of bytes or text')
         matching = [table for table in asked if _matches(table, wanted.match)]
-        told = _left_out(matching)
+        notes = _left_out(matching)
         for table in matching:
             for rows in self.rows_of(table) if not table.unread else ():
-                yield rows, wanted.sample, told
-                told = ()
-        if told:
-            yield None, wanted.sample, told
+                yield rows, wanted.sample, notes
+                notes = ()
+        if notes:
+            yield None, wanted.sample, notes
 
     def _asked(self, table: Table) -> Optional[Table]:
         """What the URL asks for of a table. None where that is nothing."""
@@ -162,8 +162,8 @@ class SqlServer(Server):
         return replace(table, columns=columns) if is_asked and columns else None
 
     def look(self, values: Values, keys: Tuple[Any, ...]) -> int:
-        rows, most, told = keys
-        for text in told:
+        rows, most, notes = keys
+        for text in notes:
             values.looker.note((), text, missed=True)
         return self._look_at_rows(values, rows, most) if rows is not None else 0
 

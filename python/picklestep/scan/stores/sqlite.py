@@ -1,7 +1,7 @@
 """SQLite files: each value of each table, read through the standard library.
 
 The file is opened read-only and as one that nobody changes, so nothing is written beside it and nothing waits. What its schema would run
-(views, triggers, computed columns, virtual tables) is not touched; views and computed columns are told. Where a write-ahead log is beside it,
+(views, triggers, computed columns, virtual tables) is not touched; views and computed columns are noted. Where a write-ahead log is beside it,
 both are copied into memory.
 """
 
@@ -19,7 +19,7 @@ from typing import TYPE_CHECKING, Any, Dict, Iterator, List, Optional, Tuple
 from ..blobs import Blob, FileBlob
 from ..containers import Held
 from ..results import Place
-from .ends import end_of_sqlite, tell_file
+from .ends import end_of_sqlite, note_file
 from .values import SMALL, Values, not_looked_at
 
 if TYPE_CHECKING:
@@ -46,7 +46,7 @@ _COMPUTED = (2, 3)
 def look_into(looker: 'Looker', held: Held) -> bool:
     """Looks at all values. Where the file is damaged, its bytes are searched too."""
     _look(looker, held.blob, held.where, held.depth)
-    tell_file(looker, held, end_of_sqlite(held.blob))
+    note_file(looker, held, end_of_sqlite(held.blob))
     return True
 
 

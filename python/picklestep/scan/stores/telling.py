@@ -38,7 +38,7 @@ _MAY_BEGIN = bytes(each for each in range(256) if may_begin(each))
 _BEHIND_COLON = re.compile(b':(?=[' + re.escape(_MAY_BEGIN) + b'])')
 _BEGUN = bytes(each in _MAY_BEGIN + b'!' for each in range(256))
 
-# How containers begin that can be as short as what is asked here: those that are opened, and those that are told of short bytes (with the
+# How containers begin that can be as short as what is asked here: those that are opened, and those that are noted of short bytes (with the
 # second byte that they have, or 0 where the sign comes later). Then the last byte of a pickle.
 _MAGICS = [each.magic for each in CONTAINERS if each.magic]
 _BEGINS = re.compile(b'[%b' % b''.join(re.escape(magic[:1]) for magic in _MAGICS) + rb'\x00\x02\x04!(*07ALMOP-Ya\xff]')

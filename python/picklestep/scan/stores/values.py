@@ -145,7 +145,7 @@ class Values:
         # While the program reads, the next values are looked at.
         self._background = ThreadPoolExecutor(1)
         self._asked: List[_Waiting] = []
-        self._told: 'Optional[Future[List[Optional[Summary]]]]' = None
+        self._answers: 'Optional[Future[List[Optional[Summary]]]]' = None
         self._bytes = 0
         # Whether what begins and ends as a pickle is taken for one until the program says that it is none; and what was none.
         self._trusts = True
@@ -241,7 +241,7 @@ class Values:
             raise
 
     def _met(self, limit: LimitMet) -> None:
-        """Tells that a value met a limit. Raises LimitMet where it is one of the whole."""
+        """Notes that a value met a limit. Raises LimitMet where it is one of the whole."""
         self._spend(STEPS)
         self.looker.note(self.looker.at, str(limit), missed=True)
 
@@ -580,13 +580,13 @@ class Values:
             is_whole = [each.depth is None for each in waiting]
             self._asked = waiting
             budget = self._outer
-            self._told = self._background.submit(lambda: list(answers(contents, is_whole, budget, options.lines, options.full)))
+            self._answers = self._background.submit(lambda: list(answers(contents, is_whole, budget, options.lines, options.full)))
 
     def _settle(self) -> None:
-        asked, told = self._asked, self._told
-        self._asked, self._told = [], None
+        asked, future = self._asked, self._answers
+        self._asked, self._answers = [], None
         try:
-            found = told.result() if told is not None else []
+            found = future.result() if future is not None else []
         except LimitMet as limit:
             self.looker.note(asked[0].where, _with_others(limit, len(asked) - 1), missed=True)
             return
@@ -610,7 +610,7 @@ class Values:
             return
         elif answer.is_sure or answer.end.is_stopped or answer.trouble is not None:
             pickle = answer.pickle(each.where, len(each.content))
-            # (Names that are no plain ones are no picklers': whether the rest has their form is told, as of a file.)
+            # (Names that are no plain ones are no picklers': whether the rest has their form is noted, as of a file.)
             if each.guessed or all(is_plain_name(found.name) for found in pickle.imports) or not self._is_kept(each):
                 self.looker.pickles.append(pickle)
             self._found.add(each.value)

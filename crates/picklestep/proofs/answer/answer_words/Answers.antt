@@ -4,6 +4,7 @@ use Rattle.picklestep.proofs.answer.answer_words.Goals as goal
 pub returns-in-Ok : goal.returns-in-Ok
 returns-in-Ok g c = inl (record {
   task = c.in-Ok.task;
+  taken = c.in-Ok.ensures.taken;
   named = c.in-Ok.ensures.named;
   result = c.carry_out-answer.result;
   does = c.carry_out-answer.ensures.does;

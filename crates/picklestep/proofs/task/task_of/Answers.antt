@@ -2,7 +2,7 @@ use Rattle.std.proofs.Common.{◌≡◌, Ok, ap, map, subst, sym}
 use Rattle.std.specs.Prelude.{IfSome}
 use Rattle.clap.specs.Words.{app_of, subcommand_rows_of}
 use Rattle.picklestep.specs.CommandLine.{IsNamed, NamesTask, program}
-use Rattle.picklestep.proofs.Named.{matched, refused_memory, taken_by}
+use Rattle.picklestep.proofs.Named.{faultless, matched, refused_memory, taken_by}
 use Rattle.picklestep.proofs.Taken.{taken_name}
 use Rattle.picklestep.proofs.task.task_of.Goals as goal
 
@@ -11,6 +11,9 @@ returns-in_err-matches-clause-refuses c =
     let same : app_of c.in_ok-command.command ≡ program = c.in_ok-command.ensures in
     λ taken fits. refused_memory c.from_residual-in_err-matches.result _ c.from_residual-in_err-matches.ensures.1
     (c.in_err-matches.ensures.passes (taken_by (app_of c.in_ok-command.command) program (map (λ w. w.now) c.args.words.now) same taken))
+
+pub returns-in-Some-clause-taken : goal.returns-in-Some-clause-taken
+returns-in-Some-clause-taken c = faultless _ _ c.in_ok-command.ensures c.in_ok-matches.ensures.kinds
 
 pub returns-in-Some-clause-named : goal.returns-in-Some-clause-named
 returns-in-Some-clause-named c =
