@@ -114,12 +114,12 @@ def run_all(room: Room, log: Path, status: int, seconds: int, lacks: Path) -> in
     report = Report(is_whole=True)
     begin = tried = time.monotonic()
     count_proofs(report, log, status)
-    report.take(Verdict("", "what the trials need is installed", "; ".join(lacks.read_text("utf-8", "replace").splitlines())))
     if report.failed:
         report.take(Verdict("", "the program", "it is not tried, since rt ci failed"))
     elif not os.access(room.proved, os.X_OK):
         report.take(Verdict("", "the program", "rt ci built none"))
     else:
+        report.take(Verdict("", "what the trials need is installed", "; ".join(lacks.read_text("utf-8", "replace").splitlines())))
         chosen = choose(room, [])
         run_groups([pair for pair in chosen if pair[0].name != MEMORY], report)
         tried = time.monotonic()
