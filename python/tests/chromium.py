@@ -46,6 +46,8 @@ CONTRASTS = '''(() => {
 })()'''
 
 
+# The form of edits has what stands at the place, which is read when the form opens and when its place changes.
+FILLED = "document.querySelector('#edit-form').getAttribute('aria-busy') === 'false'"
 # How much of the line around what has the focus is cut off by what it is in, in pixels, with what that is.
 FOCUS_LINE = '''(() => {
     const each = document.activeElement, style = getComputedStyle(each), box = each.getBoundingClientRect();

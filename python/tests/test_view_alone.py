@@ -23,7 +23,7 @@ from pathlib import Path
 from typing import Any, Dict, Iterator, List, Tuple, Union
 
 import firefox
-from chromium import ACCESSIBILITY, CONTRASTS, FOCUS_LINE, PROGRAM, Browser
+from chromium import ACCESSIBILITY, CONTRASTS, FILLED, FOCUS_LINE, PROGRAM, Browser
 from pickles import REAL, ROOT, known_opcodes, real_pickles
 from picklestep.python_source import source
 from picklestep.view.document import Document
@@ -352,7 +352,7 @@ class Alone(Driven):
         self.give(self.file('a.pickle', SYSTEM))
         self.browser.js('select(2)')
         self.browser.key('e')
-        self.browser.wait("document.querySelector('#edit-form').getAttribute('aria-busy') === 'false'")
+        self.browser.wait(FILLED)
         self.assertEqual(self.browser.js("document.querySelector('#edit-argument').value"), "'id'")
         self.browser.js("document.querySelector('#edit-argument').select()")
         self.browser.type("'caf\\xe9'")
@@ -678,6 +678,7 @@ class Alone(Driven):
         self.browser.key('e')
         self.browser.wait("document.querySelector('#edit-dialog').open")
         for field, value in (('what', 'insert'), ('place', '1'), ('name', 'BINBYTES'), ('argument', f"b'{'x' * count}'")):
+            self.browser.wait(FILLED)
             self.browser.js(f"(() => {{ const field = document.querySelector('#edit-{field}'); field.value = {json.dumps(value)};"
                             "field.dispatchEvent(new Event('change')); })()")
         self.browser.click('#edit-form button[type=submit]')

@@ -17,7 +17,7 @@ from pathlib import Path
 from typing import Any, List
 
 import picklestep
-from chromium import CONTRASTS, PROGRAM, Browser
+from chromium import CONTRASTS, FILLED, PROGRAM, Browser
 from picklestep import Ref, Session
 from picklestep.view import main
 from picklestep.view.command import _leading_to
@@ -29,7 +29,6 @@ SYSTEM = b'cposix\nsystem\n(X\x02\x00\x00\x00idtR.'
 HOSTILE_NAME = '</script><img src=x onerror="document.title=1">'
 HOSTILE = b'c' + HOSTILE_NAME.encode('ascii') + b'\n<b>&amp;\n\x8c\x1c<img src=x onerror=alert(1)>\x85R.'
 READY = "document.querySelector('#where')?.textContent.startsWith('at ')"
-FILLED = "document.querySelector('#edit-form').getAttribute('aria-busy') === 'false'"
 
 
 @unittest.skipIf(PROGRAM is None, 'there is no chromium')
