@@ -8,15 +8,18 @@ from __future__ import annotations
 
 import pathlib
 import sys
+import threading
 from collections.abc import Callable, Iterator, Sequence
 from dataclasses import dataclass, field
-from typing import Any, Optional
+from typing import Any, Optional, TypeVar
 
 import antt
 from antt_words import Function, Made, Value
 from recorded import CODES, TAKING, Plan
 
 ROOT = pathlib.Path(__file__).resolve().parent.parent
+STACK = 256 << 20
+T = TypeVar("T")
 LOADER = "Rattle.pickle_loader.specs"
 TABLE = "Rattle.pickle_ops.specs.Table"
 TYPES = {"str": "PyStr", "tuple": "PyTuple", "dict": "PyDict", "buffer": "PyOther", "array": "PyOther", "thing": "PyOther"}
@@ -126,6 +129,19 @@ class Run:
     acts: Sequence[Made] = ()
     stops: list[tuple[Made, dict[str, Value]]] = field(default_factory=list)
     opcodes: int = 0
+
+
+def with_deep_stack(work: Callable[[], T]) -> T:
+    """What this gives. Definitions call themselves once for each byte of a line. Ends the script where an error was raised."""
+    found: list[T] = []
+    sys.setrecursionlimit(1_000_000)
+    threading.stack_size(STACK)
+    thread = threading.Thread(target=lambda: found.append(work()))
+    thread.start()
+    thread.join()
+    if not found:
+        sys.exit(1)
+    return found[0]
 
 
 def program_of(crates: pathlib.Path) -> antt.Program:

@@ -25,7 +25,7 @@ TABLE = "crates/pickle_ops/src/opcode.rt"
 RECORD = re.compile(r"^ +\w+ +\{ (b'.'.*|0x.*) \}$", re.MULTILINE)
 COLUMN = re.compile(r"""b'.'|b?"[^"]*"|\([^)]*\)|[^\s"(]+""")
 
-# The form of each argument of pickletools. The lines of GET and PUT are digits here, and quotes are asked for in STRING alone.
+# The form of each argument of pickletools, as the enum `Form` of the table names it. The lines of GET and PUT are digits here, and quotes are asked for in STRING alone.
 FORMS = {
     "uint1": "U1", "uint2": "U2", "uint4": "U4", "uint8": "U8", "int4": "S4", "float8": "R8", "long1": "B1", "long4": "Bs4", "string1": "B1",
     "string4": "Bs4", "bytes1": "B1", "bytes4": "B4", "bytes8": "B8", "bytearray8": "B8", "unicodestring1": "B1", "unicodestring4": "B4",

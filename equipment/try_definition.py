@@ -20,13 +20,12 @@ import pathlib
 import resource
 import subprocess
 import sys
-import threading
 from collections.abc import Iterator, Sequence
 from dataclasses import dataclass, field
 
 import load_cases
 import loads
-from definition import ROOT, Definition, Run
+from definition import ROOT, Definition, Run, with_deep_stack
 from likeness import verdict
 from load_worker import MOST_MEMORY
 from recorded import Plan, Record, load, register_extensions
@@ -35,7 +34,6 @@ from trials.trial import Noted, Trial
 SEED = 1
 EACH = 500
 MOST_SHOWN = 3
-STACK = 256 << 20
 ENCODINGS = ("latin-1", "latin-1", "ASCII", "bytes")
 # The unpicklers in C, and how they read frames.
 READERS = {"C from bytes": "Ignored", "C from BytesIO": "Buffered", "C from a buffered file": "Ignored"}
@@ -128,16 +126,8 @@ def main() -> None:
         given += [row.data for row in loads.oddities()]
     resource.setrlimit(resource.RLIMIT_AS, (MOST_MEMORY, MOST_MEMORY))
     register_extensions()
-    found: list[Tally] = []
-    # (definitions call themselves once for each byte of a line)
-    sys.setrecursionlimit(1_000_000)
-    threading.stack_size(STACK)
-    thread = threading.Thread(target=lambda: found.append(try_all(Definition(words.crates), words.seed, words.count, given)))
-    thread.start()
-    thread.join()
-    if not found:
-        sys.exit(1)
-    print(json.dumps({**vars(found[0]), "different": sorted(found[0].different, key=len)}))
+    found = with_deep_stack(lambda: try_all(Definition(words.crates), words.seed, words.count, given))
+    print(json.dumps({**vars(found), "different": sorted(found.different, key=len)}))
 
 
 if __name__ == "__main__":

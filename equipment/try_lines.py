@@ -18,14 +18,13 @@ import pathlib
 import struct
 import subprocess
 import sys
-import threading
 from collections.abc import Callable, Iterator, Sequence
 from dataclasses import dataclass, field
 from types import SimpleNamespace
 from typing import Any, Union
 
 from antt_words import NONE, Made, Value, some
-from definition import ROOT, program_of, short
+from definition import ROOT, program_of, short, with_deep_stack
 
 sys.path.append(str(ROOT / "python"))
 
@@ -61,7 +60,6 @@ SCRIPT = "run\nstack\nmemo\n"
 # The smallest real pickles.
 MOST = 60
 MOST_SHOWN = 3
-STACK = 256 << 20
 
 
 @dataclass(frozen=True)
@@ -117,7 +115,8 @@ class Lines:
             return two_of(self.words.texts_of(arg))
         if not self.words.has_payload(form):
             return None
-        return float_of(arg) if short(form) == "R8" else bytes(self.words.payload(form, arg))
+        is_float = text_of(self.words.name_of(operation["opcode"])) == "BINFLOAT"
+        return float_of(arg) if is_float else bytes(self.words.payload(form, arg))
 
     def of_opcode(self, operation: dict[str, Value], state: dict[str, Value], offsets: Sequence[int]) -> Line:
         """The line of an opcode on the state before it. `offsets` are its own and those before it."""
@@ -259,17 +258,9 @@ def main() -> None:
     parser.add_argument("pickles", type=pathlib.Path, nargs="*")
     words = parser.parse_args()
     given = [path.read_bytes() for path in words.pickles]
-    found: list[Tally] = []
-    # (definitions call themselves once for each byte of a line)
-    sys.setrecursionlimit(1_000_000)
-    threading.stack_size(STACK)
     program = Program(words.program, words.folder / "tried.pickle")
-    thread = threading.Thread(target=lambda: found.append(try_all(words.crates, program, given)))
-    thread.start()
-    thread.join()
-    if not found:
-        sys.exit(1)
-    print(json.dumps({**vars(found[0]), "different": sorted(found[0].different, key=len)}))
+    found = with_deep_stack(lambda: try_all(words.crates, program, given))
+    print(json.dumps({**vars(found), "different": sorted(found.different, key=len)}))
 
 
 if __name__ == "__main__":
