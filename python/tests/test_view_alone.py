@@ -666,6 +666,13 @@ class Alone(Driven):
         self.give(self.file('a.pickle', SYSTEM))
         self.assertEqual((self.texts('#rest'), self.texts('#where')), ([''], ['at 0 of 6, offset 0, end stopped']))
 
+    def test_what_is_typed_before_the_form_is_filled(self) -> None:
+        self.load()
+        self.give(self.file('a.pickle', SYSTEM))
+        self.browser.js("openEdit(); document.querySelector('#edit-name').value = 'POP'")
+        self.browser.wait(FILLED)
+        self.assertEqual(self.browser.js("document.querySelector('#edit-name').value"), 'POP')
+
     def limit_memory(self, pages: int) -> None:
         """Gives the module no more than so many pages of 65,536 bytes."""
         module = base64.b64encode(with_memory((PAGE.parent / 'picklestep.wasm').read_bytes(), pages)).decode('ascii')

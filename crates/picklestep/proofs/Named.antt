@@ -30,22 +30,6 @@ used_is f g (Some x) a b p q =
     let second : b ≡ g x = cc in
     rw (first, second) refl
 
--- what was matched after the subcommand
-behind : Matches → List Row
-behind None = []
-behind (Some p) = p.1
-
-same_rows : (matches : Matches) (name want : Text) (rows found : List Row) → matches ≡ Some (name, rows) → matches ≡ Some (want, found) → found ≡ rows
-unfolding behind
-same_rows matches name want rows found p q = sym (ap behind q) ∙ ap behind p
-
--- ---- why there is no task
-
-pub no_file : (matches : Matches) (name : Text) (rows : List Row) → matches ≡ Some (name, rows) → None ≡ first_of (codes "FILE") rows → NamesTask matches → ⊥
-no_file matches name rows p none t =
-    let bad : None ≡ Some t.file = none ∙ ap (first_of (codes "FILE")) (sym (same_rows matches name t.name rows t.rows p t.used)) ∙ t.file_is in
-    absurd cc
-
 -- ---- a window
 
 pub no_text : {E : Type 0} (gives : List ℕ → Result ℕ E → Type 0) (o : Option Text) (r : Result (Option ℕ) E)

@@ -102,7 +102,7 @@ IsWindow (Some text) (Some n) = IsCount text n
 IsWindow None (Some n) = ⊥
 IsWindow (Some text) None = ⊥
 
--- with this FILE, and with `--many` and with `--unframed` or not
+-- the words have this FILE, and `--many` and `--unframed` where the input says so
 pub record HasInput (rows : List Row) (input : GivenFile) : Type 0 where
   pub file_is : first_of (codes "FILE") rows ≡ Some (string_bytes input.file)
   pub many_is : IsTrue input.many → first_of (codes "many") rows ≡ Some (codes "true")

@@ -5,7 +5,7 @@ ghost use Rattle.std.specs.String.{string_bytes};
 ghost use Rattle.picklestep.specs.CommandLine.{IsMemory};
 ghost use Rattle.picklestep.specs.Device.{device_of};
 ghost use Rattle.picklestep.specs.Files.{gives, reports};
-ghost use Rattle.picklestep.specs.Program.{stop_line, no_answer, IsReported, Closes, AnswersWords, Answers};
+ghost use Rattle.picklestep.specs.Program.{error_line, no_answer, IsReported, Closes, AnswersWords, Answers};
 
 use crate::carry_out::carry_out;
 use crate::files::Files;
@@ -21,7 +21,7 @@ const NO_ANSWER: u8 = 2;
 
 /// The one line of a stop.
 fn line_of(stop: Stop) -> &'static str
-    ensures { result.now ≡ stop_line stop }
+    ensures { result.now ≡ error_line stop }
 {
     match stop {
         Stop::Read => "picklestep: cannot read\n",

@@ -241,7 +241,7 @@ fn why_none(alloc: Global, matches: &ArgMatches<'_>) -> Result<String, AllocErro
 }
 
 /// The file that a subcommand is done on, and how it is read; no answer where there is none.
-fn input_of(alloc: Global, found: &ArgMatches<'_>) -> Result<Option<GivenFile>, AllocError>
+fn given_input(alloc: Global, found: &ArgMatches<'_>) -> Result<Option<GivenFile>, AllocError>
     ensures some { IfOk result (λ r. IfSome r (HasInput (rows_of (found_of found.now)))) }
     ensures none { result ≡ Ok None → None ≡ first_of (codes "FILE") (rows_of (found_of found.now)) }
 {
@@ -266,7 +266,7 @@ fn named(alloc: Global, matches: &ArgMatches<'_>) -> Result<Option<Task>, AllocE
     let Some((name, found)) = matches.subcommand() else {
         return Ok(None);
     };
-    let Some(input) = input_of(alloc, found)? else {
+    let Some(input) = given_input(alloc, found)? else {
         return Ok(None);
     };
     if name == "list" {

@@ -116,12 +116,14 @@ async function openEdit(what) {
   await fillEdit();
 }
 
-// Begins with the opcode and the value that stand at the place.
+// Begins with the opcode and the value that stand at the place. What was typed while these were asked for stays.
 async function fillEdit() {
+  const fields = () => ['place', 'name', 'as', 'argument'].map((field) => by(`edit-${field}`).value).join('\n'), before = fields();
   const place = Number(by('edit-place').value), line = place < view.state.places ? lineAt(place) : undefined;
   by('edit-form').setAttribute('aria-busy', 'true');
   const answer = line ? await ask('argument', { place }) : {};
   by('edit-form').setAttribute('aria-busy', 'false');
+  if (fields() !== before) return;
   by('edit-name').value = line ? line[2] : '';
   const form = formOf(by('edit-name').value), typed = form && typeof answer.raw === 'string' ? typedOf(form, answer.raw) : '';
   by('edit-as').value = typed === null ? 'hex' : 'value';

@@ -1,7 +1,7 @@
 use Rattle.std.proofs.Common.{sym, ◌∙◌, ap, Some, codes}
 use Rattle.clap.proofs.WalkLemmas.{first_value-rows}
 use Rattle.clap.specs.Words.{found_of}
-use Rattle.picklestep.proofs.task.input_of.Goals as goal
+use Rattle.picklestep.proofs.task.given_input.Goals as goal
 
 pub returns-in_default-clause-none : goal.returns-in_default-clause-none
 returns-in_default-clause-none c = λ is. c.in_default.ensures ∙ first_value-rows (found_of c.args.found.now) (codes "FILE")
