@@ -96,6 +96,19 @@ class Asked:
         return [*self.words, str(self.file), *(["--save", str(saved)] if self.saves else [])]
 
 
+def in_turn(runs: list[Asked]) -> list[Asked]:
+    """Of each file each word once, with its options in turn. (An emulator takes twenty times as long as a processor.)"""
+    kinds: dict[tuple[Path, str], list[Asked]] = {}
+    for asked in runs:
+        kinds.setdefault((asked.file, asked.words[0]), []).append(asked)
+    turns: Counter[str] = Counter()
+    chosen = []
+    for (_, word), same in kinds.items():
+        chosen.append(same[turns[word] % len(same)])
+        turns[word] += 1
+    return chosen
+
+
 def taken(file: Path) -> bytes:
     """The content of a file that is there no more, or nothing."""
     content = file.read_bytes() if file.exists() else b""
@@ -346,7 +359,7 @@ def on_plain(machines: Machines) -> Noted:
 
 def in_arm_root(machines: Machines) -> Noted:
     root = machines.arm_root
-    return machines.compare_all(root.start(machines.arm()[0], "/picklestep"), machines.real)
+    return machines.compare_all(root.start(machines.arm()[0], "/picklestep"), in_turn(machines.real))
 
 
 def in_node_root(machines: Machines) -> Noted:
@@ -450,7 +463,9 @@ def compared(machines: Machines, way: str, kind: str) -> Noted:
     runs: list[Asked] = getattr(machines, kind)
     if way == "module":
         return machines.compare_module(runs)
-    return machines.compare_all(machines.arm() if way == "arm" else [str(machines.dist / STATIC)], runs)
+    if way == "arm":
+        return machines.compare_all(machines.arm(), in_turn(runs))
+    return machines.compare_all([str(machines.dist / STATIC)], runs)
 
 
 Row = tuple[str, Callable[[Machines], "str | Noted"]]
