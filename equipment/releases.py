@@ -540,6 +540,25 @@ def installs(releases: Releases) -> str:
     return ""
 
 
+def installs_for_all(releases: Releases) -> str:
+    """Others can start it, whatever the umask is. What an interrupted run left goes with the next one."""
+    prefix = releases.folder / "for all"
+    run = releases.run("sh", "-c", 'umask 077 && exec ./install "$1"', "sh", str(prefix))
+    modes = {path: path.stat().st_mode & 0o077 for path in prefix.rglob("*")}
+    closed = [str(path) for path, mode in modes.items() if mode != (0o055 if path.is_dir() or path.stat().st_mode & 0o100 else 0o044)]
+    if run.status != 0 or run.errors or not modes or closed:
+        return f"status {run.status}, errors {run.errors[:200]!r}, closed to others {closed}"
+    package = prefix / "lib/picklestep"
+    for words, wanted in (([], installed_files(releases)), (["--remove"], [])):
+        for ending in ("new", "old"):
+            shutil.copytree(package, package.with_name(f"picklestep.{ending}"))
+        (prefix / f"{PAGES[0]}.new").touch()
+        run = releases.run("./install", *words, str(prefix))
+        if run.status != 0 or run.errors or files_below(prefix) != wanted:
+            return f"{words}: status {run.status}, errors {run.errors[:200]!r}, and there is {files_below(prefix)}"
+    return ""
+
+
 def installs_at_home(releases: Releases) -> str:
     home = releases.folder / "home"
     home.mkdir()
@@ -687,6 +706,7 @@ TRIED: list[tuple[str, Callable[[Releases], str]]] = [
     ("a release from a built program", release_again),
     ("installed and taken away", installs),
     ("installed at home", installs_at_home),
+    ("installed for all users", installs_for_all),
     ("the module, installed", installs_module),
     ("the manual pages", manual),
     ("the completions", completions),
