@@ -1,10 +1,10 @@
 """Runs the tests of the package over the module in Node, in interpreters that hide what another system has not (python/tests/lesser).
 
-    python3 -B equipment/over_node.py [--system windows | macos] [CLASS..]
+    python3 -B equipment/over_node.py [--system windows | macos] [--alone] [CLASS..]
 
-Without classes all of them. Each class is an interpreter of its own, at most four of them at once; each prints how many of its tests passed, were
-skipped and failed, and its processor time. What cannot run there is in `NOT_THERE`, with its reason. The gate runs all others but the classes
-in `DEAR`. Status 1 where a test failed.
+Without classes all of them. Each module (or each class `--alone`, or that is named) is an interpreter of its own, at most four at once; each prints how
+many of its tests passed, were skipped and failed, and its processor time. What cannot run there is in `NOT_THERE`, with its reason. The gate runs
+all others but the classes in `DEAR`. Status 1 where a test failed.
 """
 
 from __future__ import annotations
@@ -55,7 +55,7 @@ SECONDS = 7200
 
 @dataclass(frozen=True)
 class Tried:
-    """What became of the tests of a class, and the processor time that they took."""
+    """What became of the tests of a module or a class, and the processor time that they took."""
 
     name: str
     passed: int
@@ -72,6 +72,7 @@ def prepare(interpreter: Path) -> None:
     (packages,) = interpreter.parent.parent.glob("lib/python*/site-packages")
     shutil.copy(ROOT / "python/tests/lesser/lesser_system.py", packages)
     (packages / "lesser_system.pth").write_text("import lesser_system\n")
+    subprocess.run([str(interpreter), "-m", "compileall", "-q", str(packages / "lesser_system.py")], stdout=subprocess.DEVNULL, check=True)
     (interpreter.parent / "node.exe").symlink_to(str(shutil.which("node")))
 
 
@@ -92,10 +93,11 @@ def environment(interpreter: Path, system: str) -> dict[str, str]:
     return {**own_environment(), "PYTHONDONTWRITEBYTECODE": "1", "PYTHONPATH": str(ROOT / "python/tests"), "PATH": path, "PICKLESTEP_LESSER": system}
 
 
-def run_class(interpreter: Path, system: str, name: str, folder: Path) -> Tried:
+def run_group(interpreter: Path, system: str, name: str, names: list[str], folder: Path) -> Tried:
+    """Runs classes of one module in one interpreter."""
     lines, log, skipped = (folder / f"{name}.{kind}" for kind in ("lines", "log", "skipped"))
     skipped.write_text("".join(f"{test}\t{reason}\n" for test, reason in NOT_THERE.items()))
-    words = [str(interpreter), str(ROOT / "equipment/packages.py"), "--run", str(lines), "--skip", str(skipped), f"python {name}"]
+    words = [str(interpreter), str(ROOT / "equipment/packages.py"), "--run", str(lines), "--skip", str(skipped), *(f"python {one}" for one in names)]
     with open(log, "wb") as out:
         process = subprocess.Popen(words, env=environment(interpreter, system), cwd=folder, stdin=subprocess.DEVNULL, stdout=out, stderr=out)
     status, seconds = ended(process)
@@ -117,10 +119,13 @@ def ended(process: subprocess.Popen[bytes]) -> tuple[int, float]:
     return process.returncode, used.ru_utime + used.ru_stime
 
 
-def run_classes(interpreter: Path, system: str, names: list[str], folder: Path) -> Iterator[Tried]:
-    """What became of each, as they end."""
+def run_classes(interpreter: Path, system: str, names: list[str], folder: Path, alone: bool = False) -> Iterator[Tried]:
+    """What became of the classes, of each module or of each class `alone`, as they end."""
+    groups: dict[str, list[str]] = {}
+    for name in names:
+        groups.setdefault(name if alone else name.split(".")[0], []).append(name)
     with ThreadPoolExecutor(AT_ONCE) as pool:
-        yield from pool.map(lambda name: run_class(interpreter, system, name, folder), names)
+        yield from pool.map(lambda group: run_group(interpreter, system, *group, folder), groups.items())
 
 
 def main() -> int:
@@ -128,12 +133,13 @@ def main() -> int:
     parser = argparse.ArgumentParser(description="runs the tests of the package over the module in Node")
     parser.add_argument("--system", choices=("windows", "macos"), default="windows")
     parser.add_argument("names", nargs="*", metavar="CLASS")
+    parser.add_argument("--alone", action="store_true", help="each class in an interpreter of its own")
     words = parser.parse_args()
     with tempfile.TemporaryDirectory() as name:
         folder = Path(name)
         interpreter = Path(wheels.Wheels(ROOT, ROOT / wheels.RELEASED, folder).lesser())
         failed = 0
-        for tried in run_classes(interpreter, words.system, words.names or classes(interpreter), folder):
+        for tried in run_classes(interpreter, words.system, words.names or classes(interpreter), folder, bool(words.names) or words.alone):
             print(tried, *tried.faults, sep="\n    ", flush=True)
             failed += len(tried.faults)
     return 1 if failed else 0
