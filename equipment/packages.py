@@ -98,12 +98,12 @@ def run_tests(lines: str, names: List[str], skipped: Optional[Dict[str, str]] = 
 
 
 def _loaded(modules: Set[str]) -> unittest.TestSuite:
-    """The tests of these modules, or all where none is named (to read all files takes longer than most tests). What cannot be read is known by a
-    name that is none of a module here."""
-    tests = str(SOURCES / 'tests')
-    if not modules or 'unittest' in modules:
-        return unittest.defaultTestLoader.discover(tests)
-    sys.path.insert(0, tests)
+    """The tests of these modules (to read all files takes longer than most tests). All where none is named, or one that is no file of tests:
+    examples have the names of modules of the package, and what cannot be read has that of one of Python."""
+    tests = SOURCES / 'tests'
+    if not modules or not all((tests / f'{module}.py').is_file() for module in modules):
+        return unittest.defaultTestLoader.discover(str(tests))
+    sys.path.insert(0, str(tests))
     return unittest.defaultTestLoader.loadTestsFromNames(sorted(modules))
 
 
