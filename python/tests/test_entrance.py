@@ -11,8 +11,8 @@ from pathlib import Path
 from typing import Dict, List, Set
 
 import picklestep
-from picklestep.place import find_program
-from pickles import ROOT
+from picklestep.place import find_program, is_module
+from pickles import ROOT, chosen
 from scan_support import HARMLESS, HOSTILE, PYTHON, ScanCase, environment
 
 PACKAGE = Path(picklestep.__file__).resolve().parent
@@ -27,7 +27,7 @@ def ways() -> Dict[str, List[str]]:
     of_pip = Path(sys.executable).with_name('picklestep')
     if of_pip.is_file():
         found['pip'] = [str(of_pip)]
-    if (ROOT / 'picklestep').is_file():
+    if (ROOT / 'picklestep').is_file() and not is_module(find_program()):  # (which starts the program of this machine)
         found['clone'] = [str(ROOT / 'picklestep')]
     return found
 
@@ -64,7 +64,7 @@ class Words(EntranceCase):
         for name in ('-a.pkl', '--no-known', '-'):
             self.file(name, HOSTILE)
         self.file('b.pkl', HARMLESS)
-        for way, entrance in ways().items():
+        for way, entrance in chosen(ways().items(), 1):
             for words in (['scan', '--brief', '--', 'b.pkl', '-a.pkl'], ['scan', '--brief', '--', '-a.pkl', '--no-known'],
                           ['--', '--no-known'], ['--no-known'], ['-a.pkl', 'b.pkl', '--brief'], ['scan', '--', '-'],
                           ['scan', '--write-allow', 'used', 'b.pkl', '--', '-a.pkl'], ['diff', '--', '-a.pkl', 'b.pkl'],
@@ -80,7 +80,7 @@ class Words(EntranceCase):
         self.assertEqual(sorted(path.name for path in self.folder.iterdir()), sorted(['-', '--no-known', '-a.pkl', 'b.pkl', 'used']))
 
     def test_help(self) -> None:
-        for entrance in ways().values():
+        for entrance in chosen(ways().values(), 1):
             for words in (['--help'], ['-h'], ['calls', '-h'], *([word, '--help'] for word in WORDS)):
                 run = self.start([*entrance, *words])
                 self.assertEqual((run.returncode, run.stderr), (0, ''), words)
@@ -158,7 +158,7 @@ class Streams(EntranceCase):
                         self.assertEqual(self.in_shell('-m', words + end), (2, '', f'picklestep: cannot write: {why}\n'))
 
     def test_closed_descriptors(self) -> None:
-        for way in ways():
+        for way in chosen(ways(), 1):
             with self.subTest(way):
                 self.assertEqual(self.in_shell(way, 'shell a.pkl <&-'), (2, '', 'picklestep: cannot read standard input: Bad file descriptor\n'))
                 self.assertEqual(self.in_shell(way, 'shell a.pkl <script >&- 2>&-'), (2, '', ''))

@@ -48,14 +48,14 @@ class Answers(unittest.TestCase):
 
     def test_real_pickles(self) -> None:
         self.assertGreater(len(PICKLES), 150)
-        for path, words in chosen(itertools.product(PICKLES, WORDS), 80):
+        for path, words in chosen(itertools.product(PICKLES, WORDS), 25):
             with self.subTest(path.name, words=words):
                 wanted = run_program([words[0], str(path), *words[1:]])
                 self.assertEqual(library.answer(words, path.read_bytes()), wanted)
 
     def test_random_changes(self) -> None:
         chance = random.Random(7)
-        for _ in chosen(range(300), 40):
+        for _ in chosen(range(300), 12):
             content = bytearray(chance.choice(PICKLES).read_bytes()[:chance.randrange(2, 400)])
             for _ in range(chance.randrange(4)):
                 content[chance.randrange(len(content))] = chance.randrange(256)
@@ -65,7 +65,7 @@ class Answers(unittest.TestCase):
     def test_what_edits_leave(self) -> None:
         """As the program answers of the bytes that it saves after the same lines."""
         script = b'insert 0 GLOBAL 6f730a6765746377640a\ngoto 1\nstep\ninsert 2 NONE\nundo\nnonsense\ndelete 3\nframe 2 2\nrun\n'
-        for path, modes in chosen(itertools.product(PICKLES[::5], MODES), 5):
+        for path, modes in chosen(itertools.product(PICKLES[::5], MODES), 2):
             saved = self.saved(path, modes, script)
             for words in [['list', *modes], ['objects', *modes], *READINGS]:
                 with self.subTest(path.name, words=words, modes=modes):

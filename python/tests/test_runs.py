@@ -27,7 +27,7 @@ from picklestep import place
 from picklestep import program as running
 from picklestep.program import Process, find_program, seconds_of_programs, time_to_wait
 from picklestep.sources import Input, OwnFile
-from pickles import LIST
+from pickles import LIST, chosen
 
 PACKAGE = Path(picklestep.__file__).resolve().parent.parent
 MB = 1 << 20
@@ -184,7 +184,8 @@ class Errors(LeavesNothing):
                 ask(data, memory=64 * MB)
             self.assertEqual((caught.exception.words, caught.exception.status), ('out of memory', 2))
         self.assertEqual(len(picklestep.objects(b'N.', memory=64 * MB)), 1)
-        for size in (1, MB // 2, MB, MB + 1, 5 * MB // 4, 2 * MB, 3 * MB, *range(3_100 << 10, 3_160 << 10, 4 << 10)):
+        sizes = (1, MB // 2, MB, MB + 1, 5 * MB // 4, 2 * MB, 3 * MB, *range(3_100 << 10, 3_160 << 10, 4 << 10))
+        for size in chosen(sizes, 6):
             for ask in (picklestep.calls, picklestep.listing, Session):
                 with self.subTest(size, ask=ask):
                     try:

@@ -89,7 +89,7 @@ def _without_folders(function: Any) -> Any:
 
 def _refuse_open(path: Any) -> None:
     """Refuses, as Windows does, to replace or to remove a file that this process has open."""
-    if any(os.path.realpath(f'/proc/self/fd/{file}') == os.path.realpath(path) for file in os.listdir('/proc/self/fd')):
+    if os.path.isfile(path) and any(os.path.realpath(f'/proc/self/fd/{file}') == os.path.realpath(path) for file in os.listdir('/proc/self/fd')):
         raise PermissionError(13, 'it is open', path)
 
 
