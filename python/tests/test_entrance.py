@@ -22,12 +22,12 @@ MARK = "open(__file__.rpartition('/')[0] + '/imported', 'a').write(__name__ + '\
 
 
 def ways() -> Dict[str, List[str]]:
-    """How it is started: by `python -m`, as pip's command, and as in a clone."""
+    """How it is started: by `python -m`, as pip's command, and as in a clone (which starts the program of this machine, and no module)."""
     found = {'-m': [sys.executable, '-m', 'picklestep'], '-I -m': [sys.executable, '-I', str(PACKAGE / 'entrance.py')]}
     of_pip = Path(sys.executable).with_name('picklestep')
     if of_pip.is_file():
         found['pip'] = [str(of_pip)]
-    if (ROOT / 'picklestep').is_file() and not is_module(find_program()):  # (which starts the program of this machine)
+    if (ROOT / 'picklestep').is_file() and not is_module(find_program()):
         found['clone'] = [str(ROOT / 'picklestep')]
     return found
 
@@ -47,14 +47,14 @@ class Words(EntranceCase):
         self.file('a.pkl', HOSTILE)
         for words in (['list', 'a.pkl'], ['objects', '--many', 'a.pkl'], ['calls', 'none.pkl'], ['debug', '--window', '0', 'a.pkl']):
             alone = self.start([find_program(), *words])
-            for way, entrance in ways().items():
+            for way, entrance in chosen(ways().items(), 1):
                 run = self.start([*entrance, *words])
                 self.assertEqual((run.returncode, run.stdout, run.stderr), (alone.returncode, alone.stdout, alone.stderr), (way, words))
 
     def test_a_file_is_scanned(self) -> None:
         self.file('a.pkl', HOSTILE)
         self.file('list', HARMLESS)
-        for way, entrance in ways().items():
+        for way, entrance in chosen(ways().items(), 1):
             run, scan = self.start([*entrance, 'a.pkl', '--brief']), self.start([*entrance, 'scan', 'a.pkl', '--brief'])
             self.assertEqual((run.returncode, run.stdout, run.stderr), (1, scan.stdout, ''), way)
             self.assertIn("! a.pkl: call posix.system once, first at 23: call 'posix' 'system' ('id') as #3\n", run.stdout)
