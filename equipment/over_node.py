@@ -1,10 +1,10 @@
 """Runs the tests of the package over the module in Node, in interpreters that hide what another system has not (python/tests/lesser).
 
-    python3 -B equipment/over_node.py [--system windows | macos] [CLASS..]
+    python3 -B equipment/over_node.py [--system windows | macos] [--alone] [--gate] [CLASS..]
 
-Without classes all of them. Each class is an interpreter of its own, at most four of them at once; each prints how many of its tests passed, were
-skipped and failed, and its processor time. What cannot run there is in `NOT_THERE`, with its reason. The gate runs all others but the classes
-in `DEAR`. Status 1 where a test failed.
+Without classes all of them. Each module (or each class `--alone`, or that is named) is an interpreter of its own, at most four at once; each
+prints how many of its tests passed, were skipped and failed, and its processor time. What cannot run there is in `NOT_THERE`, with its reason. The
+gate runs the others but for `DEAR`, and so does this with `--gate`. Status 1 where a test failed.
 """
 
 from __future__ import annotations
@@ -25,6 +25,8 @@ from packages import ROOT, own_environment
 
 # Beginnings of names of tests.
 NOT_THERE = {
+    "test_entrance.Streams": "they are opened and closed by a shell of POSIX",
+    "test_gate.Files": "a clone starts the program of Linux",
     "test_library.InProcess.test_a_small_pickle_takes_microseconds": "the speed is that of the native library",
     "test_other_systems": "it starts such interpreters itself",
     "test_runs.Errors.test_the_newer_program_of_a_source_tree": "the program is that of Linux",
@@ -39,6 +41,11 @@ NOT_THERE = {
     "test_stores_forms.Hdf5.test_memory_is_bounded": "Windows has no such limit",
     "test_stores_changes": "servers of Linux are started and stopped by signals",
     "test_stores_columns": "servers of Linux are started",
+    "test_stores_docs.Examples.test_memcached": "servers of Linux are started",
+    "test_stores_docs.Examples.test_mysql": "servers of Linux are started",
+    "test_stores_docs.Examples.test_postgresql": "servers of Linux are started",
+    "test_stores_docs.Examples.test_redis": "servers of Linux are started",
+    "test_stores_files.SqliteFiles.test_copies_have_no_names": "Windows keeps the name of an open file",
     "test_stores_servers": "servers of Linux are started",
     "test_stores_tls": "servers of Linux are started",
     "test_stores_vanish": "servers of Linux are started",
@@ -46,8 +53,50 @@ NOT_THERE = {
     "test_view_alone": "the page is a browser's, and asks no program",
     "test_view_browser": "the page is a browser's; what it asks is tried by test_view",
 }
-# Classes that the gate leaves out, with the processor seconds that they take.
-DEAR = {"test_scan_runs.Cluster": 38, "test_shell.AtATerminal": 38, "test_stores_files.Bytes": 110, "test_stores_files.Libraries": 33}
+# Beginnings of what the gate leaves out, with the processor seconds that it takes: rules of Python alone, which are the same on each machine
+# where the answers are (others try that), and terminals and clusters, which Windows has not.
+DEAR = {
+    "test_answers.Parts": 7,
+    "test_answers.RealPickles": 7,
+    "test_closing.ClosingLines.test_real_pickles": 13,
+    "test_compare": 16,
+    "test_known": 4,
+    "test_library.Scan.test_what_takes_more_memory_is_asked_of_the_program": 8,
+    "test_lines": 2,
+    "test_mending.Crooked.test_many_open_marks": 4,
+    "test_mending.Crooked.test_several_pickles": 17,
+    "test_mending.Cuts": 20,
+    "test_reaches": 2,
+    "test_renames": 41,
+    "test_runs.Answers": 4,
+    "test_runs.Errors.test_many_open_marks": 6,
+    "test_scan.Containers.test_long_lines": 27,
+    "test_scan_arrays": 12,
+    "test_scan_gate.Evasions": 9,
+    "test_scan_gate.Whole": 10,
+    "test_scan_honest": 19,
+    "test_scan_hostile.Bombs.test_honest_files_are_read_once": 7,
+    "test_scan_hostile.HostileZip": 6,
+    "test_scan_runs.Cluster": 38,
+    "test_scan_runs.Runs.test_a_worker_that_dies_at_one_of_many_small_files": 9,
+    "test_sessions.Walks": 5,
+    "test_sets": 12,
+    "test_shell.AtATerminal": 38,
+    "test_shell.Words.test_breaks_come_back_with_their_opcodes": 11,
+    "test_shell.Words.test_edits_behind_a_refused_opcode": 5,
+    "test_shell.Words.test_explained_where_it_is_refused": 5,
+    "test_shell.Words.test_frames_that_do_not_fit": 4,
+    "test_shell.Words.test_what_is_known_after_edits": 20,
+    "test_shell.Words.test_who": 4,
+    "test_shell_unread": 35,
+    "test_source.Equality": 28,
+    "test_source.Large": 5,
+    "test_source.Real": 7,
+    "test_stores_behind": 26,
+    "test_stores_files.Bytes": 110,
+    "test_stores_files.Libraries": 33,
+}
+IN_GATE = {**NOT_THERE, **{name: f"the gate leaves out what takes {seconds} s" for name, seconds in DEAR.items()}}
 # (the clock counts as processor time there: with more of them than processors, files would be noted for their time)
 AT_ONCE = min(4, os.cpu_count() or 1)
 SECONDS = 7200
@@ -55,7 +104,7 @@ SECONDS = 7200
 
 @dataclass(frozen=True)
 class Tried:
-    """What became of the tests of a class, and the processor time that they took."""
+    """What became of the tests of a module or a class, and the processor time that they took."""
 
     name: str
     passed: int
@@ -72,19 +121,16 @@ def prepare(interpreter: Path) -> None:
     (packages,) = interpreter.parent.parent.glob("lib/python*/site-packages")
     shutil.copy(ROOT / "python/tests/lesser/lesser_system.py", packages)
     (packages / "lesser_system.pth").write_text("import lesser_system\n")
+    subprocess.run([str(interpreter), "-m", "compileall", "-q", str(packages / "lesser_system.py")], stdout=subprocess.DEVNULL, check=True)
     (interpreter.parent / "node.exe").symlink_to(str(shutil.which("node")))
 
 
-def is_there(name: str) -> bool:
-    """Whether something of a class can run there."""
-    return not any(f"{name}.".startswith(f"{beginning}.") for beginning in NOT_THERE)
-
-
-def classes(interpreter: Path) -> list[str]:
-    """All classes of tests of which something can run there."""
+def classes(interpreter: Path, without: dict[str, str]) -> list[str]:
+    """All classes of tests of which something is left without what has these beginnings."""
     words = [str(interpreter), "-B", str(ROOT / "equipment/packages.py"), "--names"]
     done = subprocess.run(words, env=environment(interpreter, "windows"), stdin=subprocess.DEVNULL, capture_output=True, text=True, check=True)
-    return sorted(filter(is_there, {".".join(line.split()[1].split(".")[:2]) for line in done.stdout.splitlines()}))
+    found = {".".join(line.split()[1].split(".")[:2]) for line in done.stdout.splitlines()}
+    return sorted(name for name in found if not any(f"{name}.".startswith(f"{beginning}.") for beginning in without))
 
 
 def environment(interpreter: Path, system: str) -> dict[str, str]:
@@ -92,10 +138,11 @@ def environment(interpreter: Path, system: str) -> dict[str, str]:
     return {**own_environment(), "PYTHONDONTWRITEBYTECODE": "1", "PYTHONPATH": str(ROOT / "python/tests"), "PATH": path, "PICKLESTEP_LESSER": system}
 
 
-def run_class(interpreter: Path, system: str, name: str, folder: Path) -> Tried:
+def run_group(interpreter: Path, system: str, name: str, names: list[str], without: dict[str, str], folder: Path) -> Tried:
+    """Runs classes of one module in one interpreter."""
     lines, log, skipped = (folder / f"{name}.{kind}" for kind in ("lines", "log", "skipped"))
-    skipped.write_text("".join(f"{test}\t{reason}\n" for test, reason in NOT_THERE.items()))
-    words = [str(interpreter), str(ROOT / "equipment/packages.py"), "--run", str(lines), "--skip", str(skipped), f"python {name}"]
+    skipped.write_text("".join(f"{test}\t{reason}\n" for test, reason in without.items()))
+    words = [str(interpreter), str(ROOT / "equipment/packages.py"), "--run", str(lines), "--skip", str(skipped), *(f"python {one}" for one in names)]
     with open(log, "wb") as out:
         process = subprocess.Popen(words, env=environment(interpreter, system), cwd=folder, stdin=subprocess.DEVNULL, stdout=out, stderr=out)
     status, seconds = ended(process)
@@ -117,10 +164,13 @@ def ended(process: subprocess.Popen[bytes]) -> tuple[int, float]:
     return process.returncode, used.ru_utime + used.ru_stime
 
 
-def run_classes(interpreter: Path, system: str, names: list[str], folder: Path) -> Iterator[Tried]:
-    """What became of each, as they end."""
+def run_classes(interpreter: Path, system: str, names: list[str], without: dict[str, str], folder: Path, alone: bool = False) -> Iterator[Tried]:
+    """What became of the classes, of each module or of each class `alone`, as they end."""
+    groups: dict[str, list[str]] = {}
+    for name in names:
+        groups.setdefault(name if alone else name.split(".")[0], []).append(name)
     with ThreadPoolExecutor(AT_ONCE) as pool:
-        yield from pool.map(lambda name: run_class(interpreter, system, name, folder), names)
+        yield from pool.map(lambda group: run_group(interpreter, system, *group, without, folder), groups.items())
 
 
 def main() -> int:
@@ -128,12 +178,16 @@ def main() -> int:
     parser = argparse.ArgumentParser(description="runs the tests of the package over the module in Node")
     parser.add_argument("--system", choices=("windows", "macos"), default="windows")
     parser.add_argument("names", nargs="*", metavar="CLASS")
+    parser.add_argument("--alone", action="store_true", help="each class in an interpreter of its own")
+    parser.add_argument("--gate", action="store_true", help="what the gate runs")
     words = parser.parse_args()
+    without = IN_GATE if words.gate else NOT_THERE
     with tempfile.TemporaryDirectory() as name:
         folder = Path(name)
         interpreter = Path(wheels.Wheels(ROOT, ROOT / wheels.RELEASED, folder).lesser())
         failed = 0
-        for tried in run_classes(interpreter, words.system, words.names or classes(interpreter), folder):
+        names = words.names or classes(interpreter, without)
+        for tried in run_classes(interpreter, words.system, names, without, folder, bool(words.names) or words.alone):
             print(tried, *tried.faults, sep="\n    ", flush=True)
             failed += len(tried.faults)
     return 1 if failed else 0

@@ -86,7 +86,7 @@ def tests_in(suite: Iterable[Any]) -> Iterator[unittest.TestCase]:
 
 def run_tests(lines: str, names: List[str], skipped: Optional[Dict[str, str]] = None) -> None:
     """Runs tests of the package in this interpreter: all of them where none is named, without those whose names begin as the skipped ones."""
-    suite = unittest.defaultTestLoader.discover(str(SOURCES / 'tests'))
+    suite = _loaded({name.split()[1].split('.')[0] for name in names})
     if names:
         wanted = tuple(f'{name}.' for name in names)
         suite = unittest.TestSuite(test for test in tests_in(suite) if f'python {test.id()}.'.startswith(wanted))
@@ -95,6 +95,16 @@ def run_tests(lines: str, names: List[str], skipped: Optional[Dict[str, str]] = 
         if skipped:
             suite = unittest.TestSuite(test for test in tests_in(suite) if not _is_skipped(test, skipped, result))
         suite.run(result)
+
+
+def _loaded(modules: Set[str]) -> unittest.TestSuite:
+    """The tests of these modules (to read all files takes longer than most tests). All where none is named, or one that is no file of tests:
+    examples have the names of modules of the package, and what cannot be read has that of one of Python."""
+    tests = SOURCES / 'tests'
+    if not modules or not all((tests / f'{module}.py').is_file() for module in modules):
+        return unittest.defaultTestLoader.discover(str(tests))
+    sys.path.insert(0, str(tests))
+    return unittest.defaultTestLoader.loadTestsFromNames(sorted(modules))
 
 
 def _is_skipped(test: unittest.TestCase, skipped: Dict[str, str], result: Lines) -> bool:

@@ -346,11 +346,12 @@ def other_machine(releases: Releases) -> str:
         start = releases.run_elsewhere("./picklestep", "list", str(releases.folder / "hostile.pickle"), at=at)
         if (start.status, start.output, start.errors) != (0, LISTING, ""):
             return f"with Node: status {start.status}, errors {start.errors[:200]!r}"
-    start = releases.run_elsewhere("./picklestep", "list", "x", at=at, PATH=str(releases.commands("few", "node")))
-    if start.status != 2 or start.output or releases.called.exists():
-        return f"status {start.status}, errors {start.errors[:200]!r}"
-    said = start.errors.splitlines()
-    return "" if len(said) == 1 and "no program for this machine (Plan9 mips)" in said[0] else start.errors[:200]
+    # (Python may have what runs the module. It knows the machine without the stand-in for uname.)
+    for without, says in ((("node",), "the Python package wasmtime"), (("node", "python3"), "no program for this machine (Plan9 mips)")):
+        start = releases.run_elsewhere("./picklestep", "list", "x", at=at, PATH=str(releases.commands("without " + " ".join(without), *without)))
+        if start.status != 2 or start.output or releases.called.exists() or start.errors.count("\n") != 1 or says not in start.errors:
+            return f"without {without}: status {start.status}, errors {start.errors[:200]!r}"
+    return ""
 
 
 def on_mac(releases: Releases) -> str:
@@ -367,16 +368,31 @@ def on_mac(releases: Releases) -> str:
     ways = ((at, "./picklestep"), (at, "bash", "picklestep"), (at, "./linked"), (at.parent, str(at / "linked")), (prefix, "bin/picklestep"),
             (prefix / "bin", "sh", "picklestep"), (prefix / "bin", "../linked"), (at, str(prefix / "further")), (at, str(entrance)))
     for folder, *words in ways:
-        start = releases.run(*words, "list", hostile, at=folder, PATH=path)
+        start = releases.run(*words, "list", hostile, at=folder, PATH=path, NODE_OPTIONS="--require ./gone.js")
         if (start.status, start.output, start.errors) != (0, LISTING, ""):
             return f"{words}: status {start.status}, output {start.output[:60]!r}, errors {start.errors[:200]!r}"
+    why = over_wasmtime(releases, at, prefix)
+    if why:
+        return why
     change_byte(at / "dist/picklestep.wasm")
-    start = releases.run("./picklestep", "list", hostile, at=at, PATH=path)
-    if start.status != 2 or start.errors.count("\n") != 1 or "./release" not in start.errors:
-        return f"a module that was changed: status {start.status}, errors {start.errors[:200]!r}"
-    start = releases.run("./picklestep", "list", hostile, at=at, PATH=releases.mac)
-    said = "no program for this machine (Darwin arm64)"
-    return "" if start.status == 2 and said in start.errors else f"without Node: status {start.status}, errors {start.errors[:200]!r}"
+    for place in (path, releases.mac):
+        start = releases.run("./picklestep", "list", hostile, at=at, PATH=place)
+        if start.status != 2 or start.errors.count("\n") != 1 or "./release" not in start.errors:
+            return f"a module that was changed: status {start.status}, errors {start.errors[:200]!r}"
+    return ""
+
+
+def over_wasmtime(releases: Releases, at: pathlib.Path, prefix: pathlib.Path) -> str:
+    """Without Node Python starts the module, where it has the package wasmtime (here what stands in for it); else a sentence says it."""
+    hostile = str(releases.folder / "hostile.pickle")
+    stand_in = {"PYTHONPATH": str(at / "python/tests/lesser/stand_in"), "WASMTIME_STAND_IN": f"{releases.node}/node"}
+    for entrance in (str(at / "picklestep"), str(prefix / "bin/picklestep")):
+        for settings, wanted in ((stand_in, (0, LISTING)), ({}, (2, ""))):
+            start = releases.run(entrance, "list", hostile, PATH=releases.mac, PYTHONDONTWRITEBYTECODE="1", **settings)
+            is_said = not start.errors if settings else start.errors.count("\n") == 1 and "the Python package wasmtime" in start.errors
+            if (start.status, start.output) != wanted or not is_said:
+                return f"{entrance} without Node: status {start.status}, output {start.output[:60]!r}, errors {start.errors[:200]!r}"
+    return ""
 
 
 def older_bash(releases: Releases) -> str:
@@ -540,6 +556,25 @@ def installs(releases: Releases) -> str:
     return ""
 
 
+def installs_for_all(releases: Releases) -> str:
+    """Others can start it, whatever the umask is. What an interrupted run left goes with the next one."""
+    prefix = releases.folder / "for all"
+    run = releases.run("sh", "-c", 'umask 077 && exec ./install "$1"', "sh", str(prefix))
+    modes = {path: path.stat().st_mode & 0o077 for path in prefix.rglob("*")}
+    closed = [str(path) for path, mode in modes.items() if mode != (0o055 if path.is_dir() or path.stat().st_mode & 0o100 else 0o044)]
+    if run.status != 0 or run.errors or not modes or closed:
+        return f"status {run.status}, errors {run.errors[:200]!r}, closed to others {closed}"
+    package = prefix / "lib/picklestep"
+    for words, wanted in (([], installed_files(releases)), (["--remove"], [])):
+        for ending in ("new", "old"):
+            shutil.copytree(package, package.with_name(f"picklestep.{ending}"))
+        (prefix / f"{PAGES[0]}.new").touch()
+        run = releases.run("./install", *words, str(prefix))
+        if run.status != 0 or run.errors or files_below(prefix) != wanted:
+            return f"{words}: status {run.status}, errors {run.errors[:200]!r}, and there is {files_below(prefix)}"
+    return ""
+
+
 def installs_at_home(releases: Releases) -> str:
     home = releases.folder / "home"
     home.mkdir()
@@ -687,6 +722,7 @@ TRIED: list[tuple[str, Callable[[Releases], str]]] = [
     ("a release from a built program", release_again),
     ("installed and taken away", installs),
     ("installed at home", installs_at_home),
+    ("installed for all users", installs_for_all),
     ("the module, installed", installs_module),
     ("the manual pages", manual),
     ("the completions", completions),

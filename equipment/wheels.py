@@ -12,7 +12,7 @@ from dataclasses import dataclass
 from pathlib import Path
 from typing import Callable
 
-from over_node import DEAR, classes, prepare, run_classes
+from over_node import IN_GATE, classes, prepare, run_classes
 from packages import NO_BUILDER, builder, own_environment
 from trials.room import beginning
 from trials.trial import Lack, Noted, Trial
@@ -174,9 +174,10 @@ def over_node(wheels: Wheels) -> Noted:
     if shutil.which("node") is None:
         raise Lack("there is no Node (equipment/install_servers)")
     interpreter = Path(wheels.lesser())
-    tried = list(run_classes(interpreter, "windows", [name for name in classes(interpreter) if name not in DEAR], wheels.folder))
+    names = classes(interpreter, IN_GATE)
+    tried = list(run_classes(interpreter, "windows", names, IN_GATE, wheels.folder))
     faults = [fault for one in tried for fault in one.faults]
-    return Noted(beginning("; ".join(faults).encode()), f": {sum(one.passed for one in tried)} tests of {len(tried)} classes")
+    return Noted(beginning("; ".join(faults).encode()), f": {sum(one.passed for one in tried)} tests of {len(names)} classes")
 
 
 ROWS: list[tuple[str, Callable[[Wheels], "str | Noted"]]] = [

@@ -66,10 +66,11 @@ def _print_page(word: str, to_output: bool = True) -> int:
 
 
 def _hand_over(words: 'list[str]') -> int:
-    from .place import find_program, program_words
+    from .place import NOT_FOR_NODE, find_program, program_words
     try:
         program = find_program()
-        os.environ.pop('NODE_EXTRA_CA_CERTS', None)  # (Node would read certificates, which takes longer than all the rest of its start)
+        for name in NOT_FOR_NODE:
+            os.environ.pop(name, None)
         return _become([*program_words(program), *words])
     except OSError as error:
         return _complain(f'cannot start {program}: {error.strerror}')
@@ -95,14 +96,16 @@ def _become(command: 'list[str]') -> int:
 def _print_version() -> int:
     import hashlib
     from . import __version__
-    from .place import find_program, toolchain_of
+    from .place import files_of, find_program, toolchain_of
+    lines = []
     try:
         program = find_program()
-        with open(program, 'rb') as file:
-            sum_of = hashlib.sha256(file.read()).hexdigest()
+        for path in files_of(program):
+            with open(path, 'rb') as file:
+                lines.append(f'program sha256 {hashlib.sha256(file.read()).hexdigest()} {path}')
     except Exception as error:
         return _complain(str(error))
-    print(f'picklestep {__version__}\ntoolchain {toolchain_of(program)}\nprogram sha256 {sum_of} {program}')
+    print(f'picklestep {__version__}', f'toolchain {toolchain_of(program)}', *lines, sep='\n')
     return 0
 
 

@@ -86,14 +86,18 @@ class InNode:
 
     def _renew_turn(self) -> None:
         """A new lock. (In a copy of this process, which fork made, nobody would give back the one that a thread had.)"""
-        self._turn = threading.Lock()
+        self._is_asked = False
+        self._turn = threading.RLock()
 
     def ask(self, asked: Question, memory: int) -> Optional[bytes]:
         """The text, or None where it cannot be had in that memory, which is the same for all, or where Node does not answer."""
         if memory < self._most:
             return None
         with self._turn:
+            if self._is_asked:  # (a signal's handler asks, in the midst of another answer of this thread)
+                return None
             try:
+                self._is_asked = True
                 return self._open().ask(asked)
             except (EOFError, OSError, ValueError, ProgramError):
                 self._close()
@@ -101,6 +105,8 @@ class InNode:
             except BaseException:  # an answer that nobody read would be taken for the next one
                 self._close()
                 raise
+            finally:
+                self._is_asked = False
 
     def _open(self) -> _Link:
         if self._link is None or self._link.owner != os.getpid():

@@ -6,11 +6,12 @@ FOLDER is where the package is. It comes behind the standard library, so that it
 import contextlib
 import os
 import re
+import signal
 import stat
 import sys
 from typing import Any, Callable, List, Optional, Tuple
 
-__all__ = ['main', 'on_drives']
+__all__ = ['main', 'on_drives', 'real_paths']
 
 # --- Paths ---
 
@@ -29,11 +30,29 @@ def _placed(word: str, current: str) -> str:
 def on_drives(words: List[str], folder: str) -> Tuple[List[str], str, List[str]]:
     """What the module is given on Windows for words in a folder: words, that folder, and the drives of all of them."""
     current = folder[:2].upper()
-    marks = ['--save=' if word.startswith('--save=') else '@' if last == '--skip' and word.startswith('@') else ''
-             for last, word in zip(['', *words], words)]
+    marks = _marks(words)
     home, *paths = [_placed(path, current) for path in (folder, *(word[len(mark):] for mark, word in zip(marks, words)))]
     drives = dict.fromkeys(path[1:3] for path in (home, *paths) if path.startswith('/'))
     return [mark + path for mark, path in zip(marks, paths)], home, list(drives)
+
+
+def _marks(words: List[str]) -> List[str]:
+    """What stands in each word before its path."""
+    return ['--save=' if word.startswith('--save=') else '@' if last == '--skip' and word.startswith('@') else ''
+            for last, word in zip(['', *words], words)]
+
+
+def real_paths(words: List[str]) -> List[str]:
+    """The words with the path of the file itself where one leads to it over symbolic links: wasmtime follows none that begins at the root."""
+    no_paths = ('', '--window', '--memo', '--skip')  # (what comes behind one of them; the first word is a task)
+    return [mark + _real(word[len(mark):]) if mark or last not in no_paths and not word.startswith('-') else word
+            for last, word, mark in zip(['', *words], words, _marks(words))]
+
+
+def _real(path: str) -> str:
+    real = os.path.realpath(path)
+    has_path = os.path.exists(real) or not os.path.exists(path)  # (`/dev/stdin` may lead to what has none)
+    return real if has_path and real != os.path.abspath(path) else path
 
 
 def _give(wasi: Any, words: List[str]) -> None:
@@ -43,6 +62,8 @@ def _give(wasi: Any, words: List[str]) -> None:
     if os.name == 'nt':
         words, home, drives = on_drives(words, home)
         roots = {f'/{drive}': f'{drive}\\' for drive in drives}
+    else:
+        words = real_paths(words)
     wasi.argv = ['picklestep', *words]
     wasi.env = [('PWD', home)]
     for name, root in roots.items():
@@ -148,4 +169,6 @@ def _run(folder: str, file: str, words: List[str]) -> int:
 
 
 if __name__ == '__main__':
+    if signal.getsignal(signal.SIGINT) is signal.default_int_handler:  # (which would wait for the end of the module)
+        signal.signal(signal.SIGINT, signal.SIG_DFL)
     sys.exit(main(sys.argv[1], sys.argv[2], sys.argv[3:]))

@@ -148,7 +148,7 @@ def _closed(content: bytes, many: bool, steps: List[str]) -> bytes:
         closing = _Closing(session, steps)
         if closing.close():
             closing.script.append(f'delete {closing.place}')
-    with Input(content) as given, OwnFile() as made:
+    with Input(content) as given, OwnFile(is_saved_to=True) as made:
         script = ''.join(f'{line}\n' for line in (*closing.script, 'run'))
         words = ['debug', given.path, *modes(many), '--save', made.path]
         answers = run_program(words, [*given.files, *made.files], script.encode('ascii')).decode('ascii').splitlines()

@@ -3,7 +3,7 @@
 import os
 import sys
 
-__all__ = ['find_library', 'find_program', 'is_module', 'node_path', 'program_words', 'toolchain_of']
+__all__ = ['NOT_FOR_NODE', 'files_of', 'find_library', 'find_program', 'is_module', 'node_path', 'program_words', 'toolchain_of']
 
 _HERE = os.path.dirname(os.path.realpath(__file__))
 # The released programs, by the system and the machine that each is for.
@@ -15,6 +15,9 @@ _MODULE = 'picklestep.mjs'
 _FOR_WASMTIME = 'picklestep.wasm'
 _LIBRARY = 'libpicklestep.so'
 _MODULE_OF_LIBRARY = 'libpicklestep.wasm'
+# What Node does not get of the environment: certificates, which it reads longer than all the rest of its start takes, and options, with which
+# it may end before the module begins. (help/start.sh has them too.)
+NOT_FOR_NODE = ('NODE_EXTRA_CA_CERTS', 'NODE_OPTIONS')
 
 
 def find_program() -> str:
@@ -35,25 +38,35 @@ def find_program() -> str:
     for path in (os.path.join(_HERE, 'bin', 'picklestep'), *in_tree):
         if os.path.isfile(path):
             return path
-    from .errors import ProgramError
-    system = ' '.join(machine)
     for path in (os.path.join(_HERE, 'bin', _MODULE), os.path.join(dist, _MODULE)):
-        if os.path.isfile(path):
-            if node_path() or _wasmtime_folder():
-                return path
-            raise ProgramError(f'there is no program for this machine ({system}): its module runs with Node 20 or later on the path '
-                               '(https://nodejs.org) or with the Python package wasmtime')
-    raise ProgramError(f'there is no program for this machine ({system}): build it by ./build in a clone, or set PICKLESTEP_PROGRAM to its path')
+        if os.path.isfile(path) and program_words(path):
+            return path
+    raise _no_program('build it by ./build in a clone, or set PICKLESTEP_PROGRAM to its path')
 
 
 def program_words(program: str) -> 'list[str]':
-    """The words that start a program: where it is the module, Node or else the package wasmtime starts it."""
+    """The words that start a program: where it is the module, Node or else the package wasmtime starts it. Raises ProgramError where neither is
+    there."""
     if not is_module(program):
         return [program]
-    node, folder = node_path(), _wasmtime_folder()
-    if node is None and folder is not None:
-        return [sys.executable, '-I', os.path.join(_HERE, 'in_wasmtime.py'), folder, os.path.join(os.path.dirname(program), _FOR_WASMTIME)]
-    return [node or 'node', program]
+    node = node_path()
+    if node is not None:
+        return [node, program]
+    folder = _wasmtime_folder()
+    if folder is not None:
+        return [sys.executable, '-I', os.path.join(_HERE, 'in_wasmtime.py'), folder, files_of(program)[-1]]
+    raise _no_program('its module runs with Node 20 or later on the path (https://nodejs.org) or with the Python package wasmtime')
+
+
+def _no_program(way: str) -> Exception:
+    """That nothing runs on this machine, and what to do."""
+    from .errors import ProgramError
+    return ProgramError(f'there is no program for this machine ({" ".join(_machine())}): {way}')
+
+
+def files_of(program: str) -> 'list[str]':
+    """The files that a program is: where it is the module, its start and the module itself."""
+    return [program, os.path.join(os.path.dirname(program), _FOR_WASMTIME)] if is_module(program) else [program]
 
 
 def is_module(program: str) -> bool:

@@ -24,7 +24,7 @@ import time
 from typing import IO, Dict, Generator, Iterable, Iterator, List, NoReturn, Optional, Sequence, Tuple
 
 from .errors import OutOfMemory, ProgramError, TimedOut, TooLarge
-from .place import find_program, is_module, program_words
+from .place import NOT_FOR_NODE, find_program, is_module, program_words
 from .replies import complaint_of
 
 try:
@@ -53,10 +53,6 @@ _OF_PROGRAM = 1 << 20
 _WORDS = 'out of memory'
 
 
-# What names certificates for Node. It would read them at its start, which takes longer than all the rest of that; the module asks no server.
-_CERTIFICATES = 'NODE_EXTRA_CA_CERTS'
-
-
 def _command(words: Sequence[str], memory: Optional[int]) -> Tuple[List[str], Optional[Dict[str, str]]]:
     """The command that runs the program on these words, with at most this many bytes of memory, and its environment if that is another."""
     program = find_program()
@@ -69,7 +65,7 @@ def _command(words: Sequence[str], memory: Optional[int]) -> Tuple[List[str], Op
 
 
 def _environment_of_node() -> Dict[str, str]:
-    return {name: value for name, value in os.environ.items() if name != _CERTIFICATES}
+    return {name: value for name, value in os.environ.items() if name not in NOT_FOR_NODE}
 
 
 # What the loader of programs says where the memory limit is too small for the program itself.

@@ -469,7 +469,7 @@ class Session(contextlib.AbstractContextManager['Session']):
 
     def _bytes_after(self, edits: List[_Bytes]) -> _Bytes:
         """The pickle with edits."""
-        with OwnFile() as file:
+        with OwnFile(is_saved_to=True) as file:
             self._save(file.path, file.files, edits)
             return file.content()
 

@@ -147,9 +147,10 @@ class OwnFile:
 
     It lies in memory (`memfd_create`), or where the system has no such files in a temporary file without a name; the program opens it as
     /dev/fd/N. Neither can be left behind. The module opens only what has a name: there it is a temporary file, which goes when it is closed.
+    With `is_saved_to` the program writes it: one with a name is not open here then, for Windows lets nobody replace an open file.
     """
 
-    def __init__(self) -> None:
+    def __init__(self, is_saved_to: bool = False) -> None:
         self._name = ''
         if opens_descriptors():
             self.descriptor = _nameless_file()
@@ -157,6 +158,13 @@ class OwnFile:
         else:
             self.descriptor, self._name = tempfile.mkstemp(prefix='picklestep-')
             self.path, self.files = self._name, []
+            if is_saved_to:
+                self._let_go()
+
+    def _let_go(self) -> None:
+        if self.descriptor >= 0:
+            os.close(self.descriptor)
+            self.descriptor = -1
 
     def beginning(self, most: int) -> bytes:
         """What is there, up to so many bytes."""
@@ -172,7 +180,7 @@ class OwnFile:
 
     def close(self) -> None:
         """Lets the file go."""
-        os.close(self.descriptor)
+        self._let_go()
         if self._name:
             os.unlink(self._name)
 

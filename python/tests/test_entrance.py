@@ -11,8 +11,8 @@ from pathlib import Path
 from typing import Dict, List, Set
 
 import picklestep
-from picklestep.place import find_program
-from pickles import ROOT
+from picklestep.place import find_program, is_module
+from pickles import ROOT, chosen
 from scan_support import HARMLESS, HOSTILE, PYTHON, ScanCase, environment
 
 PACKAGE = Path(picklestep.__file__).resolve().parent
@@ -22,12 +22,12 @@ MARK = "open(__file__.rpartition('/')[0] + '/imported', 'a').write(__name__ + '\
 
 
 def ways() -> Dict[str, List[str]]:
-    """How it is started: by `python -m`, as pip's command, and as in a clone."""
+    """How it is started: by `python -m`, as pip's command, and as in a clone (which starts the program of this machine, and no module)."""
     found = {'-m': [sys.executable, '-m', 'picklestep'], '-I -m': [sys.executable, '-I', str(PACKAGE / 'entrance.py')]}
     of_pip = Path(sys.executable).with_name('picklestep')
     if of_pip.is_file():
         found['pip'] = [str(of_pip)]
-    if (ROOT / 'picklestep').is_file():
+    if (ROOT / 'picklestep').is_file() and not is_module(find_program()):
         found['clone'] = [str(ROOT / 'picklestep')]
     return found
 
@@ -47,14 +47,14 @@ class Words(EntranceCase):
         self.file('a.pkl', HOSTILE)
         for words in (['list', 'a.pkl'], ['objects', '--many', 'a.pkl'], ['calls', 'none.pkl'], ['debug', '--window', '0', 'a.pkl']):
             alone = self.start([find_program(), *words])
-            for way, entrance in ways().items():
+            for way, entrance in chosen(ways().items(), 1):
                 run = self.start([*entrance, *words])
                 self.assertEqual((run.returncode, run.stdout, run.stderr), (alone.returncode, alone.stdout, alone.stderr), (way, words))
 
     def test_a_file_is_scanned(self) -> None:
         self.file('a.pkl', HOSTILE)
         self.file('list', HARMLESS)
-        for way, entrance in ways().items():
+        for way, entrance in chosen(ways().items(), 1):
             run, scan = self.start([*entrance, 'a.pkl', '--brief']), self.start([*entrance, 'scan', 'a.pkl', '--brief'])
             self.assertEqual((run.returncode, run.stdout, run.stderr), (1, scan.stdout, ''), way)
             self.assertIn("! a.pkl: call posix.system once, first at 23: call 'posix' 'system' ('id') as #3\n", run.stdout)
@@ -64,7 +64,7 @@ class Words(EntranceCase):
         for name in ('-a.pkl', '--no-known', '-'):
             self.file(name, HOSTILE)
         self.file('b.pkl', HARMLESS)
-        for way, entrance in ways().items():
+        for way, entrance in chosen(ways().items(), 1):
             for words in (['scan', '--brief', '--', 'b.pkl', '-a.pkl'], ['scan', '--brief', '--', '-a.pkl', '--no-known'],
                           ['--', '--no-known'], ['--no-known'], ['-a.pkl', 'b.pkl', '--brief'], ['scan', '--', '-'],
                           ['scan', '--write-allow', 'used', 'b.pkl', '--', '-a.pkl'], ['diff', '--', '-a.pkl', 'b.pkl'],
@@ -80,7 +80,7 @@ class Words(EntranceCase):
         self.assertEqual(sorted(path.name for path in self.folder.iterdir()), sorted(['-', '--no-known', '-a.pkl', 'b.pkl', 'used']))
 
     def test_help(self) -> None:
-        for entrance in ways().values():
+        for entrance in chosen(ways().values(), 1):
             for words in (['--help'], ['-h'], ['calls', '-h'], *([word, '--help'] for word in WORDS)):
                 run = self.start([*entrance, *words])
                 self.assertEqual((run.returncode, run.stderr), (0, ''), words)
@@ -158,7 +158,7 @@ class Streams(EntranceCase):
                         self.assertEqual(self.in_shell('-m', words + end), (2, '', f'picklestep: cannot write: {why}\n'))
 
     def test_closed_descriptors(self) -> None:
-        for way in ways():
+        for way in chosen(ways(), 1):
             with self.subTest(way):
                 self.assertEqual(self.in_shell(way, 'shell a.pkl <&-'), (2, '', 'picklestep: cannot read standard input: Bad file descriptor\n'))
                 self.assertEqual(self.in_shell(way, 'shell a.pkl <script >&- 2>&-'), (2, '', ''))

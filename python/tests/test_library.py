@@ -3,6 +3,7 @@
 import itertools
 import os
 import random
+import signal
 import sys
 import tempfile
 import threading
@@ -47,14 +48,14 @@ class Answers(unittest.TestCase):
 
     def test_real_pickles(self) -> None:
         self.assertGreater(len(PICKLES), 150)
-        for path, words in chosen(itertools.product(PICKLES, WORDS), 80):
+        for path, words in chosen(itertools.product(PICKLES, WORDS), 25):
             with self.subTest(path.name, words=words):
                 wanted = run_program([words[0], str(path), *words[1:]])
                 self.assertEqual(library.answer(words, path.read_bytes()), wanted)
 
     def test_random_changes(self) -> None:
         chance = random.Random(7)
-        for _ in chosen(range(300), 40):
+        for _ in chosen(range(300), 12):
             content = bytearray(chance.choice(PICKLES).read_bytes()[:chance.randrange(2, 400)])
             for _ in range(chance.randrange(4)):
                 content[chance.randrange(len(content))] = chance.randrange(256)
@@ -64,7 +65,7 @@ class Answers(unittest.TestCase):
     def test_what_edits_leave(self) -> None:
         """As the program answers of the bytes that it saves after the same lines."""
         script = b'insert 0 GLOBAL 6f730a6765746377640a\ngoto 1\nstep\ninsert 2 NONE\nundo\nnonsense\ndelete 3\nframe 2 2\nrun\n'
-        for path, modes in chosen(itertools.product(PICKLES[::5], MODES), 5):
+        for path, modes in chosen(itertools.product(PICKLES[::5], MODES), 2):
             saved = self.saved(path, modes, script)
             for words in [['list', *modes], ['objects', *modes], *READINGS]:
                 with self.subTest(path.name, words=words, modes=modes):
@@ -115,6 +116,32 @@ class Answers(unittest.TestCase):
         for thread in threads:
             thread.join()
         self.assertEqual(faults, [])
+
+    def test_threads_that_ask_first(self) -> None:
+        both, have = threading.Barrier(2), []
+
+        def found() -> object:
+            both.wait(30)
+            return object()
+
+        with mock.patch.object(library, '_libraries', {}), mock.patch.object(library, '_found', found):
+            threads = [threading.Thread(target=lambda: have.append(library._library())) for _ in range(2)]
+            for thread in threads:
+                thread.start()
+            for thread in threads:
+                thread.join()
+        self.assertIs(have[0], have[1])
+
+    def test_a_signal_whose_handler_asks_too(self) -> None:
+        """In the midst of another answer, which stays as it was."""
+        wanted, others = self.wanted(['list'], HOSTILE), []
+        before = signal.signal(signal.SIGALRM, lambda *_: others.append(library.answer(['objects'], b'N.')))
+        self.addCleanup(signal.signal, signal.SIGALRM, before)
+        self.addCleanup(signal.setitimer, signal.ITIMER_REAL, 0)
+        signal.setitimer(signal.ITIMER_REAL, 0.001, 0.001)
+        while len(others) < 200:
+            self.assertEqual(library.answer(['list'], HOSTILE), wanted)
+        self.assertLessEqual(set(others), {None, b'#0 none\nresult #0\n'})
 
 
 @unittest.skipUnless(has_library(), 'there is no library beside the program')
@@ -170,6 +197,19 @@ class InProcess(unittest.TestCase):
         with self.assertRaises(picklestep.OutOfMemory), mock.patch('picklestep.tasks.run_program', side_effect=picklestep.OutOfMemory('out of memory')):
             picklestep.objects(many, memory=9 * MB)
         self.assertEqual(len(picklestep.objects(many)), 65_000)
+
+    def test_a_limit_of_memory_holds_where_a_signal_is_handled(self) -> None:
+        in_process = sys.modules.get('picklestep.in_process')
+        if in_process is None:
+            self.skipTest('it is a module, whose limit is the same for all')
+        text = in_process.InProcess._text
+
+        def after_another(self: Any, asked: Any, memory: int, *room: Any) -> Optional[bytes]:
+            if memory < 2 * MB:  # (as a handler asks when the limit is set)
+                library.answer(['objects'], HOSTILE)
+            return text(self, asked, memory, *room)
+        with mock.patch.object(in_process.InProcess, '_text', after_another):
+            self.assertIsNone(library.answer(['objects'], b'N' * 65_000 + b'.', 9 * MB))
 
     def test_a_program_that_is_named(self) -> None:
         with mock.patch.dict(os.environ, PICKLESTEP_PROGRAM='/not/there'), self.assertRaises(picklestep.ProgramError):

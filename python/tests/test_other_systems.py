@@ -1,11 +1,13 @@
 """The package where the system has less than Linux: it can be imported, and asks the program."""
 
+import hashlib
 import importlib.util
 import json
 import ntpath
 import os
 import shlex
 import shutil
+import signal
 import subprocess
 import sys
 import tempfile
@@ -117,6 +119,26 @@ class OtherSystems(unittest.TestCase):
             self.assertEqual(self.over_wasmtime('-c', SAVE, folder), SAVED)
         with tempfile.TemporaryDirectory() as folder:
             self.assertEqual(asked('-c', SAVE, folder, PATH=os.environ['PATH'], PICKLESTEP_PROGRAM=str(MODULE)), SAVED)
+
+    def test_ctrl_c_ends_what_wasmtime_runs(self) -> None:
+        command = [sys.executable, '-I', in_wasmtime.__file__, str(TESTS / 'lesser/stand_in'), str(MODULE)[:-3] + 'wasm', 'debug', str(MODULE)]
+        process = subprocess.Popen(command, stdin=subprocess.PIPE, stdout=subprocess.PIPE, stderr=subprocess.PIPE,
+                                   env={'WASMTIME_STAND_IN': str(shutil.which('node'))})
+        assert process.stdin is not None and process.stdout is not None
+        os.write(process.stdin.fileno(), b'where\n')
+        self.assertTrue(process.stdout.readline())
+        process.send_signal(signal.SIGINT)
+        self.assertEqual((process.communicate(timeout=120)[1], process.returncode), (b'', -signal.SIGINT))
+
+    def test_options_of_node_are_not_for_the_module(self) -> None:
+        settings = {'PATH': os.environ['PATH'], 'PICKLESTEP_PROGRAM': str(MODULE), 'NODE_OPTIONS': '--require ./gone.js'}
+        self.assertEqual(asked('-c', ASK, **settings), SAID)
+        self.assertEqual(asked('-m', 'picklestep', 'list', '/not/there', **settings), 'picklestep: cannot read\n')
+
+    def test_the_version_sums_up_the_module(self) -> None:
+        said = asked('-m', 'picklestep', '--version', PATH=os.environ['PATH'], PICKLESTEP_PROGRAM=str(MODULE)).splitlines()
+        files = [str(MODULE), str(MODULE)[:-3] + 'wasm']
+        self.assertEqual(said[2:], [f'program sha256 {hashlib.sha256(Path(file).read_bytes()).hexdigest()} {file}' for file in files])
 
     def test_an_older_node_is_told(self) -> None:
         with tempfile.TemporaryDirectory() as folder:
@@ -234,8 +256,35 @@ class ALaterPython(unittest.TestCase):
         self.assertEqual(asked('-c', LATER, PICKLESTEP_PROGRAM=place.find_program()), 'False\nTrue\nresult = None 68\n')
 
 
+class ASmallerPython(unittest.TestCase):
+    def test_without_ctypes_the_program_is_asked(self) -> None:
+        ask = ('import sys\nsys.modules["_ctypes"] = None\nimport picklestep\nfrom picklestep import library\n'
+               'print(library.answer(["list"], b"N."), len(picklestep.listing(b"N.")))')
+        self.assertEqual(asked('-c', ask, PICKLESTEP_PROGRAM=place.find_program()), 'None 2\n')
+
+
 class InWasmtime(unittest.TestCase):
     """The start of the module by wasmtime."""
+
+    def test_links_that_begin_at_the_root_are_followed(self) -> None:
+        with tempfile.TemporaryDirectory() as name:
+            folder = os.path.realpath(name)
+            for part in ('real', 'debug', '3', 'kept'):
+                Path(folder, part).mkdir()
+            Path(folder, 'real/file').touch()
+            for link, to in (('near', f'{folder}/real'), ('far', f'{folder}/near/file'), ('new', f'{folder}/real/none'), ('in', '/dev/stdin')):
+                Path(folder, link).symlink_to(to)
+            here = os.getcwd()
+            self.addCleanup(os.chdir, here)
+            os.chdir(folder)
+            file, new = f'{folder}/real/file', f'{folder}/real/none'
+            for words, wanted in ((('debug', 'far', '--window', '3', '--save', 'new'), ('debug', file, '--window', '3', '--save', new)),
+                                  (('debug', '--save=near/none', 'near/file'), ('debug', f'--save={new}', file)),
+                                  (('calls', '--memo', 'kept', 'far', '--skip', '3:2', '--skip', '@far'),
+                                   ('calls', '--memo', 'kept', file, '--skip', '3:2', '--skip', f'@{file}')),
+                                  (('list', 'real/file'), ('list', 'real/file')), (('list', 'none'), ('list', 'none'))):
+                self.assertEqual(in_wasmtime.real_paths(list(words)), list(wanted))
+            os.chdir(here)
 
     def test_what_does_not_run_is_no_answer(self) -> None:
         """(Here there is no such package, or no such module.)"""
@@ -293,7 +342,7 @@ class WhichProgram(unittest.TestCase):
                 here = os.getcwd()
                 self.addCleanup(os.chdir, here)
                 os.chdir(folder)
-                self.assertEqual(place.program_words('/a/picklestep.mjs'), ['node', '/a/picklestep.mjs'])
+                self.assertRaises(ProgramError, place.program_words, '/a/picklestep.mjs')
                 os.chdir(here)
 
 

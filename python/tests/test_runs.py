@@ -22,11 +22,12 @@ from typing import Iterator, Set
 from unittest import mock
 
 import picklestep
-from picklestep import OutOfMemory, ProgramError, Session, TimedOut, TooLarge, library
+from picklestep import OutOfMemory, ProgramError, Session, TimedOut, TooLarge, entrance, library
+from picklestep import place
 from picklestep import program as running
 from picklestep.program import Process, find_program, seconds_of_programs, time_to_wait
-from picklestep.sources import Input
-from pickles import LIST
+from picklestep.sources import Input, OwnFile
+from pickles import LIST, chosen
 
 PACKAGE = Path(picklestep.__file__).resolve().parent.parent
 MB = 1 << 20
@@ -135,6 +136,15 @@ class Sources(LeavesNothing):
                 self.assertEqual((session.insert(0, 'MARK'), session.undo(), session.bytes()), (0, 0, LIST))
         self.assertEqual(sorted(os.listdir(tempfile.gettempdir())), self.before[2])
 
+    def test_a_file_that_is_saved_to_is_not_open(self) -> None:
+        """Where it has a name: Windows lets no program replace an open file."""
+        with mock.patch('picklestep.sources.opens_descriptors', return_value=False):
+            with OwnFile(is_saved_to=True) as file:
+                self.assertEqual((open_files(), stat.S_IMODE(os.stat(file.path).st_mode)), (self.before[1], 0o600))
+            self.assertFalse(os.path.exists(file.path))
+            with Session(LIST) as session:
+                self.assertEqual((session.insert(0, 'MARK'), session.bytes()), (0, b'(' + LIST))
+
     def test_a_file_that_goes_on(self) -> None:
         class Endless:
             given = 0
@@ -174,7 +184,8 @@ class Errors(LeavesNothing):
                 ask(data, memory=64 * MB)
             self.assertEqual((caught.exception.words, caught.exception.status), ('out of memory', 2))
         self.assertEqual(len(picklestep.objects(b'N.', memory=64 * MB)), 1)
-        for size in (1, MB // 2, MB, MB + 1, 5 * MB // 4, 2 * MB, 3 * MB, *range(3_100 << 10, 3_160 << 10, 4 << 10)):
+        sizes = (1, MB // 2, MB, MB + 1, 5 * MB // 4, 2 * MB, 3 * MB, *range(3_100 << 10, 3_160 << 10, 4 << 10))
+        for size in chosen(sizes, 6):
             for ask in (picklestep.calls, picklestep.listing, Session):
                 with self.subTest(size, ask=ask):
                     try:
@@ -386,14 +397,24 @@ class Untold(unittest.TestCase):
 
 
 class OverNode(unittest.TestCase):
-    def test_no_certificates_are_read(self) -> None:
-        environment = {'PICKLESTEP_PROGRAM': '/nowhere/picklestep.mjs', 'NODE_EXTRA_CA_CERTS': '/nowhere/some.pem'}
+    def setUp(self) -> None:
+        environment = {'PICKLESTEP_PROGRAM': '/nowhere/picklestep.mjs', **dict.fromkeys(place.NOT_FOR_NODE, '/nowhere')}
+        for patch in (mock.patch.dict(os.environ, environment), mock.patch('picklestep.place.node_path', return_value='/nowhere/node')):
+            patch.start()
+            self.addCleanup(patch.stop)
+
+    def test_no_certificates_and_options_are_read(self) -> None:
         for memory in (None, 64 * MB):
-            with mock.patch.dict(os.environ, environment), mock.patch('picklestep.program.subprocess.Popen', side_effect=OSError) as started:
-                with self.assertRaises(ProgramError):
-                    picklestep.calls(b'N.', timeout=5, memory=memory)
-                self.assertNotIn('NODE_EXTRA_CA_CERTS', started.call_args[1]['env'])
-                self.assertEqual('PICKLESTEP_MEMORY' in started.call_args[1]['env'], memory is not None)
+            with mock.patch('picklestep.program.subprocess.Popen', side_effect=OSError) as started, self.assertRaises(ProgramError):
+                picklestep.calls(b'N.', timeout=5, memory=memory)
+            given = started.call_args[1]['env']
+            self.assertFalse(given.keys() & place.NOT_FOR_NODE)
+            self.assertEqual('PICKLESTEP_MEMORY' in given, memory is not None)
+
+    def test_nor_where_the_program_is_handed_over(self) -> None:
+        with mock.patch('picklestep.entrance._become', side_effect=lambda command: len(os.environ.keys() & place.NOT_FOR_NODE)):
+            self.assertEqual(entrance.main(['list', 'none.pickle']), 0)
+        self.assertIn(f'unset {" ".join(place.NOT_FOR_NODE)} ', Path(entrance.__file__).with_name('help').joinpath('start.sh').read_text())
 
 
 class Answers(unittest.TestCase):

@@ -120,8 +120,8 @@ class Runs(RunCase):
         self.assertTrue(os.path.exists(f'{self.folder}/program.seen'))
 
     def test_a_worker_that_dies_at_one_of_many_small_files(self) -> None:
-        names = self.fill(len(chosen(range(120), 40)))
-        fatal = names[-29]
+        names = self.fill(len(chosen(range(120), 12)))
+        fatal = names[len(names) * 3 // 4 - 1]
         env = self.wrapped(f'case $file in *{fatal}) kill -9 $PPID; sleep 1;; esac')
         run = subprocess.run([sys.executable, '-m', 'picklestep', 'scan', 'files', '--json', '--jobs', '2'], cwd=self.folder, env=env,
                              capture_output=True, text=True, timeout=300)

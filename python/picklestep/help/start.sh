@@ -1,6 +1,6 @@
 # shellcheck shell=sh disable=SC2154
 # How ./picklestep and what ./install puts on the path begin. They set `package`, the folder of the Python package, and define
-# choose_program, which sets `chosen` or says why there is no program.
+# choose_program, which sets `chosen` or says why there is no program. The module may be chosen where python3 is there and Node is not.
 
 # Whether the words are for the program itself: it has a page of help, and they do not ask for that.
 is_for_program() {
@@ -17,9 +17,13 @@ is_for_program() {
 enter() {
     if is_for_program "$@"; then
         choose_program || exit 2
-        unset NODE_EXTRA_CA_CERTS # (Node would read certificates, which takes longer than all the rest of its start)
-        exec "$chosen" "$@"
-    elif command -v python3 >/dev/null; then
+        if [ "${chosen%.mjs}" = "$chosen" ] || command -v node >/dev/null; then
+            unset NODE_EXTRA_CA_CERTS NODE_OPTIONS # (place.py says why)
+            exec "$chosen" "$@"
+        fi
+        export PICKLESTEP_PROGRAM="$chosen" # (Python may have what runs the module, and says it where it has not)
+    fi
+    if command -v python3 >/dev/null; then
         exec python3 -I ${PYTHONDONTWRITEBYTECODE:+-B} "$package/entrance.py" "$@"
     fi
     echo 'picklestep: python3 (3.9 or later) is not there: only list, objects, calls, form and debug work without it' >&2

@@ -87,6 +87,20 @@ def _without_folders(function: Any) -> Any:
 
 # --- What stands in for Windows ---
 
+def _refuse_open(path: Any) -> None:
+    """Refuses, as Windows does, to replace or to remove a file that this process has open."""
+    if os.path.isfile(path) and any(os.path.realpath(f'/proc/self/fd/{file}') == os.path.realpath(path) for file in os.listdir('/proc/self/fd')):
+        raise PermissionError(13, 'it is open', path)
+
+
+def _unless_open(function: Any) -> Any:
+    def done(path: Any, *words: Any, **named: Any) -> Any:
+        for each in (path, *words):
+            _refuse_open(each)
+        return function(path, *words, **named)
+    return done
+
+
 class _Startup:
     """subprocess.STARTUPINFO: handles that a child inherits."""
 
@@ -103,6 +117,8 @@ class _Popen(subprocess.Popen):  # type: ignore[type-arg]
             raise ValueError('pass_fds and preexec_fn are not supported on Windows platforms')
         if not isinstance(command, str) and str(command[0]).startswith(('/bin/', '/usr/bin/env')):
             raise FileNotFoundError(2, 'hidden', command[0])
+        if '--save' in command:
+            _refuse_open(command[command.index('--save') + 1])
         handles = startupinfo.lpAttributeList.get('handle_list', []) if startupinfo is not None else []
         # (A group of its own gets no Ctrl-C; here that is one without a terminal.)
         super().__init__(command, *words, pass_fds=handles, start_new_session=bool(creationflags & _WINDOWS['CREATE_NEW_PROCESS_GROUP']), **named)
@@ -113,6 +129,7 @@ _WINDOWS: Dict[str, Any] = {'STARTUPINFO': _Startup, 'Popen': _Popen, 'CREATE_NE
 _MODULES: Dict[str, _Lesser] = {
     'os': _Lesser(os, frozenset((*_NOT_OF_LINUX_ALONE, *(_OF_POSIX if _ON_WINDOWS else ()))),
                   {'path': _lesser_path(), 'readlink': _without_folders(os.readlink), 'open': _without_folders(os.open),
+                   **({name: _unless_open(getattr(os, name)) for name in ('remove', 'rename', 'replace', 'unlink')} if _ON_WINDOWS else {}),
                    **({'name': 'nt', 'O_BINARY': 0, 'O_NOINHERIT': 0, 'set_handle_inheritable': lambda handle, inheritable: None}
                       if _ON_WINDOWS else {})}),
     'select': _Lesser(select, frozenset(('poll', 'epoll', 'kqueue') if _ON_WINDOWS else ('epoll',)), {}),
