@@ -90,8 +90,13 @@ const NO_SUCH_FILE = 44; // (a number of WASI)
 function onPaths(call, places, memory, first = () => {}) {
     const bytes = (at, size) => Buffer.from(memory().buffer, at >>> 0, size >>> 0);
     return (...given) => {
-        const paths = tried(() => places.map((at) => straight(bytes(given[at], given[at + 1]).toString('latin1'))));
-        if (!paths || !tried(() => [first(paths, given)])) return NO_SUCH_FILE;
+        let paths;
+        try {
+            paths = places.map((at) => straight(bytes(given[at], given[at + 1]).toString('latin1')));
+            first(paths, given);
+        } catch (error) {
+            return NO_SUCH_FILE;
+        }
         const room = bytes(0, paths.join('').length), kept = Buffer.from(room);
         let end = 0;
         places.forEach((at, number) => {
@@ -116,7 +121,7 @@ function fileCalls(calls, memory) {
         if (!(how & CREATES)) before = tried(() => statSync(onSystem(path)));
     }
     return {
-        path_open: onPaths((folder, follow, ...others) => calls.path_open(folder, 0, ...others), [2], memory, note),
+        path_open: onPaths((folder, follow, p, n, how, rights, ...others) => calls.path_open(folder, 0, p, n, how, rights & 64n ? rights : rights & ~1n, ...others), [2], memory, note),
         path_filestat_get: onPaths(calls.path_filestat_get, [2], memory),
         path_readlink: onPaths(calls.path_readlink, [1], memory),
         path_unlink_file: onPaths(calls.path_unlink_file, [1], memory),

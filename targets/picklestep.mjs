@@ -90,8 +90,13 @@ const NO_SUCH_FILE = 44; // (a number of WASI)
 function onPaths(call, places, memory, first = () => {}) {
     const bytes = (at, size) => Buffer.from(memory().buffer, at >>> 0, size >>> 0);
     return (...given) => {
-        const paths = tried(() => places.map((at) => straight(bytes(given[at], given[at + 1]).toString('latin1'))));
-        if (!paths || !tried(() => [first(paths, given)])) return NO_SUCH_FILE;
+        let paths;
+        try {
+            paths = places.map((at) => straight(bytes(given[at], given[at + 1]).toString('latin1')));
+            first(paths, given);
+        } catch (error) {
+            return NO_SUCH_FILE;
+        }
         const room = bytes(0, paths.join('').length), kept = Buffer.from(room);
         let end = 0;
         places.forEach((at, number) => {
