@@ -420,14 +420,16 @@ def started_in_node(machines: Machines) -> str:
 
 def found_in_node(machines: Machines) -> str:
     """What a path leads to through links and `..`: each file has a number of its own. No file is where a path goes up from what is no folder."""
-    folder = machines.folder / "paths"
+    folder = (machines.folder / "paths").absolute()
     for number, name in enumerate(("x", "here/x", "far/x", "far/below/x", "far/\udcff/x")):
         (folder / name).parent.mkdir(parents=True, exist_ok=True)
         (folder / name).write_bytes(b"K%c." % number)
     (folder / "here/holes").write_text("0:1\n")
     (folder / "far/holes").write_text("1:1\n")
-    links = {"here/link": folder / "far/below", "here/near": "../far/below", "far/up": "../x", "far/below/up": "../x", "here/on": "near/up",
-             "here/through": "link/../up", "here/round": "round", "here/bytes": "../far/\udcff", "here/none": "link/../none"}
+    links: dict[str, str | Path] = {
+        "here/link": folder / "far/below", "here/near": "../far/below", "far/up": "../x", "far/below/up": "../x", "here/on": "near/up",
+        "here/through": "link/../up", "here/round": "round", "here/bytes": "../far/\udcff", "here/none": "link/../none",
+    }
     for name, target in links.items():
         (folder / name).symlink_to(target)
     names = ("x", "../x", "link/x", "link/../x", "near/../x", "near/../../x", "link/up", "link/../up", "on", "through", "round", "bytes/x",

@@ -448,7 +448,7 @@ def fails_without_owner(saves: Saves) -> str:
 def order_of(saves: Saves, out: str, **environment: str) -> tuple[Run, list[str]]:
     """A save, and what it asks of the system in its order, where several writes in a row are one."""
     noted = saves.room / "order"
-    run = saves.save(out, LD_PRELOAD=str(saves.library()), ORDER=str(noted), **environment)
+    run = saves.save(out, "new", None, None, LD_PRELOAD=str(saves.library()), ORDER=str(noted), **environment)
     lines = noted.read_text().splitlines()
     noted.unlink()
     return run, [line for number, line in enumerate(lines) if number == 0 or lines[number - 1] != line]
