@@ -28,7 +28,7 @@ OF_WASI = (
     "NOTEMPTY NOTRECOVERABLE NOTSOCK NOTSUP NOTTY NXIO OVERFLOW OWNERDEAD PERM PIPE PROTO PROTONOSUPPORT PROTOTYPE RANGE ROFS SPIPE SRCH "
     "STALE TIMEDOUT TXTBSY XDEV PERM"
 ).split()
-OPENED = "follow 1 how 0 rights 204037 0 flags 0; 9"
+OPENED = "follow 1 how 0 rights 204036 0 flags 0; 9"
 TIMES = "times 1.1 2.2 3.3"
 # What is asked of wasi.c and what it answers, where it answers something: see try_wasi.c.
 WASI = [
@@ -59,7 +59,7 @@ WASI = [
     ("open 0 /home/users", f"open 3 users {OPENED}"),
     ("open 1101 /x", "open 4 x follow 1 how 9 rights 600075 0 flags 0; 9"),
     ("open 2302 /x", "open 4 x follow 1 how 5 rights 604077 0 flags 1; 9"),
-    ("open 200000 /x", "open 4 x follow 1 how 2 rights 204037 0 flags 0; 9"),
+    ("open 200000 /x", "open 4 x follow 1 how 2 rights 204036 0 flags 0; 9"),
     (f"open 0 {'a' * 8191}", " -1 error 36"),
     ("rename a /home/b", "rename 5 in/a to 3 b 0"),
     ("unlink a", "unlink 5 in/a 0"),

@@ -12,7 +12,7 @@ import subprocess
 import sys
 import threading
 from collections import Counter
-from collections.abc import Iterable, Iterator
+from collections.abc import Iterable, Iterator, Sequence
 from concurrent.futures import ThreadPoolExecutor
 from dataclasses import dataclass, field
 from pathlib import Path
@@ -129,6 +129,7 @@ class Machines:
     program: Path
     folder: Path
     pickles: Path
+    library: Callable[[], Path] = Path  # what breaks and notes calls of the system
     tasks: tuple[tuple[str, ...], ...] = TASKS
     runs: int = 0
     answers: dict[Asked, Answer] = field(default_factory=dict)
@@ -410,19 +411,58 @@ def memory_of_module(machines: Machines) -> str:
     return ""
 
 
-def started_in_node(machines: Machines) -> str:
-    """picklestep.mjs as a user starts it, with a file that is named from the current folder."""
+def start_differs(machines: Machines, folder: Path, words: list[str], before: Sequence[str] = (), given: bytes = b"") -> str:
+    """What is wrong with picklestep.mjs as a user starts it in a folder, behind further words."""
     node = machines.tool("node", "Node 20 or later")
+    found, wanted = (
+        subprocess.run([*before, *program, *words], cwd=folder, input=given, capture_output=True, timeout=100, check=False)
+        for program in ([node, str(machines.dist / SCRIPTED)], [str(machines.program)])
+    )
+    if (found.returncode, found.stdout, found.stderr) == (wanted.returncode, wanted.stdout, wanted.stderr):
+        return ""
+    return f"{words}: status {found.returncode}, output {beginning(found.stdout)}, errors {beginning(found.stderr)}"
+
+
+def started_in_node(machines: Machines) -> str:
+    """With a file that is named from the current folder."""
     machines.folder.mkdir(parents=True, exist_ok=True)
     (machines.folder / "named.pickle").write_bytes(HOSTILE)
-    for words in (["calls", "named.pickle"], ["list", "missing"], ["list"], ["calls", str(machines.folder / "named.pickle")]):
-        found, wanted = (
-            subprocess.run([*program, *words], cwd=machines.folder, capture_output=True, check=False)
-            for program in ([node, str(machines.dist / "picklestep.mjs")], [str(machines.program)])
-        )
-        if (found.returncode, found.stdout, found.stderr) != (wanted.returncode, wanted.stdout, wanted.stderr):
-            return f"{words}: status {found.returncode}, errors {beginning(found.stderr)}"
-    return ""
+    words = (["calls", "named.pickle"], ["list", "missing"], ["list"], ["calls", str(machines.folder / "named.pickle")], ["list", "a", "../b"])
+    return next(filter(None, (start_differs(machines, machines.folder, some) for some in words)), "")
+
+
+def found_in_node(machines: Machines) -> str:
+    """What a path leads to through links and `..`: each file has a number of its own. No file is where a path goes up from what is no folder."""
+    folder = (machines.folder / "paths").absolute()
+    for number, name in enumerate(("x", "here/x", "far/x", "far/below/x", "far/\udcff/x")):
+        (folder / name).parent.mkdir(parents=True, exist_ok=True)
+        (folder / name).write_bytes(b"K%c." % number)
+    (folder / "here/holes").write_text("0:1\n")
+    (folder / "far/holes").write_text("1:1\n")
+    links: dict[str, str | Path] = {
+        "here/link": folder / "far/below", "here/near": "../far/below", "far/up": "../x", "far/below/up": "../x", "here/on": "near/up",
+        "here/through": "link/../up", "here/round": "round", "here/bytes": "../far/\udcff", "here/none": "link/../none",
+    }
+    for name, target in links.items():
+        (folder / name).symlink_to(target)
+    names = ("x", "../x", "link/x", "link/../x", "near/../x", "near/../../x", "link/up", "link/../up", "on", "through", "round", "bytes/x",
+             "bytes/../x", f"{folder}/here/link/../x", "//here/../x", "missing/../x", "x/../x", "x/.", "x/", "none", "", ".", "link/..", "/")
+    words = [["list", name] for name in names]
+    words += [["calls", "--skip", f"@{name}", "x"] for name in ("holes", "link/../holes", "x/../holes")]
+    return next(filter(None, (start_differs(machines, folder / "here", some) for some in words)), "")
+
+
+def opened_in_node(machines: Machines) -> str:
+    """A file that nobody may write, a FIFO, and a pipe that has a name."""
+    folder = machines.folder / "opened"
+    folder.mkdir(parents=True)
+    (folder / "read_only").write_bytes(HOSTILE)
+    (folder / "read_only").chmod(0o444)
+    os.mkfifo(folder / "fifo")
+    filled = ["bash", "-c", 'cat read_only >fifo & "$@"; status=$?; wait; exit $status', "bash"]
+    return (start_differs(machines, folder, ["calls", "read_only"], saves.unprivileged())
+            or start_differs(machines, folder, ["calls", "fifo"], filled)
+            or start_differs(machines, folder, ["calls", "/dev/stdin"], given=HOSTILE))
 
 
 def is_private_meanwhile(tried: saves.Saves) -> str:
@@ -436,16 +476,34 @@ def is_private_meanwhile(tried: saves.Saves) -> str:
     return "" if any(killed) and modes == {"600"} else f"{sum(killed)} were killed in the middle, and the modes are {sorted(modes)}"
 
 
-# What is tried of saves over the module too. (The others break calls of the C library, or need a path of what is open, which WASI has not.)
-SAVED = (saves.keeps_modes, saves.obeys_the_mask, saves.keeps_the_owner, saves.follows_links, saves.goes_round, saves.keeps_other_names,
-         saves.takes_the_longest_name, saves.takes_other_folders, saves.refuses_names, saves.writes_a_fifo, saves.fills_up, saves.may_not_write,
-         saves.run_side_by_side, is_private_meanwhile)
+def settles_before_it_renames(tried: saves.Saves) -> str:
+    """What is saved is stored and has its mode and owner before it has its name, and its folder is stored after that."""
+    for mode in (None, 0o600, 0o644):
+        tried.begin()
+        tried.room.chmod(0o755)
+        if mode is not None:
+            (tried.room / "out").write_bytes(saves.OLD)
+            (tried.room / "out").chmod(mode)
+        run, order = saves.order_of(tried, "out")
+        owner = [] if mode is None else ["fchown file 600"]
+        wanted = ["write file 600", "fsync file 600", *owner, "fchmod file 600", "rename", "fsync folder 755"]
+        why = tried.stored(run, "out") or ("" if order == wanted else f"the order is {order}")
+        if why:
+            return f"mode {mode}: {why}"
+    return ""
+
+
+# What is tried of saves over the module too. (The others cut what Node writes for itself, or break what it calls by another name.)
+SAVED = (saves.keeps_modes, saves.obeys_the_mask, saves.keeps_the_owner, saves.follows_links, saves.follows_many_links, saves.goes_up_from_links,
+         saves.goes_round, saves.keeps_other_names, saves.takes_the_longest_name, saves.takes_other_folders, saves.refuses_names,
+         saves.writes_devices, saves.writes_standard_output, saves.writes_a_fifo, saves.fills_up, saves.may_not_write, saves.breaks_calls,
+         saves.bears_an_unstored_folder, saves.fails_without_owner, saves.run_side_by_side, is_private_meanwhile, settles_before_it_renames)
 
 
 def saved_in_node(machines: Machines) -> Noted:
     """Saves by picklestep.mjs as a user starts it."""
     machines.tool("node", "Node 20 or later")
-    tried = saves.Saves(str(machines.dist / SCRIPTED), Path, machines.folder / "saves")
+    tried = saves.Saves(str(machines.dist / SCRIPTED), machines.library, machines.folder / "saves")
     for attempt in SAVED:
         why = attempt(tried)
         if why:
@@ -492,6 +550,8 @@ ROWS: list[Row] = [
     *comparisons("arm", "ARM, under an emulator"),
     ("ARM, under an emulator: out of memory is an answer", memory_of_arm),
     ("the module in Node: as it is started", started_in_node),
+    ("the module in Node: the files that paths lead to", found_in_node),
+    ("the module in Node: files that may only be read, and pipes", opened_in_node),
     ("the module in Node: saves", saved_in_node),
     ("the module in Node: all real pickles in a root with nothing else", in_node_root),
     *comparisons("module", "the module in Node"),

@@ -174,6 +174,24 @@ def follows_links(saves: Saves) -> str:
     return ""
 
 
+def goes_up_from_links(saves: Saves) -> str:
+    """`..` behind a link to a folder is where that folder lies, also in the text of another link."""
+    for name in ("link/../out", "second"):
+        for is_there in (True, False):
+            saves.begin()
+            (saves.room / "far/below").mkdir(parents=True)
+            (saves.room / "link").symlink_to(saves.room / "far/below")
+            (saves.room / "second").symlink_to("link/../out")
+            if is_there:
+                (saves.room / "far/out").write_bytes(OLD)
+            why = saves.stored(saves.save(name), "far/out")
+            if not why and sorted(os.listdir(saves.room)) != ["far", "link", "new", "second"]:
+                why = f"there is {sorted(os.listdir(saves.room))}"
+            if why:
+                return f"{name}, {'a file' if is_there else 'no file'}: {why}"
+    return ""
+
+
 def goes_round(saves: Saves) -> str:
     saves.begin()
     (saves.room / "link").symlink_to("link")
@@ -427,10 +445,10 @@ def fails_without_owner(saves: Saves) -> str:
 # --- In which order it is done ---
 
 
-def order_of(saves: Saves, out: str) -> tuple[Run, list[str]]:
+def order_of(saves: Saves, out: str, **environment: str) -> tuple[Run, list[str]]:
     """A save, and what it asks of the system in its order, where several writes in a row are one."""
     noted = saves.room / "order"
-    run = saves.save(out, LD_PRELOAD=str(saves.library()), ORDER=str(noted), WRITE_MOST="1")
+    run = saves.save(out, "new", None, None, LD_PRELOAD=str(saves.library()), ORDER=str(noted), **environment)
     lines = noted.read_text().splitlines()
     noted.unlink()
     return run, [line for number, line in enumerate(lines) if number == 0 or lines[number - 1] != line]
@@ -444,7 +462,7 @@ def stores_before_it_renames(saves: Saves) -> str:
         saves.room.chmod(0o755)
         (saves.room / "out").write_bytes(OLD)
         (saves.room / "out").chmod(mode)
-        run, order = order_of(saves, "out")
+        run, order = order_of(saves, "out", WRITE_MOST="1")
         wanted = ["fchown file 600", "fchmod file 600", f"write file {mode:o}", f"fsync file {mode:o}", "rename", "fsync folder 755"]
         why = saves.stored(run, "out") or ("" if order == wanted else f"the order is {order}")
         if why:
@@ -455,7 +473,7 @@ def stores_before_it_renames(saves: Saves) -> str:
 def stores_a_new_file(saves: Saves) -> str:
     saves.begin()
     saves.room.chmod(0o755)
-    run, order = order_of(saves, "out")
+    run, order = order_of(saves, "out", WRITE_MOST="1")
     mode = saves.mode_of("out")
     wanted = [f"write file {mode:o}", f"fsync file {mode:o}", "rename", "fsync folder 755"]
     return saves.stored(run, "out") or ("" if order == wanted else f"the order is {order}")
@@ -524,6 +542,7 @@ TRIED: list[tuple[str, Callable[[Saves], str]]] = [
     ("owners that cannot be given are no fault", fails_without_owner),
     ("symbolic links are followed, and stay", follows_links),
     ("as many symbolic links as there may be", follows_many_links),
+    ("the folder above what a symbolic link leads to", goes_up_from_links),
     ("a link to itself", goes_round),
     ("a file with two names", keeps_other_names),
     ("the longest name", takes_the_longest_name),

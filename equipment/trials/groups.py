@@ -105,7 +105,7 @@ def of_surroundings(room: Room) -> list[AnyGroup]:
     broken = devices.Devices(str(room.proved), library, room.folder / "devices")
     saved = saves.Saves(str(room.proved), library, room.folder / "saves")
     released = releases.Releases(room.root, room.program, room.folder / "releases")
-    others = machines.Machines(room.root, room.proved, room.folder / "machines", room.pickles)
+    others = machines.Machines(room.root, room.proved, room.folder / "machines", room.pickles, library)
     linked = libraries.Libraries(room.root, room.proved, room.folder / "libraries", room.pickles)
     loaded = loads.Loads(str(room.program), room.folder / "loads")
     return [

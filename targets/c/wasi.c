@@ -172,11 +172,12 @@ i32 open(const u8 *path, i32 flags, ...) {
         return -1;
     i32 how = (flags & 0100 ? 1 : 0) | (flags & 0200000 ? 2 : 0) | (flags & 0200 ? 4 : 0) | (flags & 01000 ? 8 : 0);
     i32 access = flags & 3;
-    u64 rights = 1UL << 21 | 1UL << 5 | 1UL << 2 | 1UL << 4 | 1UL << 0;
+    u64 rights = 1UL << 21 | 1UL << 5 | 1UL << 2 | 1UL << 4;
     if (access != 1)
         rights |= 1UL << 1 | 1UL << 14;
+    // (Node opens for writing what may be stored without its times, `fdatasync`.)
     if (access != 0)
-        rights |= 1UL << 6 | 1UL << 22;
+        rights |= 1UL << 0 | 1UL << 6 | 1UL << 22;
     u32 fd = 0;
     i32 e = wasi_path_open(dir, 1, AT(rest), (addr)length(rest), how, rights, 0, flags & 02000 ? 1 : 0, AT(&fd));
     return status(e) ? -1 : (i32)fd;
