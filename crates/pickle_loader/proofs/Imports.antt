@@ -1,6 +1,6 @@
 -- Only imports say that they import.
-use Rattle.std.proofs.Common.{◌≡◌, ℕ, zero, suc, ◌+◌, ◌≤◌, ◌<◌, ◌==◌, ◌&&◌, Bool, true, false, List, [], ◌∷◌, ◌++◌, length, Option, Some, None, refl, sym, ap, ap₂, ◌∙◌, append_assoc, arith, rules}
-use Rattle.std.specs.Prelude.{not, drop, slice_get, slice_index, codes, decimal, if◌then◌else◌}
+use Rattle.std.proofs.Common.{◌≡◌, ℕ, suc, ◌+◌, ◌<◌, ◌==◌, Bool, true, false, List, [], ◌∷◌, ◌++◌, length, Option, Some, None, refl, sym, ap, ◌∙◌, append_assoc, arith}
+use Rattle.std.specs.Prelude.{drop, slice_get, slice_index, codes, decimal, if◌then◌else◌}
 use Rattle.std.specs.Option.{option_map_or}
 use Rattle.std.proofs.lemmas.List.{append-nil, append_cancel_left, append_cancel_right}
 use Rattle.pickle_io.specs.Text.{◌⧺◌, quoted}
@@ -12,7 +12,7 @@ use Rattle.pickle_ops.specs.declared.row.Filling.TheVariants as filling
 use Rattle.pickle_ops.specs.Object.{Object}
 use Rattle.pickle_holes.specs.declared.hole.Hole.{Hole}
 use Rattle.pickle_holes.specs.Holes.{in_file}
-use Rattle.pickle_show.specs.Column.{blanks, right_aligned}
+use Rattle.pickle_show.specs.Column.{right_aligned}
 use Rattle.pickle_show.specs.ObjectText.{id_text}
 use Rattle.pickle_show.specs.declared.event.Event.{Event}
 use Rattle.pickle_show.specs.declared.event.Event.TheVariants as event
@@ -22,7 +22,7 @@ use Rattle.pickle_show.specs.Brief.{value_text}
 use Rattle.pickle_show.specs.CallsLine.{inst_text, call_text, call_with_text, obj_text, made_words, made_text, fill_keyword, fill_link, event_text, event_line, line_of}
 use Rattle.pickle_show.specs.LineLaws.{names_of, names_by_kind, two_quoted, member_of, import_said}
 use Rattle.pickle_show.proofs.QuotesApart.{other, quotes_apart}
-use Rattle.pickle_show.proofs.OneEvent.{lacks, lacks_none, apart_first, apart_last, decimal_lacks, lacks_joined, no_hash, right_lacks, line_is, About, made_is, state_is, filled_is}
+use Rattle.pickle_show.proofs.OneEvent.{lacks, lacks_none, apart_first, apart_last, decimal_lacks, no_hash, right_lacks, line_is, About, made_is, state_is, filled_is}
 use Rattle.pickle_further.specs.declared.way.Way.{Way}
 use Rattle.pickle_further.specs.Going.{Standing, going}
 use Rattle.pickle_loader.specs.Text.{line_gone}
@@ -277,20 +277,3 @@ gone_imports holes w q old other from name offset id same = go (going w q).gone.
     go : (x : Option Event) → (going w q).gone.event ≡ x → IsImport holes from name offset id w q
     go None is = line_none old other from name offset id (sym (ap at is) ∙ same)
     go (Some e) is = line_imports holes w q old other from name offset id e is (sym (ap at is) ∙ same)
-
--- ---- a column has no letters
-
-differ : (m n : ℕ) → (m ≡ n → ⊥) → not (m == n) ≡ true
-differ m n h = go (m == n) refl
-  where
-    go : (b : Bool) → (m == n) ≡ b → not b ≡ true
-    go false e = refl
-    go true e = let same : m ≡ n = search rules in absurd (h same)
-
-blanks_lack : (c n : ℕ) → 97 ≤ c → lacks c (blanks n) ≡ true
-blanks_lack c zero h = refl
-blanks_lack c (suc n) h = ap₂ (λ (a b : Bool). a && b) (differ 32 c (λ e. absurd (omega (arith, h, e)))) (blanks_lack c n h)
-
-pub letters_lack : (c n : ℕ) → 97 ≤ c → lacks c (right_aligned 5 (decimal n)) ≡ true
-unfolding right_aligned ◌⧺◌
-letters_lack c n h = lacks_joined c (blanks _) (decimal n) (blanks_lack c _ h) (decimal_lacks c n (λ d less e. absurd (omega (arith, h, less, e))))

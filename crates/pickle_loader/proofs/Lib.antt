@@ -44,6 +44,7 @@ pub mod EachReach
 pub mod Holding
 pub mod MemoValues
 pub mod OneMemo
+pub mod EventLines
 pub mod Imports
 pub mod OnlyImports
 pub mod FirstPickle

@@ -1,13 +1,9 @@
 -- A line of an import is only the line of such an import, wherever it stands in the text of `calls`.
 -- Source: own.
-use Rattle.std.specs.Prelude.{◌≡◌, ◌⊎◌, ℕ, ◌^◌, ◌<◌, Bool, true, List, length, slice_get, codes, decimal, Option, Some, None}
+use Rattle.std.specs.Prelude.{◌≡◌, ℕ, ◌^◌, ◌<◌, Bool, true, List, length, slice_get, codes, decimal, Option, Some, None}
 use Rattle.pickle_io.specs.Text.{◌⧺◌, quoted}
 use Rattle.pickle_names.specs.Value.{decode_all}
 use Rattle.pickle_ops.specs.Object.{Object}
-use Rattle.pickle_doc.specs.Document.{Contents, ReadsAs}
-use Rattle.pickle_doc.specs.Place.{ops_of}
-use Rattle.pickle_machine.specs.State.{State, start}
-use Rattle.pickle_machine.specs.Run.{run}
 use Rattle.pickle_holes.specs.declared.hole.Hole.{Hole}
 use Rattle.pickle_holes.specs.Holes.{in_file}
 use Rattle.pickle_show.specs.declared.event.Event.TheVariants as event
@@ -20,10 +16,9 @@ use Rattle.pickle_show.specs.LineLaws.{cut_lines, names_of, import_said}
 use Rattle.pickle_further.specs.declared.way.Pickles.{Pickles}
 use Rattle.pickle_further.specs.declared.way.Way.{Way}
 use Rattle.pickle_further.specs.Going.{Standing, going}
-use Rattle.pickle_further.specs.Parts.{are_many, standing_at, standing_first}
 use Rattle.pickle_further.specs.CallsText.{IsCallsText}
-use Rattle.pickle_loader.specs.Onward.{stands}
-use Rattle.pickle_loader.specs.Text.{line_gone, IsAmong, is_in_text}
+use Rattle.pickle_loader.specs.Text.{IsAmong}
+use Rattle.pickle_loader.specs.EventLine.{IsOfItem}
 
 -- the line of an import of this object by these names; while they are names of Python 2, with what Python 3 imports for them
 abbrev pub import_line : Bool → Option NewPair → List ℕ → List ℕ → ℕ → ℕ → List ℕ
@@ -48,23 +43,10 @@ pub record IsImport (holes : List Hole) (from name : List ℕ) (offset id : ℕ)
   pub number_is : decimal made ≡ decimal id
   pub offset_is : right_aligned 5 (decimal (in_file holes q.at.offset)) ≡ right_aligned 5 (decimal offset)
 
--- where a reading begins that is in the text: at the first byte, or where the machine stands before an item of the document
-abbrev pub IsStart : Manner → Pickles → List ℕ → Standing → Type 0
-IsStart how p bytes q = (q ≡ standing_first how.detail p bytes)
-    ⊎ ((d : Contents) × (k : ℕ) × (s : State) × ReadsAs (are_many p) bytes d × (run (start d.many) (ops_of d) k ≡ Some s) × (q ≡ standing_at how.detail d k s))
-
 -- this item of a reading that is in the text is such an import, and this is its line
 pub record ImportsIt (how : Manner) (p : Pickles) (bytes : List ℕ) (line from name : List ℕ) (offset id : ℕ) : Type 0 where
-  pub way : Way
-  pub from_here : Standing
-  pub place : ℕ
-  pub standing : Standing
-  pub pickles : way.pickles ≡ p
-  pub in_text : is_in_text way.pickles way.frames ≡ true
-  pub begins : IsStart how p bytes from_here
-  pub stands : stands way from_here place ≡ Some standing
-  pub line_is : line_gone how.holes standing (going way standing) ≡ line
-  pub import : IsImport how.holes from name offset id way standing
+  pub item : IsOfItem how p bytes line
+  pub import : IsImport how.holes from name offset id item.way item.standing
 
 -- whatever bytes are read, and in each way: a line of an import by these names, wherever it stands in the text, is the line of an item that
 -- imports by names said as these; the number of the object and the offset are written alike

@@ -15,6 +15,7 @@ pub mod Onward
 pub mod CLoad
 pub mod Text
 pub mod OneMemo
+pub mod EventLine
 pub mod Import
 pub mod FindClass
 pub mod Callee

@@ -8,6 +8,7 @@ ghost use Rattle.pickle_loader.specs.Onward.{NothingBeyond, LinesAreRead, Buffer
 ghost use Rattle.pickle_loader.specs.Bytes.{BytesAreListed, NothingElse};
 ghost use Rattle.pickle_loader.specs.ByFrames.{FramedIsBytes, NothingBeyondByFrames, NothingElseByFrames, EachActHasItsLine, EachActInCHasItsLine};
 ghost use Rattle.pickle_loader.specs.Text.{WholeTextIsItsLines, OneWholeText, EachReachHasItsLine, DetailTellsAlike};
+ghost use Rattle.pickle_loader.specs.EventLine.{EventLinesApart};
 ghost use Rattle.pickle_loader.specs.Import.{OnlyImportsSayImport};
 ghost use Rattle.pickle_loader.specs.FindClass.{FoundIsSaid};
 ghost use Rattle.pickle_loader.specs.Callee.{OneLineOneCallee};
@@ -155,6 +156,11 @@ pub fn whole_text_is_its_lines()
 /// For any bytes there is one whole text, with one status.
 pub fn one_whole_text()
     ensures { OneWholeText }
+{}
+
+/// Of all lines of the text those of events alone begin with an offset.
+pub fn event_lines_apart()
+    ensures { EventLinesApart }
 {}
 
 /// A line of an import by some names, wherever it stands in the text, is the line of an item that imports by these names.
