@@ -2,6 +2,7 @@
 use Rattle.std.proofs.Common.{◌≡◌, ◌≢◌, ◌⊎◌, inl, inr, ℕ, ◌+◌, ◌<◌, ◌≤◌, Bool, List, [], ◌∷◌, ◌++◌, length, Option, None, Some, Result, Ok, Err, refl, sym, ap, subst, ◌∙◌, append_assoc, append-nil, arith}
 use Rattle.std.specs.Prelude.{MatchResult, IsErr, IsErrAnd, IfErr}
 use Rattle.std.specs.List.{concat}
+use Rattle.std.specs.Io.KnownBytes.{Appends}
 use Rattle.pickle_io.specs.Device.{Told, holding, AppendsPrefix, HasFailed, Wrote, Broke, WroteAllBut}
 use Rattle.pickle_io.specs.Whole.{IsWhole}
 use Rattle.pickle_io.proofs.Devices.{Wrote-trans, Broke-after, WroteAllBut-none, WroteAllBut-stopped}
@@ -224,6 +225,13 @@ stops_below s after a b d e first held none w =
 -- all that was taken was handed on
 pub same_below : (P : Told → Told → Type 0) (d e : Told) (first held : List ℕ) → (holding d first).held ≡ 0 → (holding e held).held ≡ 0 → P (holding d first) (holding e held) → P d e
 same_below P d e first held none last w = subst (λ (t : Told). P t e) (nothing-held d first none) (subst (λ (t : Told). P (holding d first) t) (nothing-held e held last) w)
+
+-- a writer took all of a text that a page was given and has handed on
+pub taken_whole : (d e between : Told) (first held text : List ℕ) → (holding d first).held ≡ 0 → (holding e held).held ≡ 0 → Wrote (holding d first) between text
+    → Wrote between (holding e held) [] → Appends d.taken e.taken text
+taken_whole d e between first held text none last w f =
+    let wrote = same_below (λ (a b : Told). Wrote a b text) d e first held none last (Wrote-flushed (holding d first) between (holding e held) text w f) in
+    wrote.taken
 
 -- what a stop of a conversation leaves, by what is promised of it
 pub cuts_below : (s after : SessionState) (a b : Gives) (d e : Told) (first held : List ℕ) (x : Stop) (r : Result ℕ Stop) → r ≡ Err x → (holding d first).held ≡ 0
