@@ -25,7 +25,7 @@ use Rattle.picklestep.specs.declared.task.CallsOptions.{CallsOptions}
 use Rattle.picklestep.specs.Files.{Gives, Reports, IsRead}
 use Rattle.picklestep.specs.Skips.{StandFor}
 use Rattle.picklestep.specs.Program.{AnswersWords, Answers}
-use Rattle.picklestep.specs.Device.{Took, TookText, AllOrNone, nothing, IsTextOf, is_calls, AnswersInput}
+use Rattle.picklestep.specs.Device.{Took, TookText, NoneWithoutMemory, nothing, IsTextOf, is_calls, AnswersInput}
 
 -- ---- what was written on the page
 
@@ -191,7 +191,7 @@ unwritten told many loose bytes old mid answer p memory =
 pub report_unwritten : {S : Type 0} (told : S → Told) (t : Text) (many loose : Bool) (bytes : List ℕ) (old mid new : S) (d e : Told) (first held : List ℕ) (answer result : Result ℕ Stop)
     → AnswersText t many loose bytes told old mid answer → (result ≢ Err stop.Write → result ≡ answer) → (result ≢ Err stop.Write → Wrote (told mid) (told new) [])
     → told old ≡ holding d first → told new ≡ holding e held → (holding d first).held ≡ 0 → (result ≢ Err stop.Write → (holding e held).held ≡ 0)
-    → t ≡ text.Objects → AllOrNone d e result
+    → t ≡ text.Objects → NoneWithoutMemory d e result
 report_unwritten told t many loose bytes old mid new d e first held answer result w passed calm before after none all is memory =
     let n : result ≢ Err stop.Write = λ x. let c : err stop.Memory ≡ err stop.Write = sym memory ∙ x in absurd cc in
     let report = subst (λ (x : Text). AnswersText x many loose bytes told old mid answer) is w in

@@ -49,8 +49,8 @@ abbrev pub TookText : (Output → Type 0) → Told → Told → Result ℕ Stop 
 TookText Is old new result = ((o : Output) × Is o × Took o old new result) ⊎ (IsErr result × Took nothing old new result)
 
 -- where memory ran out nothing was written
-abbrev pub AllOrNone : Told → Told → Result ℕ Stop → Type 0
-AllOrNone old new result = result ≡ Err stop.Memory → Wrote old new []
+abbrev pub NoneWithoutMemory : Told → Told → Result ℕ Stop → Type 0
+NoneWithoutMemory old new result = result ≡ Err stop.Memory → Wrote old new []
 
 -- ---- a text of an input
 
@@ -103,7 +103,7 @@ asks_for_text _ = true
 abbrev pub AnswersTask : Task → Gives → Gives → Told → Told → Result ℕ Stop → Type 0
 AnswersTask (task.List input) source source' old new result = AnswersInput (IsTextOf text.Listing input.many input.unframed) source source' old new result
 AnswersTask (task.Objects input) source source' old new result =
-    AnswersInput (IsTextOf text.Objects input.many input.unframed) source source' old new result × AllOrNone old new result
+    AnswersInput (IsTextOf text.Objects input.many input.unframed) source source' old new result × NoneWithoutMemory old new result
 AnswersTask (task.Calls input options) source source' old new result = AnswersInput (is_calls options) source source' old new result
 AnswersTask (task.Form input) source source' old new result = AnswersInput (IsTextOf text.Form false false) source source' old new result
 AnswersTask (task.Debug input options) source source' old new result = ⊤
