@@ -2,7 +2,6 @@
 use Rattle.std.proofs.Common.{◌≡◌, ◌≢◌, ◌⊎◌, inl, inr, ℕ, ◌+◌, ◌<◌, ◌≤◌, Bool, List, [], ◌∷◌, ◌++◌, length, Option, None, Some, Result, Ok, Err, refl, sym, ap, subst, ◌∙◌, append_assoc, append-nil, arith}
 use Rattle.std.specs.Prelude.{MatchResult, IsErr, IsErrAnd, IfErr}
 use Rattle.std.specs.List.{concat}
-use Rattle.std.specs.Io.KnownBytes.{Appends}
 use Rattle.pickle_io.specs.Device.{Told, holding, AppendsPrefix, HasFailed, Wrote, Broke, WroteAllBut}
 use Rattle.pickle_io.specs.Whole.{IsWhole}
 use Rattle.pickle_io.proofs.Devices.{Wrote-trans, Broke-after, WroteAllBut-none, WroteAllBut-stopped}
@@ -244,13 +243,6 @@ pub stops_below : (s after : SessionState) (a b : Option (List ℕ)) (d e : Told
     → StopsAtDevice s after a b d e
 stops_below s after a b d e first held none w =
     fails_below s after a b d e held (none_below d first none) (subst (λ (t : Told). StopsWriting s after a b t (holding e held)) (nothing-held d first none) w)
-
--- a writer took all of a text that a page was given and has handed on
-pub taken_whole : (d e between : Told) (first held text : List ℕ) → (holding d first).held ≡ 0 → (holding e held).held ≡ 0 → Wrote (holding d first) between text
-    → Wrote between (holding e held) [] → Appends d.taken e.taken text
-taken_whole d e between first held text none last w f =
-    let wrote = same_below (λ (a b : Told). Wrote a b text) d e first held none last (Wrote-flushed (holding d first) between (holding e held) text w f) in
-    wrote.taken
 
 -- what a stop of a conversation leaves, by what is promised of it
 pub cuts_below : (s after : SessionState) (a b : Gives) (d e : Told) (first held : List ℕ) (x : Stop) (r : Result ℕ Stop) → r ≡ Err x → (holding d first).held ≡ 0

@@ -15,4 +15,4 @@ returns-in_err-bytes-clause-report g c = λ is memory. Wrote-none _
 pub returns-clause-report : goal.returns-clause-report
 returns-clause-report g c =
     let h = c.write_out.ensures in
-    report_unwritten _ _ _ _ _ _ _ _ _ _ _ _ _ _ c.write_text-written.ensures h.passed h.calm refl refl c.requires.handed h.handed
+    report_unwritten _ _ _ _ _ _ _ c.write_out.new.sink _ _ _ _ _ _ c.write_text-written.ensures h.passed h.calm refl refl c.requires.handed h.handed
