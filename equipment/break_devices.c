@@ -6,8 +6,8 @@
  * each later one fail, as a broken disk does. SHRINK=FILE with SHRINK_AT=N empties that file before the Nth read.
  * FAIL=fsync, rename, fchmod, fchown or ftruncate lets each call of this name fail, with FAIL_FROM=N the Nth and each later one.
  * READ_SIGNAL=N and WRITE_SIGNAL=N let the Nth call do nothing, as where a signal interrupts it.
- * ORDER=FILE gets a line for each fchmod, fchown, fsync and rename and for each write to a regular file, in their order: the name, and but
- * for rename the kind and the mode of what it is made of.
+ * ORDER=FILE gets a line for each fchmod, fchown, fsync and rename and for each write to a regular file, in their order: the name, and the
+ * kind and the mode of what it is made of, or of a rename whether the file that it replaces is open.
  * At the end DEVICES=FILE has a line: how many reads and writes there were, and how many of them were made of a device that had
  * failed before.
  */
@@ -138,9 +138,21 @@ int fsync(int file)
     return is_broken("fsync") ? -1 : (int)syscall(SYS_fsync, file);
 }
 
+/* Whether this run has the file of a name open. */
+static int is_open(const char *name)
+{
+    struct stat wanted, about;
+    int file;
+
+    for (file = 3; stat(name, &wanted) == 0 && file < 64; file++)
+        if (fstat(file, &about) == 0 && about.st_dev == wanted.st_dev && about.st_ino == wanted.st_ino)
+            return 1;
+    return 0;
+}
+
 int rename(const char *from, const char *to)
 {
-    note("rename\n");
+    note(is_open(to) ? "rename over an open file\n" : "rename\n");
     return is_broken("rename") ? -1 : (int)syscall(SYS_rename, from, to);
 }
 

@@ -456,7 +456,7 @@ def order_of(saves: Saves, out: str, **environment: str) -> tuple[Run, list[str]
 
 def stores_before_it_renames(saves: Saves) -> str:
     """A new file is private until it has the mode of the old one, which is before its first byte; it is stored before it gets the name of
-    the old one, and the folder after that."""
+    the old one, which is closed then, as Windows wants it, and the folder after that."""
     for mode in (0o600, 0o640, 0o644):
         saves.begin()
         saves.room.chmod(0o755)

@@ -16,7 +16,7 @@ use Rattle.pickle_script.specs.declared.stop.Stop.TheVariants as stop
 use Rattle.pickle_script.specs.declared.texts.Text.{Text}
 use Rattle.pickle_script.specs.declared.texts.Text.TheVariants as text
 use Rattle.pickle_script.specs.FormText.{form_output}
-use Rattle.pickle_script.specs.Output.{AnswersText, AnswersCalls, IsCallsOfFile}
+use Rattle.pickle_script.specs.Output.{AnswersText, AnswersCalls, IsCallsOfFile, StopsText}
 use Rattle.pickle_session.specs.Allowed.{SessionState}
 use Rattle.pickle_script.specs.Conversation.{AppendsPast, BrokePast, BrokeSince, StopsReading, StopsWriting}
 use Rattle.picklestep.specs.Talk.{StopsAtDevice, Cuts, IsUnopened}
@@ -24,7 +24,7 @@ use Rattle.picklestep.specs.declared.task.CallsOptions.{CallsOptions}
 use Rattle.picklestep.specs.Files.{Gives, Reports, IsRead}
 use Rattle.picklestep.specs.Skips.{StandFor}
 use Rattle.picklestep.specs.Program.{AnswersWords, Answers}
-use Rattle.picklestep.specs.Device.{Took, TookText, nothing, IsTextOf, is_calls, AnswersInput}
+use Rattle.picklestep.specs.Device.{Took, TookText, NoneWithoutMemory, nothing, IsTextOf, is_calls, AnswersInput}
 
 -- ---- what was written on the page
 
@@ -146,6 +146,10 @@ text_below : (Is : Output → Type 0) (d e : Told) (first held : List ℕ) (r : 
 text_below Is d e first held r none all (inl w) = inl (w.0, w.1, took_below w.0 d e held r (none_below d first none) all (subst (λ (t : Told). Took w.0 t (holding e held) r) (nothing-held d first none) w.2))
 text_below Is d e first held r none all (inr w) = inr (w.0, took_below nothing d e held r (none_below d first none) all (subst (λ (t : Told). Took nothing t (holding e held) r) (nothing-held d first none) w.1))
 
+-- all that was taken was handed on
+pub same_below : (P : Told → Told → Type 0) (d e : Told) (first held : List ℕ) → (holding d first).held ≡ 0 → (holding e held).held ≡ 0 → P (holding d first) (holding e held) → P d e
+same_below P d e first held none last w = subst (λ (t : Told). P t e) (nothing-held d first none) (subst (λ (t : Told). P (holding d first) t) (nothing-held e held last) w)
+
 -- a source was read whole, a text of its bytes written, and what the page held handed on
 pub answers_text : {S : Type 0} (told : S → Told) (t : Text) (many loose : Bool) (source source' : Gives) (whole bytes : List ℕ) (old mid new : S) (d e : Told) (first held : List ℕ) (answer result : Result ℕ Stop)
     → IsWhole source.remaining source'.remaining size_limit whole → source'.failures ≡ source.failures → bytes ≡ whole → AnswersText t many loose bytes told old mid answer
@@ -176,6 +180,25 @@ answers_calls told options source source' whole bytes old mid new d e first held
     let to : TookText (is_calls options bytes) (holding d first) (holding e held) result = subst (λ (x : Told). TookText (is_calls options bytes) (holding d first) x result) after from in
     let took : TookText (is_calls options bytes) d e result = text_below (is_calls options bytes) d e first held result none all to in
     inr (record { bytes = whole; read = read; calm = still; took = subst (λ (b : List ℕ). TookText (is_calls options b) d e result) same took })
+
+unwritten : {S : Type 0} (told : S → Told) (many loose : Bool) (bytes : List ℕ) (old mid : S) (answer : Result ℕ Stop)
+    → AnswersText text.Objects many loose bytes told old mid answer → answer ≡ Err stop.Memory → told mid ≡ told old
+unwritten told many loose bytes old mid answer p memory =
+    subst (λ (r : Result ℕ Stop). IfErr r (StopsText text.Objects many loose bytes (told old) (told mid))) memory p.stopped
+
+-- where memory ran out nothing of a report was written
+pub report_unwritten : {S : Type 0} (told : S → Told) (t : Text) (many loose : Bool) (bytes : List ℕ) (old mid new : S) (d e : Told) (first held : List ℕ) (answer result : Result ℕ Stop)
+    → AnswersText t many loose bytes told old mid answer → (result ≢ Err stop.Write → result ≡ answer) → (result ≢ Err stop.Write → Wrote (told mid) (told new) [])
+    → told old ≡ holding d first → told new ≡ holding e held → (holding d first).held ≡ 0 → (result ≢ Err stop.Write → (holding e held).held ≡ 0)
+    → t ≡ text.Objects → NoneWithoutMemory d e result
+report_unwritten told t many loose bytes old mid new d e first held answer result w passed calm before after none all is memory =
+    let n : result ≢ Err stop.Write = λ x. let c : err stop.Memory ≡ err stop.Write = sym memory ∙ x in absurd cc in
+    let report = subst (λ (x : Text). AnswersText x many loose bytes told old mid answer) is w in
+    let still : told mid ≡ told old = unwritten told many loose bytes old mid answer report (sym (passed n) ∙ memory) in
+    let flushed : Wrote (told old) (told new) [] = subst (λ (x : Told). Wrote x (told new) []) still (calm n) in
+    let from : Wrote (holding d first) (told new) [] = subst (λ (x : Told). Wrote x (told new) []) before flushed in
+    let to : Wrote (holding d first) (holding e held) [] = subst (λ (x : Told). Wrote (holding d first) x []) after from in
+    same_below (λ (a b : Told). Wrote a b []) d e first held none (all n) to
 
 -- ---- a conversation
 
@@ -220,10 +243,6 @@ pub stops_below : (s after : SessionState) (a b : Option (List ℕ)) (d e : Told
     → StopsAtDevice s after a b d e
 stops_below s after a b d e first held none w =
     fails_below s after a b d e held (none_below d first none) (subst (λ (t : Told). StopsWriting s after a b t (holding e held)) (nothing-held d first none) w)
-
--- all that was taken was handed on
-pub same_below : (P : Told → Told → Type 0) (d e : Told) (first held : List ℕ) → (holding d first).held ≡ 0 → (holding e held).held ≡ 0 → P (holding d first) (holding e held) → P d e
-same_below P d e first held none last w = subst (λ (t : Told). P t e) (nothing-held d first none) (subst (λ (t : Told). P (holding d first) t) (nothing-held e held last) w)
 
 -- what a stop of a conversation leaves, by what is promised of it
 pub cuts_below : (s after : SessionState) (a b : Gives) (d e : Told) (first held : List ℕ) (x : Stop) (r : Result ℕ Stop) → r ≡ Err x → (holding d first).held ≡ 0

@@ -32,7 +32,7 @@ fn line_of(stop: Stop) -> &'static str
 }
 
 /// Writes the line of a stop, and answers the status. Where that cannot be written nothing is done.
-pub fn report<E: Sink>(stop: Stop, errors: &mut E) -> u8
+fn report<E: Sink>(stop: Stop, errors: &mut E) -> u8
     ensures { IsReported stop (E.told errors.old) (E.told errors.new) result }
 {
     let _ = write_all(errors, line_of(stop).as_bytes());
@@ -59,7 +59,7 @@ fn report_usage<E: Sink>(alloc: Global, usage: &Usage, errors: &mut E) -> u8
 }
 
 /// The status of an answer; a stop is reported.
-fn close<E: Sink>(answer: Result<u8, Stop>, errors: &mut E) -> u8
+pub fn close<E: Sink>(answer: Result<u8, Stop>, errors: &mut E) -> u8
     ensures { Closes answer (E.told errors.old) (E.told errors.new) result }
 {
     match answer {

@@ -1,14 +1,17 @@
 //! How a document is saved so that no file is lost: into a new file, which takes the name of the old one when all of it is stored.
 
-ghost use Rattle.std.specs.Prelude.{IfErr, IsTrue};
+ghost use Rattle.std.specs.Prelude.{IfOk, IfErr, IsTrue};
+ghost use Rattle.std.specs.Io.KnownBytes.{Appends};
+ghost use Rattle.pickle_doc.specs.Document.{document_bytes};
 ghost use Rattle.picklestep.specs.Files.{is_loss};
 
 use crate::files::{Files, stop_for, write_document};
 use pickle_doc::Document;
 use pickle_io::{Buffered, FromRead, ToWrite};
 use pickle_script::Stop;
+use std::alloc::Global;
 use std::fs::{File, Metadata, OpenOptions};
-use std::io::ErrorKind;
+use std::io::{ErrorKind, Write};
 use std::os::unix::fs::{MetadataExt, OpenOptionsExt, fchown};
 use std::path::{Path, PathBuf};
 use std::{fs, io};
@@ -60,12 +63,17 @@ impl NewFile {
         }
     }
 
-    /// Waits until the bytes are stored, and then gives the file this name. A mount point is not replaced:
+    /// Waits until the bytes that it was filled with are stored, and then gives the file this name. A mount point is not replaced:
     /// `Stop::Write`.
-    fn move_to(&self, rt: &HostRuntime, target: &PathBuf) -> Result<(), Stop>
+    fn move_to(
+        &self,
+        rt: &HostRuntime,
+        target: &PathBuf,
+        filled: Filled<&File>,
+    ) -> Result<(), Stop>
         ensures { IfErr result (λ e. IsTrue (is_loss e)) }
     {
-        if self.file.sync_all().is_err() || fs::rename(rt, &self.path, target).is_err() {
+        if filled.writer.sync_all().is_err() || fs::rename(rt, &self.path, target).is_err() {
             return Err(Stop::Write);
         }
         sync_folder(rt, target);
@@ -118,12 +126,25 @@ fn has_name(rt: &HostRuntime, about: &Metadata, target: &PathBuf) -> bool {
     }
 }
 
-/// Writes the bytes of a document to a file.
-fn write_to(rt: &HostRuntime, document: &Document, file: &File) -> Result<(), Stop>
-    ensures { IfErr result (λ e. IsTrue (is_loss e)) }
+/// A writer that has taken all bytes of a document. Only `write_to` makes one.
+#[derive(Drop)]
+struct Filled<W> {
+    writer: W,
+}
+
+/// Writes the bytes of a document to a writer. A file reports none, so this is said of any writer.
+fn write_to<W: Write + Drop>(
+    alloc: Global,
+    document: &Document,
+    writer: W,
+) -> Result<Filled<W>, Stop>
+    ensures all { IfOk result (λ filled. Appends (W.contents writer) (W.contents filled.writer) (document_bytes document.now.contents)) }
+    ensures loss { IfErr result (λ e. IsTrue (is_loss e)) }
 {
-    let mut page = Buffered::new(rt.alloc(), ToWrite::new(file))?;
-    write_document(document, &mut page)
+    let mut page = Buffered::new(alloc, ToWrite::new(writer))?;
+    write_document(document, &mut page)?;
+    let writer = page.into_inner().into_inner();
+    Ok(Filled { writer })
 }
 
 /// Fills a new file and gives it its name.
@@ -139,8 +160,8 @@ fn fill(
     if let Some(about) = about {
         new.take_after(about)?;
     }
-    write_to(rt, document, &new.file)?;
-    new.move_to(rt, target)
+    let filled = write_to(rt.alloc(), document, &new.file)?;
+    new.move_to(rt, target, filled)
 }
 
 /// Saves a document in a new file, which then takes the name `target`; `about` is of the file that has this name, if there is one. After a
@@ -165,7 +186,7 @@ fn replace(
 
 /// Saves a document where `path` opened this file. A device or a pipe takes the bytes, and so does a regular file that was removed
 /// while it is open, to which `/dev/stdout` may lead.
-fn save_over(rt: &HostRuntime, document: &Document, path: &str, file: &File) -> Result<(), Stop>
+fn save_over(rt: &HostRuntime, document: &Document, path: &str, file: File) -> Result<(), Stop>
     ensures { IfErr result (λ e. IsTrue (is_loss e)) }
 {
     let Ok(about) = file.metadata() else {
@@ -174,13 +195,16 @@ fn save_over(rt: &HostRuntime, document: &Document, path: &str, file: &File) -> 
     if about.is_file() {
         let target = target_of(rt, path)?;
         if has_name(rt, &about, &target) {
+            // Windows replaces no file that is open.
+            drop(file);
             return replace(rt, document, &target, Some(&about));
         }
         if file.set_len(0).is_err() {
             return Err(Stop::Write);
         }
     }
-    write_to(rt, document, file)
+    write_to(rt.alloc(), document, file)?;
+    Ok(())
 }
 
 /// Saves a document to a path. `Stop::Write` where the file, or a new one next to it, cannot be written, `Stop::Memory` where there is
@@ -190,7 +214,7 @@ fn save_document(rt: &HostRuntime, document: &Document, path: &str) -> Result<()
 {
     // The file is opened first, and left unchanged, so that one that may not be written is not replaced.
     match OpenOptions::new().write(true).open(rt, path) {
-        Ok(file) => save_over(rt, document, path, &file),
+        Ok(file) => save_over(rt, document, path, file),
         Err(error) if error.kind() == ErrorKind::NotFound => {
             replace(rt, document, &target_of(rt, path)?, None)
         }

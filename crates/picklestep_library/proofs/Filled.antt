@@ -1,5 +1,5 @@
 -- A text that was put into memory is the one that was wanted.
-use Rattle.std.proofs.Common.{◌≡◌, ◌<◌, ℕ, List, length, sym, inl, inr, arith}
+use Rattle.std.proofs.Common.{◌≡◌, ◌<◌, ℕ, List, length, length-take, sym, ap, inl, inr, arith}
 use Rattle.std.specs.Prelude.{◌≢◌, ◌⊎◌}
 use Rattle.pickle_doc.specs.Document.{size_limit}
 use Rattle.picklestep_library.specs.declared.fill.Written.{Written}
@@ -14,6 +14,7 @@ pub filled : (IsWanted : List ℕ → ℕ → Type 0) (bytes old new text part :
 filled IsWanted bytes old new text part status written answer wanted same small p =
     let holds : IsWanted part status = rw same wanted in record {
       whole = λ done. rw (p.size, (p.whole done).0, p.status_is) holds;
+      fits = λ done. omega (arith, p.size, ap length (p.whole done).0, length-take (length part) new);
       behind = λ done. rw p.size (p.whole done).1;
       short = λ none. (rw p.size (p.short none).0, (part, rw p.status_is holds, sym p.size));
       untouched = stays old new answer p.either (λ three. (p.short three).1);

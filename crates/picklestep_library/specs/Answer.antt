@@ -73,6 +73,7 @@ pub record Puts (text : List ℕ) (status : ℕ) (old new : List ℕ) (written :
 -- there are too many bytes (2)
 pub record Fills (IsWanted : List ℕ → ℕ → Type 0) (bytes old new : List ℕ) (written : Written) (answer : ℕ) : Type 0 where
   pub whole : answer ≡ 0 → IsWanted (take written.size new) written.status
+  pub fits : answer ≡ 0 → written.size ≤ length new
   pub behind : answer ≡ 0 → drop written.size new ≡ drop written.size old
   pub short : answer ≡ 3 → (length old < written.size) × ((text : List ℕ) × IsWanted text written.status × (length text ≡ written.size))
   pub untouched : answer ≢ 0 → new ≡ old
