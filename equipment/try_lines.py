@@ -97,7 +97,7 @@ def change_of(change: Made) -> Change:
 
 
 class Lines:
-    """The lines of pickles. `told` has the opcodes and the kinds of objects that had one."""
+    """The lines of pickles. `shown` has the opcodes and the kinds of objects that had one."""
 
     def __init__(self, crates: pathlib.Path) -> None:
         program = program_of(crates)
@@ -105,10 +105,10 @@ class Lines:
         self.opcodes = [text_of(self.words.name_of(opcode)) for opcode in program.value(f"{OPS}.declared.opcode.TheConstants", "ALL")]
         kinds = program.modules[f"{SHOW}.ObjectText"].clauses["kind_text"]
         self.kinds = [f"Kind.{clause.split('kind.')[1].split()[0].rstrip(')')}" for clause in kinds]
-        self.told: set[str] = set()
+        self.shown: set[str] = set()
 
     def lacks(self) -> list[str]:
-        return sorted({*self.opcodes, *self.kinds} - self.told)
+        return sorted({*self.opcodes, *self.kinds} - self.shown)
 
     def argument(self, operation: dict[str, Value]) -> Union[None, int, float, bytes, tuple[bytes, bytes]]:
         form, arg = self.words.form_of(operation["opcode"]), operation["arg"]
@@ -130,7 +130,7 @@ class Lines:
         note = self.words.note_unless(self.words.refusal_at(operation, state), self.words.note_with(operation, state, top))
         said = text_of(self.words.note_text(note.parts[0]))[1:-1] if note.parts else ""
         name = text_of(self.words.name_of(opcode))
-        self.told.add(name)
+        self.shown.add(name)
         of = Opcode(offsets[-1], bytes([self.words.code_of(opcode)]), name, self.argument(operation), said, len(marked))
         return Line(text_of(self.words.item_line(operation, offsets[-1], len(marked), note)), of, opcode_of)
 
@@ -147,7 +147,7 @@ class Lines:
 
     def of_object(self, number: int, made: dict[str, Value]) -> Line:
         kind = made["kind"]
-        self.told.add(kind.name)
+        self.shown.add(kind.name)
         word = text_of(self.words.kind_text(kind)).partition(" ")[0]
         of = Object(number, word, self.said(kind), made["parts"], tuple(map(change_of, made["changes"])))
         return Line(text_of(self.words.object_line(number, made)), of, object_of)
