@@ -7,15 +7,14 @@ mod edits;
 mod plain;
 
 use crate::edits::edit_by_chance;
-use pickle_doc::{DocFault, Document, EditFault, End, LIMIT, TailFault};
+use pickle_doc::{DocFault, Document, EditFault, End, LIMIT};
 use pickle_io::{Failed, ToWrite};
-use pickle_ops::FrontFault;
 use std::alloc::{AllocError, AllocFailed, Global};
 use std::fs::File;
 use std::io::Read;
 use std::process::ExitCode;
 use std::{env, io};
-use test_equipment::Chance;
+use test_equipment::{Chance, code_of};
 
 /// Why a file was not read, or nothing printed of it.
 #[derive(Debug, Drop)]
@@ -63,20 +62,6 @@ impl<T: Drop> From<AllocFailed<T>> for Stop {
 impl From<Failed> for Stop {
     fn from(_failed: Failed) -> Stop {
         Stop::Room
-    }
-}
-
-/// The code of a fault, as the listing prints it.
-fn code_of(fault: TailFault) -> &'static str {
-    match fault {
-        TailFault::Front(FrontFault::Ended) => "F1",
-        TailFault::Front(FrontFault::UnknownOpcode(_)) => "F2",
-        TailFault::Front(FrontFault::Truncated) => "F3",
-        TailFault::Front(FrontFault::NegativeLength) => "F4",
-        TailFault::Front(FrontFault::BadArgument) => "F5",
-        TailFault::FrameInFrame => "F6",
-        TailFault::FramePastEnd => "F7",
-        TailFault::FrameCrossed => "F8",
     }
 }
 

@@ -1,9 +1,10 @@
 //! What sessions and machines show, as texts made by their readers alone, for tests to write down and to compare; a source and a sink
-//! that fail after a number of calls; numbers that look random, and a large pickle. Test equipment.
+//! that fail after a number of calls; the codes of faults, numbers that look random, and a large pickle. Test equipment.
 #![tactic(auto)]
 
 mod chance;
 mod drip;
+mod faults;
 mod pages;
 mod samples;
 mod session;
@@ -12,6 +13,7 @@ mod state;
 
 pub use chance::Chance;
 pub use drip::Drip;
+pub use faults::code_of;
 pub use pages::{insist_on_paper, page_over, paper, taken, written_out};
 pub use samples::{LARGE, large};
 pub use session::{shows, write_session};
