@@ -132,10 +132,10 @@ def shortest(command: Sequence[str], runs: int = RUNS) -> Measured:
 def instructions(command: Sequence[str], lines: str = os.devnull) -> int:
     """How many instructions the whole process takes, as callgrind counts them."""
     with open(lines, 'rb') as given:
-        told = subprocess.run(['valgrind', '--tool=callgrind', '--callgrind-out-file=/dev/null', *command],
-                              stdin=given, stdout=subprocess.DEVNULL, stderr=subprocess.PIPE, text=True).stderr
-    counted = re.search(r'Collected : (\d+)', told)
-    assert counted is not None, told
+        report = subprocess.run(['valgrind', '--tool=callgrind', '--callgrind-out-file=/dev/null', *command],
+                                stdin=given, stdout=subprocess.DEVNULL, stderr=subprocess.PIPE, text=True).stderr
+    counted = re.search(r'Collected : (\d+)', report)
+    assert counted is not None, report
     return int(counted[1])
 
 
@@ -192,14 +192,14 @@ def called_row(folder: str, program: str, letter: str, what: str, write: Writer,
     """A line of the table of `calls` against `objects`."""
     small = int(count * SMALL)
     once, twice, whole = (made(folder, letter, write, many) for many in (small, 2 * small, count))
-    told, objects = instructions([program, 'calls', once]), instructions([program, 'objects', once])
-    growth = instructions([program, 'calls', twice]) / told
+    calls, objects = instructions([program, 'calls', once]), instructions([program, 'objects', once])
+    growth = instructions([program, 'calls', twice]) / calls
     theirs, ours = shortest([program, 'objects', whole]), shortest([program, 'calls', whole])
     opcodes, longer = opcodes_of(once), ours.seconds / theirs.seconds
     os.unlink(whole)
     good = longer <= AS_OBJECTS and growth <= TWICE
     return '| (%s) %s | %.0f | %.0f | %.3f | %.2f s | %.2f s | %.2f | %s |' % (
-        letter, what, told / opcodes, objects / opcodes, growth, ours.seconds, theirs.seconds, longer, verdict(good))
+        letter, what, calls / opcodes, objects / opcodes, growth, ours.seconds, theirs.seconds, longer, verdict(good))
 
 
 def long_string(folder: str, program: str, count: int) -> str:

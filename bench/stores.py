@@ -39,14 +39,14 @@ def measured(words: list[str]) -> tuple[float, float, int, str]:
         time.sleep(0.05)
     seconds, after = time.perf_counter() - start, os.times()
     assert run.stderr is not None
-    told = run.stderr.read().splitlines()
+    lines = run.stderr.read().splitlines()
     used = after.children_user + after.children_system - before.children_user - before.children_system
-    return seconds, used, most, told[0] if told else ''
+    return seconds, used, most, lines[0] if lines else ''
 
 
 def show(name: str, bar: str, taken: tuple[float, float, int, str], share: float = 1) -> None:
-    seconds, used, most, told = taken
-    print(f'{name:42} {seconds / share:6.1f} s, {used / share:6.1f} s of a processor ({bar}), {most / 1e6:4.0f} MB: {told}', flush=True)
+    seconds, used, most, summary = taken
+    print(f'{name:42} {seconds / share:6.1f} s, {used / share:6.1f} s of a processor ({bar}), {most / 1e6:4.0f} MB: {summary}', flush=True)
 
 
 def sources() -> bytes:

@@ -49,15 +49,15 @@ function ask(task, content, script) {
         const out = library.take(BigInt(room));
         if (!out) return { answer: 1, status: 0, text: new Uint8Array() };
         const answer = library[name](...first, given, BigInt(content.length), ...second, out, BigInt(room), written);
-        const told = new DataView(library.memory.buffer, Number(written));
-        const size = Number(told.getBigUint64(0, true));
+        const fields = new DataView(library.memory.buffer, Number(written));
+        const size = Number(fields.getBigUint64(0, true));
         if (answer === 3) {
             library.give(out);
             room = size;
             continue;
         }
         const text = answer ? new Uint8Array() : new Uint8Array(library.memory.buffer).slice(Number(out), Number(out) + size);
-        return { answer, status: told.getUint8(8), text };
+        return { answer, status: fields.getUint8(8), text };
     }
 }
 

@@ -212,20 +212,22 @@ def largest_lengths(program: str, file: pathlib.Path) -> bool:
 
 
 def single_bytes(program: str, file: pathlib.Path) -> bool:
-    counts: dict[str, int] = {}
+    names = {ord(opcode.code): opcode.name for opcode in pickletools.opcodes}
     for byte in range(256):
         file.write_bytes(bytes([byte]))
         text, _ = answer(program, ["list", str(file)])
         if debug(program, file, "") != ("", 0, True):
             return False
-        if text == f"fault: F2 unknown opcode 0x{byte:02x} at 0\n":
-            kind = "F2"
-        elif text == "fault: F3 truncated at 0\n":
-            kind = "F3"
+        if byte not in names:
+            is_so = text == f"fault: F2 unknown opcode 0x{byte:02x} at 0\n"
+        elif OPCODES[names[byte]].arg is not None:
+            is_so = text == "fault: F3 truncated at 0\n"
         else:
-            kind = "STOP" if byte == 0x2E else "item"
-        counts[kind] = counts.get(kind, 0) + 1
-    return counts == {"F2": 188, "F3": 34, "item": 33, "STOP": 1}
+            found = ITEM.match(text)
+            is_so = found is not None and found.groups() == ("0", names[byte], None)
+        if not is_so:
+            return False
+    return True
 
 
 ROWS = [

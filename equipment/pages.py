@@ -71,7 +71,6 @@ CHECKLISTS = [
         ["crates/pickle*/src/**/*.rt", "crates/pickle*/specs/**/*.antt", "crates/pickle*/proofs/**/*.antt", "crates/*_tests/src/**/*.rt", *OUTSIDE, *PACKAGE,
          "python/tests/test_sessions.py"],
         {
-            "crates/script_tests/src/conversations.rt": "has those that take no memory",
             "equipment/trials/begins.py": "scan has a field of that name",
             "equipment/trials/large.py": "asks it of a large pickle",
             "python/picklestep/scan/results.py": "scan has a field of that name",

@@ -4,7 +4,7 @@
     try_lines.py [--crates FOLDER] PROGRAM FOLDER [PICKLE..]
 
 The definitions of crates/*/specs, evaluated by antt.py, say what the opcodes of a pickle are and what each comes to: of the rows of texts.txt and
-conversations.txt, of a few that are made, and of the pickles that are given. The program's lines have to be what `item_line`, `object_line`,
+conversations.txt, of each opcode alone and a few that are made, and of the pickles that are given. The program's lines have to be what `item_line`, `object_line`,
 `stack_text` and `memo_text` make of that, and what the package reads of a line has to be what the line was made of. FOLDER is for the file that the
 program is asked about. What is printed is JSON: how many lines there were, which opcodes and kinds of objects no line shows, and what differs.
 """
@@ -20,6 +20,7 @@ import subprocess
 import sys
 from collections.abc import Callable, Iterator, Sequence
 from dataclasses import dataclass, field
+from random import Random
 from types import SimpleNamespace
 from typing import Any, Union
 
@@ -29,6 +30,7 @@ from definition import ROOT, program_of, short, with_deep_stack
 sys.path.append(str(ROOT / "python"))
 
 import conversations  # noqa: E402
+import fuzz  # noqa: E402
 from picklestep.records import Change, Mark, Object, Opcode, Ref  # noqa: E402
 from picklestep.replies import memo_of, stack_of  # noqa: E402
 from picklestep.texts import object_of, opcode_of  # noqa: E402
@@ -54,7 +56,10 @@ WORDS = (
     (f"{SHOW}.MemoText", ("memo_text",)),
 )
 # A long number below 0, a float that is no number, each byte in quotes, and names with quotes, blanks and backslashes.
-MADE = (b"\x8a\x11" + bytes(16) + b"\x80.", b"G\xff\xf8\0\0\0\0\0\1.", b"B\0\1\0\0" + bytes(range(256)) + b".", b"c' '\\\n\\' (#1) +#2\n.")
+SPECIAL = (b"\x8a\x11" + bytes(16) + b"\x80.", b"G\xff\xf8\0\0\0\0\0\1.", b"B\0\1\0\0" + bytes(range(256)) + b".", b"c' '\\\n\\' (#1) +#2\n.")
+# Each opcode alone.
+SEED = 1
+ALONE = tuple(fuzz.spelled(name, Random(SEED)) for name in fuzz.OPCODES)
 HOW = {"Append": "append", "Add": "add", "Build": "state"}
 SCRIPT = "run\nstack\nmemo\n"
 # The smallest real pickles.
@@ -92,7 +97,7 @@ def change_of(change: Made) -> Change:
 
 
 class Lines:
-    """The lines of pickles. `told` has the opcodes and the kinds of objects that had one."""
+    """The lines of pickles. `shown` has the opcodes and the kinds of objects that had one."""
 
     def __init__(self, crates: pathlib.Path) -> None:
         program = program_of(crates)
@@ -100,10 +105,10 @@ class Lines:
         self.opcodes = [text_of(self.words.name_of(opcode)) for opcode in program.value(f"{OPS}.declared.opcode.TheConstants", "ALL")]
         kinds = program.modules[f"{SHOW}.ObjectText"].clauses["kind_text"]
         self.kinds = [f"Kind.{clause.split('kind.')[1].split()[0].rstrip(')')}" for clause in kinds]
-        self.told: set[str] = set()
+        self.shown: set[str] = set()
 
     def lacks(self) -> list[str]:
-        return sorted({*self.opcodes, *self.kinds} - self.told)
+        return sorted({*self.opcodes, *self.kinds} - self.shown)
 
     def argument(self, operation: dict[str, Value]) -> Union[None, int, float, bytes, tuple[bytes, bytes]]:
         form, arg = self.words.form_of(operation["opcode"]), operation["arg"]
@@ -125,7 +130,7 @@ class Lines:
         note = self.words.note_unless(self.words.refusal_at(operation, state), self.words.note_with(operation, state, top))
         said = text_of(self.words.note_text(note.parts[0]))[1:-1] if note.parts else ""
         name = text_of(self.words.name_of(opcode))
-        self.told.add(name)
+        self.shown.add(name)
         of = Opcode(offsets[-1], bytes([self.words.code_of(opcode)]), name, self.argument(operation), said, len(marked))
         return Line(text_of(self.words.item_line(operation, offsets[-1], len(marked), note)), of, opcode_of)
 
@@ -142,7 +147,7 @@ class Lines:
 
     def of_object(self, number: int, made: dict[str, Value]) -> Line:
         kind = made["kind"]
-        self.told.add(kind.name)
+        self.shown.add(kind.name)
         word = text_of(self.words.kind_text(kind)).partition(" ")[0]
         of = Object(number, word, self.said(kind), made["parts"], tuple(map(change_of, made["changes"])))
         return Line(text_of(self.words.object_line(number, made)), of, object_of)
@@ -226,7 +231,7 @@ def rows() -> Iterator[bytes]:
 
 def try_all(crates: pathlib.Path, program: Program, given: Sequence[bytes]) -> Tally:
     tally, lines = Tally(), Lines(crates)
-    for data in dict.fromkeys([*rows(), *MADE, *given]):
+    for data in dict.fromkeys([*rows(), *SPECIAL, *ALONE, *given]):
         try_pickle(lines, program, tally, data)
     tally.lacks = lines.lacks()
     return tally

@@ -70,8 +70,7 @@ TESTS = (
     ("document_tests", "document::refused_memory"),
     ("document_tests", "document::refused_memory_of_many"),
     ("unit_tests", "machine::refused_memory"),
-    ("document_tests", "report::refused_memory"),
-    ("document_tests", "report::refused_memory_of_many"),
+    ("document_tests", "texts::refused_memory"),
 )
 # Real pickles under a script, with what is shown after each line written down before.
 SCRIPTS = ("sklearn_tree_protocol_4", "sklearn_pipeline_protocol_4", "sklearn_encoder_protocol_0")

@@ -77,7 +77,7 @@ from picklestep.shell.shell import Shell
 from picklestep.view.opcodes import opcode_table
 for begin in (b'', b'\\x9a'):
     print(reach_of(BytesBlob(begin + b'cposix\\nsystem\\n(X\\x02\\0\\0\\0idtR.'))[0] is None)
-print(source(b'N.').text.splitlines()[-1], len(opcode_table()))
+print(source(b'N.').text.splitlines()[-1], *(name in opcode_table() for name in ('NONE', 'NEWER')))
 """
 
 
@@ -253,7 +253,7 @@ class Drives(unittest.TestCase):
 
 class ALaterPython(unittest.TestCase):
     def test_an_opcode_that_is_not_known_ends_what_is_read(self) -> None:
-        self.assertEqual(asked('-c', LATER, PICKLESTEP_PROGRAM=place.find_program()), 'False\nTrue\nresult = None 68\n')
+        self.assertEqual(asked('-c', LATER, PICKLESTEP_PROGRAM=place.find_program()), 'False\nTrue\nresult = None True False\n')
 
 
 class ASmallerPython(unittest.TestCase):

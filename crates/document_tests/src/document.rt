@@ -9,7 +9,7 @@ mod shown;
 mod worked;
 
 use crate::document::cost::edit_many;
-use crate::document::hostile::{CUTS, LENGTHS, end_of, first_wrong_cut, single_bytes};
+use crate::document::hostile::{CUTS, LENGTHS, end_of, first_wrong_byte, first_wrong_cut};
 use crate::document::memory::edit_with_little;
 use crate::document::nest::put_and_back;
 use crate::document::rows::{
@@ -24,6 +24,7 @@ use pickle_doc::{Document, Edit, EditFault, there_and_back};
 use pickle_ops::Opcode;
 use std::alloc::Global;
 use std::test::Fail;
+use test_equipment::{LARGE, large};
 
 /// Makes the edit of a row, takes it back, makes it again and takes it back again.
 fn try_row(alloc: Global, many: bool, row: &Row) -> Result<(), Wrong> {
@@ -225,24 +226,6 @@ fn insertions_back_and_again(rt: HostRuntime) -> Result<(), Fail> {
     Ok(())
 }
 
-/// How many bytes a large document has.
-const LARGE: usize = 268_435_456;
-
-/// A large document: one BINBYTES and STOP.
-fn large(alloc: Global) -> Result<Vec<u8>, Wrong> {
-    let Ok(mut bytes) = vec![in alloc; 0u8; LARGE] else {
-        return Err(Wrong::Memory);
-    };
-    let front: &[u8] = b"B\xfa\xff\xff\x0f";
-    for (byte, want) in bytes.iter_mut().zip(front) {
-        *byte = *want;
-    }
-    if let Some(last) = bytes.last_mut() {
-        *last = b'.';
-    }
-    Ok(bytes)
-}
-
 /// How many bytes there are after an edit, which is taken back.
 fn total_behind(alloc: Global, document: &mut Document, edit: &Spelled) -> Result<u64, Wrong> {
     let mut record = make(alloc, document, edit)?;
@@ -277,10 +260,9 @@ fn cut_short(rt: HostRuntime) {
     }
 }
 
-/// Each byte alone: 188 are no opcode, 34 are one with an argument, 33 one without, and one is STOP.
 #[test]
 fn one_byte_alone(rt: HostRuntime) {
-    assert_eq!(rt; single_bytes(rt.alloc()), Ok([188, 34, 33, 1, 0]));
+    assert_eq!(rt; first_wrong_byte(rt.alloc()), Ok(None));
 }
 
 #[test]

@@ -1,11 +1,9 @@
-//! Tests of documents and of what is shown of them. `document`: edits, the way back and the way there again, what is refused, and
-//! what is left where memory is refused, by what readers show. `report`: objects, stacks, memos and reports over devices that fail and
-//! where memory is refused, and a deep object. `listing`: that documents, also edited ones, are shown as their bytes are. Test equipment.
+//! Tests of documents, and of what machines over them show. `document`: edits, the way back and the way there again, what is refused,
+//! and what is left where memory is refused, by what readers show. `texts`: objects, stacks and memos over devices that fail and where
+//! memory is refused, and a deep object. Test equipment.
 #![tactic(auto)]
 
 #[cfg(test)]
 mod document;
 #[cfg(test)]
-mod listing;
-#[cfg(test)]
-mod report;
+mod texts;

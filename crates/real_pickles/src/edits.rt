@@ -9,27 +9,7 @@ use crate::{Stop, written};
 use pickle_doc::{Document, Edit, EditFault, EditRecord, records_lead_on, there_and_back};
 use pickle_ops::{Op, Opcode, op_of};
 use std::alloc::Global;
-
-/// A row of numbers that look like dice, always the same row.
-#[derive(Clone, Copy)]
-pub struct Dice {
-    state: u64,
-}
-
-impl Dice {
-    /// The row from this number on.
-    pub fn new(state: u64) -> Dice {
-        Dice { state }
-    }
-
-    /// The next number below a limit; 0 where the limit is 0.
-    fn below(&mut self, limit: usize) -> usize {
-        let next = self.state.wrapping_mul(6_364_136_223_846_793_005);
-        self.state = next.wrapping_add(1_442_695_040_888_963_407);
-        let high = (self.state >> 33) as usize;
-        high.checked_rem(limit).unwrap_or(0)
-    }
-}
+use test_equipment::Chance;
 
 /// Opcodes to put in: the opcode, and the bytes that spell it with its argument.
 const OPCODES: [(Opcode, &[u8]); 6] = [
@@ -55,11 +35,11 @@ fn op_at(alloc: Global, number: usize) -> Result<Op, EditFault> {
     }
 }
 
-/// An edit by dice, of a list of this many items; an opcode is there by its number in `OPCODES`.
-fn roll(dice: &mut Dice, len: usize) -> Edit<usize> {
-    let place = dice.below(len.saturating_add(2));
-    let number = dice.below(OPCODES.len());
-    match dice.below(8) {
+/// An edit by chance, of a list of this many items; an opcode is there by its number in `OPCODES`.
+fn roll(chance: &mut Chance, len: usize) -> Edit<usize> {
+    let place = chance.below(len.saturating_add(2));
+    let number = chance.below(OPCODES.len());
+    match chance.below(8) {
         0 | 1 => Edit::Replace(place, number),
         2 | 3 => Edit::Insert(place, number),
         4 | 5 => Edit::Delete(place),
@@ -113,15 +93,15 @@ fn plain_fault(plain: &Plain<'_>, edit: &Edit<usize>) -> Option<EditFault> {
     }
 }
 
-/// An edit by dice that is accepted. What both say of each edit that is rolled has to be the same.
+/// An edit by chance that is accepted. What both say of each edit that is rolled has to be the same.
 fn next_edit(
     alloc: Global,
     document: &Document,
     plain: &Plain<'_>,
-    dice: &mut Dice,
+    chance: &mut Chance,
 ) -> Result<Edit<usize>, Stop> {
     for _ in 0..16 {
-        let edit = roll(dice, document.len());
+        let edit = roll(chance, document.len());
         let fault = document.edit_fault(&edit_of(alloc, &edit)?);
         if fault != plain_fault(plain, &edit) {
             return Err(Stop::Edits);
@@ -148,7 +128,7 @@ fn go_on(
     alloc: Global,
     document: &mut Document,
     plain: &mut Plain<'_>,
-    dice: &mut Dice,
+    chance: &mut Chance,
     more: usize,
 ) -> Result<(), Stop>
     ensures contents { OnOk result ((n : ℕ) × (document.new.contents ≡ risen n document.old.contents)) }
@@ -159,10 +139,10 @@ fn go_on(
     if more == 0 {
         return Ok(());
     }
-    let edit = next_edit(alloc, document, plain, dice)?;
+    let edit = next_edit(alloc, document, plain, chance)?;
     make_plain(plain, &edit)?;
     let mut record = make(alloc, document, &edit)?;
-    go_on(alloc, document, plain, dice, more - 1)?;
+    go_on(alloc, document, plain, chance, more - 1)?;
     records_lead_on();
     there_and_back(document, &mut record);
     document.swap(&mut record);
@@ -211,14 +191,14 @@ fn plain_of<'a>(alloc: Global, document: &Document, bytes: &'a [u8]) -> Result<P
 }
 
 /// Edits a document that was read from these bytes, and takes the edits back.
-pub fn edit_by_dice(
+pub fn edit_by_chance(
     alloc: Global,
     document: &mut Document,
     bytes: &[u8],
-    dice: &mut Dice,
+    chance: &mut Chance,
     edits: usize,
 ) -> Result<(), Stop> {
     let mut plain = plain_of(alloc, document, bytes)?;
-    go_on(alloc, document, &mut plain, dice, edits)?;
+    go_on(alloc, document, &mut plain, chance, edits)?;
     compare(alloc, document, bytes)
 }

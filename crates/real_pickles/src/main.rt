@@ -6,15 +6,15 @@
 mod edits;
 mod plain;
 
-use crate::edits::{Dice, edit_by_dice};
-use pickle_doc::{DocFault, Document, EditFault, End, LIMIT, TailFault};
+use crate::edits::edit_by_chance;
+use pickle_doc::{DocFault, Document, EditFault, End, LIMIT};
 use pickle_io::{Failed, ToWrite};
-use pickle_ops::FrontFault;
 use std::alloc::{AllocError, AllocFailed, Global};
 use std::fs::File;
 use std::io::Read;
 use std::process::ExitCode;
 use std::{env, io};
+use test_equipment::{Chance, code_of};
 
 /// Why a file was not read, or nothing printed of it.
 #[derive(Debug, Drop)]
@@ -62,20 +62,6 @@ impl<T: Drop> From<AllocFailed<T>> for Stop {
 impl From<Failed> for Stop {
     fn from(_failed: Failed) -> Stop {
         Stop::Room
-    }
-}
-
-/// The code of a fault, as the listing prints it.
-fn code_of(fault: TailFault) -> &'static str {
-    match fault {
-        TailFault::Front(FrontFault::Ended) => "F1",
-        TailFault::Front(FrontFault::UnknownOpcode(_)) => "F2",
-        TailFault::Front(FrontFault::Truncated) => "F3",
-        TailFault::Front(FrontFault::NegativeLength) => "F4",
-        TailFault::Front(FrontFault::BadArgument) => "F5",
-        TailFault::FrameInFrame => "F6",
-        TailFault::FramePastEnd => "F7",
-        TailFault::FrameCrossed => "F8",
     }
 }
 
@@ -127,7 +113,7 @@ fn cut_everywhere(alloc: Global, bytes: &[u8]) -> Result<(), Stop> {
 const EDITS: usize = 24;
 
 /// Prints what is found in one file, and edits the document.
-fn print_file(rt: &HostRuntime, path: &str, dice: &mut Dice) -> Result<(), Stop> {
+fn print_file(rt: &HostRuntime, path: &str, chance: &mut Chance) -> Result<(), Stop> {
     let mut bytes = Vec::new(rt.alloc());
     File::open(rt, path)?
         .take(LIMIT as u64 + 1)
@@ -142,14 +128,14 @@ fn print_file(rt: &HostRuntime, path: &str, dice: &mut Dice) -> Result<(), Stop>
         println!(rt; "different")?;
     }
     cut_everywhere(rt.alloc(), &bytes)?;
-    edit_by_dice(rt.alloc(), &mut document, &bytes, dice, EDITS)
+    edit_by_chance(rt.alloc(), &mut document, &bytes, chance, EDITS)
 }
 
 /// Prints what is found in each file that the words of the command line name, and that the edits and the cuts of all were the same.
 fn print_files(rt: &HostRuntime) -> Result<(), Stop> {
-    let mut dice = Dice::new(11);
+    let mut chance = Chance::new(11);
     for path in env::args(rt)?.skip(1) {
-        print_file(rt, &path, &mut dice)?;
+        print_file(rt, &path, &mut chance)?;
     }
     println!(rt; "edits: same")?;
     println!(rt; "cuts: same")?;

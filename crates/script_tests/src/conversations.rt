@@ -356,9 +356,9 @@ fn failing_sinks(rt: HostRuntime) -> Result<(), Fail> {
     Ok(())
 }
 
-/// The words that ask for no memory.
-const FREE: [&[u8]; 8] = [
-    b"clear", b"undo", b"redo", b"items", b"objects", b"stack", b"memo", b"where",
+/// The words that may ask for memory. (`goto` and `back` do so by where they lead.)
+const ASKING: [&[u8]; 9] = [
+    b"step", b"run", b"break", b"replace", b"insert", b"delete", b"frame", b"unframe", b"show",
 ];
 
 /// Whether a line may find no memory that leads from one place to another over so many records. A way back finds it as far as records
@@ -369,7 +369,7 @@ fn may_lack(answer: &Answer, from: usize, to: usize, kept: usize) -> bool {
         return from < to || kept < from || text.starts_with(b"refused: C3 ");
     }
     let is_wrong = text.starts_with(b"refused: X") || text.starts_with(b"refused: V");
-    !is_wrong && !FREE.iter().any(|word| answer.line.starts_with(word))
+    !is_wrong && ASKING.iter().any(|word| answer.line.starts_with(word))
 }
 
 /// Obeys one line where one request for memory may be refused: whether it is answered as with ample memory, at once or given

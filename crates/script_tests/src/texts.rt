@@ -1,57 +1,62 @@
-//! What is written of bytes, over sinks that fail and with requests for memory refused. It is compared with what is written over a good
-//! sink with ample memory, which is tried from outside.
+//! What is written of bytes, and of the document of a session over them, over sinks that fail and with requests for memory refused. It is
+//! compared with what is written of the bytes over a good sink with ample memory, which is tried from outside.
 
 use pickle_further::Pickles;
-use pickle_script::{Stop, Text, write_text};
+use pickle_io::Page;
+use pickle_script::{Stop, Text, write_session_text, write_text};
+use pickle_session::{Session, Whole};
 use pickle_show::Detail;
 use std::alloc::{AllocError, Global};
 use std::test::Fail;
 use test_equipment::{Sip, insist_on_paper, page_over, paper, taken, written_out};
 
-/// Pickles that are listed.
-const LISTINGS: [&[u8]; 18] = [
+/// Pickles that are listed, and whose objects are reported.
+const ONE: [&[u8]; 23] = [
     b"K\x01K\x02\x86q\x00.",
     b"\x80\x04\x95\x06\x00\x00\x00\x00\x00\x00\x00]\x94K\x01a.",
     b"",
     b"0.",
     b"K",
     b"N.XY",
+    b"(K\x01.XY",
     b"N\x7f",
     b")2\x86.",
     b"K\x01K\x02.",
     b"(N.",
     b"]q\x00(h\x00h\x00e.",
     b"N(0.",
+    b"\x97\x98.",
+    b"K\x01q\x00K\x02q\x00h\x07.",
     b"X\x05\x00\x00\x00ab",
     b"\x95\x09\x00\x00\x00\x00\x00\x00\x00N.",
     b"\x95\x0b\x00\x00\x00\x00\x00\x00\x00N\x95\x00\x00\x00\x00\x00\x00\x00\x00.",
     b"\x95\x02\x00\x00\x00\x00\x00\x00\x00NK\x01.",
     b"g007\n.",
     b"cos\ngetcwd\n)R.",
-];
-
-/// Pickles whose objects are reported.
-const REPORTS: [&[u8]; 8] = [
-    b"\x80\x04\x95\x06\x00\x00\x00\x00\x00\x00\x00]\x94K\x01a.",
-    b"]q\x00(h\x00h\x00e.",
-    b"K\x01q\x00K\x02q\x00h\x07.",
-    b"X\x05\x00\x00\x00ab",
-    b"cos\ngetcwd\n)R.",
-    b"N(0.",
-    b"0.",
-    b"",
+    b"ccollections\nOrderedDict\n)R(K\x01K\x02u.",
+    // objects of every kind, with changes of every kind
+    b"N\x88\x89J\xff\xff\xff\xffI12\n\x8a\x02\xff\x00\x8a\x11\x01\x00\x00\x00\x00\x00\x00\x00\x00\x00\x00\x00\x00\x00\x00\x00\x00L5L\nF1.5\nG?\xf0\x00\x00\x00\x00\x00\x00U\x02'\\S'a'\n\x8c\x02h\nVz\nC\x01\x80\x96\x01\x00\x00\x00\x00\x00\x00\x00b0000000000000000)NN\x87]Na(NNe0\x8f(NN\x900(NN\x910}NNs(NNu0cm\nf\n)RNb0\x8c\x01m\x8c\x01n\x93)\x810cm\nf\n)}\x920(Nim\nf\n0(cm\nf\nNo0Pid\n0NQ0\x82\x050\x97\x98.",
 ];
 
 /// Several pickles, of which both are written.
-const SEVERAL: [&[u8]; 9] = [
+const SEVERAL: [&[u8]; 18] = [
     b"N.K\x01.",
     b"\x97.\x97.",
     b"Nq\x00.h\x00.",
     b"(N.N.",
+    b"(N.N(0.",
+    b"NN.(N.",
     b"NN.(N.0",
+    b"NN.0",
+    b".N.",
+    b"K\x01.]N.0",
     b"N.\xff",
+    b"(N.\xff",
     b"N.N",
+    b"N\x94.N\x94.",
     b"N\x94.]\x94(h\x00h\x00e.",
+    b"]q\x00(h\x00h\x00e.]q\x00(h\x00h\x00e.",
+    b"\x95\x04\x00\x00\x00\x00\x00\x00\x00N.N.",
     b"",
 ];
 
@@ -85,10 +90,8 @@ type Row = (Text, bool, &'static [u8]);
 /// All texts.
 fn rows(alloc: Global) -> Result<Vec<Row>, AllocError> {
     let mut rows = Vec::new(alloc);
-    for bytes in &LISTINGS {
+    for bytes in &ONE {
         rows.push((Text::Listing, false, *bytes))?;
-    }
-    for bytes in &REPORTS {
         rows.push((Text::Objects, false, *bytes))?;
     }
     for bytes in &SEVERAL {
@@ -101,6 +104,23 @@ fn rows(alloc: Global) -> Result<Vec<Row>, AllocError> {
     Ok(rows)
 }
 
+/// Writes the text of a row's bytes, or of the document of a session over them.
+fn write_row<S: Page>(
+    alloc: Global,
+    row: &Row,
+    of_session: bool,
+    page: &mut S,
+) -> Result<u8, Stop> {
+    let (text, many, bytes) = *row;
+    if !of_session {
+        return write_text(alloc, text, many, false, bytes, page);
+    }
+    match Session::open_in(alloc, Whole::new(alloc), many, false, bytes) {
+        Ok(session) => write_session_text(alloc, text, &session, page),
+        Err(_) => Err(Stop::Memory),
+    }
+}
+
 /// What is written of a row, and its status.
 #[derive(Drop)]
 struct Written {
@@ -109,19 +129,18 @@ struct Written {
 }
 
 /// What is written over a good sink, or nothing where a request for memory is refused.
-fn try_text(alloc: Global, row: &Row) -> Option<Written> {
-    let (text, many, bytes) = *row;
+fn try_text(alloc: Global, row: &Row, of_session: bool) -> Option<Written> {
     let mut page = paper(alloc).ok()?;
-    let status = write_text(alloc, text, many, false, bytes, &mut page).ok()?;
+    let status = write_row(alloc, row, of_session, &mut page).ok()?;
     let text = taken(page).ok()?;
     Some(Written { text, status })
 }
 
-/// What is written over a good sink with ample memory. Where one request may be refused it is asked again.
+/// What is written of the bytes over a good sink with ample memory. Where one request may be refused it is asked again.
 fn text_of(alloc: Global, row: &Row) -> Result<Written, Stop> {
-    match try_text(alloc, row) {
+    match try_text(alloc, row, false) {
         Some(written) => Ok(written),
-        None => try_text(alloc, row).ok_or(Stop::Memory),
+        None => try_text(alloc, row, false).ok_or(Stop::Memory),
     }
 }
 
@@ -130,13 +149,13 @@ fn text_of(alloc: Global, row: &Row) -> Result<Written, Stop> {
 fn breaks_right(
     alloc: Global,
     row: &Row,
+    of_session: bool,
     wanted: &Written,
     most: usize,
     calls: u64,
 ) -> Result<bool, AllocError> {
-    let (text, many, bytes) = *row;
     let mut page = page_over(alloc, Sip::new(alloc, most.max(1), calls))?;
-    let answer = write_text(alloc, text, many, false, bytes, &mut page);
+    let answer = write_row(alloc, row, of_session, &mut page);
     let answer = written_out(&mut page, answer);
     let taken = page.get_ref().taken();
     let ending = if taken.len() == wanted.text.len() {
@@ -151,23 +170,33 @@ fn breaks_right(
     )
 }
 
+/// The first sink that is left otherwise, by how many bytes it takes at most a call and after how many calls it fails.
+fn first_wrong(alloc: Global, row: &Row, of_session: bool) -> Result<Option<(usize, u64)>, Stop> {
+    let wanted = text_of(alloc, row)?;
+    for most in [1, 2, 7] {
+        for calls in 0..=wanted.text.len() as u64 {
+            if !breaks_right(alloc, row, of_session, &wanted, most, calls)? {
+                return Ok(Some((most, calls)));
+            }
+        }
+    }
+    Ok(None)
+}
+
 #[test]
 fn failing_sinks(rt: HostRuntime) -> Result<(), Fail> {
     for (k, row) in rows(rt.alloc())?.iter().enumerate() {
-        let wanted = text_of(rt.alloc(), row)?;
-        for most in [1, 2, 7] {
-            for calls in 0..=wanted.text.len() as u64 {
-                let is_right = breaks_right(rt.alloc(), row, &wanted, most, calls)?;
-                assert!(rt; is_right, "row {k}, {calls} calls of {most}");
-            }
+        for of_session in [false, true] {
+            let wrong = first_wrong(rt.alloc(), row, of_session)?;
+            assert_eq!(rt; wrong, None, "row {k}, of a session: {of_session}");
         }
     }
     Ok(())
 }
 
 /// Whether the same is written once more.
-fn is_written(alloc: Global, row: &Row, wanted: &Written) -> bool {
-    match try_text(alloc, row) {
+fn is_written(alloc: Global, row: &Row, of_session: bool, wanted: &Written) -> bool {
+    match try_text(alloc, row, of_session) {
         Some(found) => {
             found.text.as_slice() == wanted.text.as_slice() && found.status == wanted.status
         }
@@ -177,20 +206,21 @@ fn is_written(alloc: Global, row: &Row, wanted: &Written) -> bool {
 
 /// Whether a text is written where one request for memory may be refused: all of it, or a beginning, and all once it is asked for
 /// again. A report is not begun without memory for all of it.
-fn insists(alloc: Global, row: &Row) -> Result<bool, Stop> {
-    let (text, many, bytes) = *row;
+fn insists(alloc: Global, row: &Row, of_session: bool) -> Result<bool, Stop> {
     let wanted = text_of(alloc, row)?;
     let mut page = insist_on_paper(alloc)?;
-    let answer = write_text(alloc, text, many, false, bytes, &mut page);
+    let answer = write_row(alloc, row, of_session, &mut page);
     let answer = written_out(&mut page, answer);
     let written = page.into_inner().into_inner();
     let is_whole = written.as_slice() == wanted.text.as_slice();
     let is_begun = wanted.text.starts_with(written.as_slice());
-    let is_free = text != Text::Objects || written.is_empty();
+    let is_free = row.0 != Text::Objects || written.is_empty();
     match answer {
         Ok(status) => Ok(is_whole && status == wanted.status),
-        Err(Stop::Write) => Ok(is_begun && is_written(alloc, row, &wanted)),
-        Err(Stop::Memory) => Ok(is_begun && is_free && is_written(alloc, row, &wanted)),
+        Err(Stop::Write) => Ok(is_begun && is_written(alloc, row, of_session, &wanted)),
+        Err(Stop::Memory) => {
+            Ok(is_begun && is_free && is_written(alloc, row, of_session, &wanted))
+        }
         Err(_) => Ok(false),
     }
 }
@@ -203,7 +233,10 @@ fn refused_memory(rt: HostRuntime) -> Result<(), Fail> {
         Err(_) => rows(rt.alloc())?,
     };
     for (k, row) in rows.iter().enumerate() {
-        assert!(rt; insists(rt.alloc(), row)?, "row {k}");
+        for of_session in [false, true] {
+            let is_right = insists(rt.alloc(), row, of_session)?;
+            assert!(rt; is_right, "row {k}, of a session: {of_session}");
+        }
     }
     Ok(())
 }

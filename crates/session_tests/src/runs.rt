@@ -3,16 +3,17 @@
 
 ghost use Rattle.std.specs.Prelude.{◌≡◌, []};
 
+use crate::memory::try_memory;
 use pickle_doc::{DocFault, Edit, LIMIT};
 use pickle_io::{Failed, ToWrite};
 use pickle_machine::Machine;
 use pickle_ops::{Op, OpFault, Opcode, op_of};
-use pickle_session::{Command, Reply, Session, Whole};
-use std::alloc::{AllocError, Global};
+use pickle_session::{Command, Past, Reply, Session, Whole};
+use std::alloc::{AllocError, AllocFailed, Global};
 use std::fs::File;
 use std::io::Read;
 use std::{env, io};
-use test_equipment::{ScriptFault, follow_whole, follow_window, note_whole, note_window};
+use test_equipment::Chance;
 
 /// How many commands are given over each file.
 const COMMANDS: u32 = 300;
@@ -46,12 +47,9 @@ impl From<AllocError> for Stop {
     }
 }
 
-impl From<ScriptFault> for Stop {
-    fn from(fault: ScriptFault) -> Stop {
-        match fault {
-            ScriptFault::Memory => Stop::Room,
-            ScriptFault::Differs(number) => Stop::Differs(number),
-        }
+impl<T: Drop> From<AllocFailed<T>> for Stop {
+    fn from(_error: AllocFailed<T>) -> Stop {
+        Stop::Room
     }
 }
 
@@ -64,24 +62,6 @@ impl From<OpFault> for Stop {
 impl From<Failed> for Stop {
     fn from(_failed: Failed) -> Stop {
         Stop::Room
-    }
-}
-
-/// Numbers that look random, the same in every run.
-#[derive(Drop)]
-struct Chance {
-    state: u64,
-}
-
-impl Chance {
-    /// A number below another, which is not 0.
-    fn below(&mut self, count: usize) -> usize {
-        self.state = self
-            .state
-            .wrapping_mul(6_364_136_223_846_793_005)
-            .wrapping_add(1_442_695_040_888_963_407);
-        let number = (self.state >> 33) as usize;
-        number.checked_rem(count).unwrap_or(0)
     }
 }
 
@@ -140,7 +120,7 @@ fn any_command(
 }
 
 /// The bytes of a session's document.
-fn bytes_of(alloc: Global, session: &Session<Whole>) -> Result<Vec<u8>, Stop> {
+pub fn bytes_of<P: Past>(alloc: Global, session: &Session<P>) -> Result<Vec<u8>, Stop> {
     let mut sink = ToWrite::new(Vec::new(alloc));
     session.document().write_bytes(&mut sink)?;
     Ok(sink.into_inner())
@@ -234,7 +214,7 @@ fn go_home(alloc: Global, session: &mut Session<Whole>, bytes: &[u8]) -> Result<
 }
 
 /// The bytes of a file.
-fn bytes_at(rt: &HostRuntime, path: &str) -> Result<Vec<u8>, Stop> {
+pub fn bytes_at(rt: &HostRuntime, path: &str) -> Result<Vec<u8>, Stop> {
     let mut bytes = Vec::new(rt.alloc());
     File::open(rt, path)?
         .take(LIMIT as u64 + 1)
@@ -254,22 +234,9 @@ fn try_file(rt: &HostRuntime, path: &str, chance: &mut Chance) -> Result<(), Sto
     Ok(())
 }
 
-/// Writes down what a script shows with ample memory, says so in a line, and follows the script, with all records and with two.
-/// A request for memory that is made after that line may be refused.
-fn try_memory(rt: &HostRuntime, path: &str) -> Result<(), Stop> {
-    let bytes = bytes_at(rt, path)?;
-    let whole = note_whole(rt.alloc(), &bytes)?;
-    let window = note_window(rt.alloc(), &bytes)?;
-    println!(rt; "noted")?;
-    follow_whole(rt.alloc(), &bytes, &whole)?;
-    follow_window(rt.alloc(), &bytes, &window)?;
-    println!(rt; "as noted")?;
-    Ok(())
-}
-
 /// Tries each file that the words of the command line name.
 pub fn try_files(rt: &HostRuntime) -> Result<(), Stop> {
-    let mut chance = Chance { state: 1 };
+    let mut chance = Chance::new(1);
     let mut is_memory = false;
     for word in env::args(rt)?.skip(1) {
         if is_memory {

@@ -9,9 +9,9 @@ use pickle_doc::{Edit, End};
 use pickle_machine::Refusal;
 use pickle_ops::Opcode;
 use pickle_session::{Command, Fault, Past, Reply, Session, Whole, Why};
-use std::alloc::{AllocError, Global};
+use std::alloc::Global;
 use std::test::Fail;
-use test_equipment::{Comparison, paper, shows, taken, write_session};
+use test_equipment::{Comparison, LARGE, large, paper, shows, taken, write_session};
 
 /// The usual dump of a list with the number 1.
 const DUMP: &[u8] = b"\x80\x04\x95\x06\x00\x00\x00\x00\x00\x00\x00]\x94K\x01a.";
@@ -375,22 +375,6 @@ fn a_thousand_insertions(rt: HostRuntime) -> Result<(), Fail> {
     assert!(rt; has_bytes(&session, &bytes));
     assert_eq!(rt; (session.undos(), session.redos()), (1000, 0));
     Ok(())
-}
-
-/// How many bytes a large pickle has.
-const LARGE: usize = 268_435_456;
-
-/// A large pickle: one BINBYTES and STOP.
-fn large(alloc: Global) -> Result<Vec<u8>, AllocError> {
-    let mut bytes = vec![in alloc; 0u8; LARGE]?;
-    let front: &[u8] = b"B\xfa\xff\xff\x0f";
-    for (byte, want) in bytes.iter_mut().zip(front) {
-        *byte = *want;
-    }
-    if let Some(last) = bytes.last_mut() {
-        *last = b'.';
-    }
-    Ok(bytes)
 }
 
 /// A session over a large pickle goes to its end, and an opcode more is taken in and out again.

@@ -189,7 +189,7 @@ function isHeld(lines, at, size) {
 
 // --- Answers of `debug` ---
 
-// What a refused line was told, or null.
+// Why a line is refused, or null where it is not.
 const refusedIn = (answer) => (answer.startsWith('refused: ') ? answer.slice(9).trimEnd() : null);
 
 // The place that an answer to a move or an edit says; null where it says none.

@@ -6,30 +6,10 @@ use crate::document::shown::{Wrong, written};
 use pickle_doc::{Document, there_and_back};
 use pickle_ops::{Opcode, op_of};
 use std::alloc::Global;
+use test_equipment::Chance;
 
 /// How many items there are.
 pub const ITEMS: usize = 1_000_000;
-
-/// A row of numbers that look like dice, always the same row.
-#[derive(Clone, Copy)]
-pub struct Dice {
-    state: u64,
-}
-
-impl Dice {
-    /// The row from this number on.
-    pub fn new(state: u64) -> Dice {
-        Dice { state }
-    }
-
-    /// The next number below a limit; 0 where the limit is 0.
-    pub fn below(&mut self, limit: usize) -> usize {
-        let next = self.state.wrapping_mul(6_364_136_223_846_793_005);
-        self.state = next.wrapping_add(1_442_695_040_888_963_407);
-        let high = (self.state >> 33) as usize;
-        high.checked_rem(limit).unwrap_or(0)
-    }
-}
 
 /// The bytes of a million items.
 pub fn million(alloc: Global) -> Result<Vec<u8>, Wrong> {
@@ -63,7 +43,7 @@ fn put_and_take(
     Ok(())
 }
 
-/// Opens a million items, makes this many edits, at one place or at places by dice, and writes the bytes, which are those
+/// Opens a million items, makes this many edits, at one place or at random places, and writes the bytes, which are those
 /// opened.
 pub fn edit_many(
     alloc: Global,
@@ -73,10 +53,10 @@ pub fn edit_many(
 ) -> Result<(), Wrong> {
     let bytes = million(alloc)?;
     let mut document = Document::read(alloc, &bytes)?;
-    let mut dice = Dice::new(7);
+    let mut chance = Chance::new(7);
     for _ in 0..edits / 2 {
         let place = if is_random {
-            dice.below(ITEMS)
+            chance.below(ITEMS)
         } else {
             ITEMS / 2
         };

@@ -2,7 +2,7 @@
 
 use crate::document::shown::{Wrong, written};
 use pickle_doc::{Document, End, TailFault};
-use pickle_ops::FrontFault;
+use pickle_ops::{Form, FrontFault, Opcode};
 use std::alloc::Global;
 
 /// How a reading ends, with the offset.
@@ -159,28 +159,26 @@ pub fn first_wrong_cut(alloc: Global, cuts: &Cuts) -> Result<Option<usize>, Wron
     Ok(None)
 }
 
-/// How often the reading of a single byte ends so: no opcode; an argument that is not there; an opcode, and then the end;
-/// STOP; otherwise.
-pub fn single_bytes(alloc: Global) -> Result<[u32; 5], Wrong> {
-    let mut counts = [0u32; 5];
+/// How the reading of a byte alone ends, and how many items it has: where no opcode has this code; at STOP; behind another opcode
+/// without an argument; or where the argument is not there.
+fn wanted_alone(byte: u8) -> (usize, End) {
+    match Opcode::of_code(byte) {
+        None => {
+            let fault = TailFault::Front(FrontFault::UnknownOpcode(byte));
+            (0, End::Fault(fault, 0))
+        }
+        Some(Opcode::Stop) => (1, Stop::Whole.end()),
+        Some(opcode) if opcode.form() == Form::Empty => (1, Stop::Ended(1).end()),
+        Some(_) => (0, Stop::Short(0).end()),
+    }
+}
+
+/// The first byte whose reading alone ends otherwise, or nothing.
+pub fn first_wrong_byte(alloc: Global) -> Result<Option<u8>, Wrong> {
     for byte in 0..=255u8 {
-        let (len, end) = end_of(alloc, &[byte])?;
-        let kind = if len == 0
-            && end == End::Fault(TailFault::Front(FrontFault::UnknownOpcode(byte)), 0)
-        {
-            0
-        } else if len == 0 && end == Stop::Short(0).end() {
-            1
-        } else if len == 1 && end == Stop::Ended(1).end() {
-            2
-        } else if len == 1 && end == End::Stopped && byte == b'.' {
-            3
-        } else {
-            4
-        };
-        if let Some(count) = counts.get_mut(kind) {
-            *count = count.saturating_add(1);
+        if end_of(alloc, &[byte])? != wanted_alone(byte) {
+            return Ok(Some(byte));
         }
     }
-    Ok(counts)
+    Ok(None)
 }

@@ -7,7 +7,7 @@ use pickle_doc::{DocFault, Document, Edit, EditFault, EditRecord, End, TailFault
 use pickle_io::{Failed, Page, ToWrite, write_all, write_decimal};
 use pickle_ops::{FrontFault, Op, OpFault, Opcode, op_of};
 use std::alloc::Global;
-use test_equipment::{paper, taken};
+use test_equipment::{code_of, paper, taken};
 
 /// Bytes, and what they read as: of each item the offset, the name, the identity, and the place of the FRAME whose member it is; then the
 /// offset of the tail and how reading ended.
@@ -124,20 +124,6 @@ pub fn have_same_ids(left: &Document, right: &Document) -> bool {
         }
     }
     true
-}
-
-/// The code of a fault of the tail, as the listing has it.
-fn code_of(fault: TailFault) -> &'static str {
-    match fault {
-        TailFault::Front(FrontFault::Ended) => "F1",
-        TailFault::Front(FrontFault::UnknownOpcode(_)) => "F2",
-        TailFault::Front(FrontFault::Truncated) => "F3",
-        TailFault::Front(FrontFault::NegativeLength) => "F4",
-        TailFault::Front(FrontFault::BadArgument) => "F5",
-        TailFault::FrameInFrame => "F6",
-        TailFault::FramePastEnd => "F7",
-        TailFault::FrameCrossed => "F8",
-    }
 }
 
 /// Writes how reading ended.

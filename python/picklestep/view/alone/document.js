@@ -152,13 +152,13 @@ class Document {
       check(into);
       return;
     }
-    let told = 0;
+    let reported = 0;
     runTask(this.module, [words[0], 'file', ...words.slice(1)], this.bytes(), (bytes) => {
       into.feed(bytes);
       check(into);
-      if (into.length - told < 200000) return;
-      told = into.length;
-      this.progress(`${words[0]}: ${told.toLocaleString('en')} lines`);
+      if (into.length - reported < 200000) return;
+      reported = into.length;
+      this.progress(`${words[0]}: ${reported.toLocaleString('en')} lines`);
     });
   }
 

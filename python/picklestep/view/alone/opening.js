@@ -221,9 +221,9 @@ function openExample(number) {
 
 // What the example says of the place where the cursor is.
 function showStory() {
-  const told = view.story && view.state ? view.story.text.filter(([place]) => place <= view.state.place).at(-1) : null;
-  by('story').hidden = !told;
-  by('story').textContent = told ? told[1] : '';
+  const part = view.story && view.state ? view.story.text.filter(([place]) => place <= view.state.place).at(-1) : null;
+  by('story').hidden = !part;
+  by('story').textContent = part ? part[1] : '';
 }
 
 // --- Beginning ---

@@ -1,68 +1,36 @@
 //! Texts that go to sinks which fail at each of their calls in turn.
 
-use crate::report::opened;
-use pickle_io::{Failed, Page};
+use pickle_io::Page;
 use pickle_machine::Machine;
-use pickle_show::{
-    TextStop, write_document_report, write_memo, write_object, write_objects, write_show,
-    write_stack,
-};
+use pickle_show::{TextStop, write_memo, write_show, write_stack};
 use std::alloc::Global;
 use test_equipment::{Sip, page_over, paper, taken, written_out};
 
-/// A text of a machine, or of some bytes.
+/// A text of a machine.
 #[derive(Clone, Copy)]
-pub enum Text<'a> {
-    Objects,
-    Object(u32),
+pub enum Text {
     Stack,
     Memo,
     Show(u32),
-    Report { bytes: &'a [u8], many: bool },
-}
-
-/// Writes the report of some bytes.
-fn write_report_of<S: Page>(
-    alloc: Global,
-    many: bool,
-    bytes: &[u8],
-    page: &mut S,
-) -> Result<(), TextStop> {
-    let Ok(document) = opened(alloc, many, bytes) else {
-        return Err(TextStop::Memory);
-    };
-    write_document_report(alloc, &document, page)?;
-    Ok(())
-}
-
-/// Writes an object that is there.
-fn write_one<S: Page>(machine: &Machine, id: u32, page: &mut S) -> Result<(), Failed> {
-    match machine.object(id) {
-        Some(object) => write_object(u64::from(id), object, page),
-        None => Ok(()),
-    }
 }
 
 /// Writes a text.
 fn write_text<S: Page>(
     alloc: Global,
     machine: &Machine,
-    text: Text<'_>,
+    text: Text,
     page: &mut S,
 ) -> Result<(), TextStop> {
     match text {
-        Text::Objects => write_objects(machine, page)?,
-        Text::Object(id) => write_one(machine, id, page)?,
         Text::Stack => write_stack(machine, page)?,
         Text::Memo => write_memo(machine, page)?,
         Text::Show(id) => write_show(alloc, machine, id, page)?,
-        Text::Report { bytes, many } => write_report_of(alloc, many, bytes, page)?,
     }
     Ok(())
 }
 
 /// A text with a good sink and ample memory.
-pub fn text_of(alloc: Global, machine: &Machine, text: Text<'_>) -> Result<Vec<u8>, TextStop> {
+pub fn text_of(alloc: Global, machine: &Machine, text: Text) -> Result<Vec<u8>, TextStop> {
     let mut page = paper(alloc)?;
     write_text(alloc, machine, text, &mut page)?;
     Ok(taken(page)?)
@@ -73,7 +41,7 @@ pub fn text_of(alloc: Global, machine: &Machine, text: Text<'_>) -> Result<Vec<u
 fn is_whole(
     alloc: Global,
     machine: &Machine,
-    text: Text<'_>,
+    text: Text,
     wanted: &[u8],
     most: usize,
     calls: u64,
@@ -101,7 +69,7 @@ fn is_whole(
 
 /// How many sinks took a beginning of the text and failed, and were not called again; 0 where one was left otherwise. There is
 /// one that fails at each call, of those that take 1, 2 and 7 bytes a call, and then one that takes all.
-pub fn every_break(alloc: Global, machine: &Machine, text: Text<'_>) -> Result<usize, TextStop> {
+pub fn every_break(alloc: Global, machine: &Machine, text: Text) -> Result<usize, TextStop> {
     let wanted = text_of(alloc, machine, text)?;
     let mut broken = 0usize;
     for most in [1, 2, 7] {

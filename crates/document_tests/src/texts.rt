@@ -1,19 +1,15 @@
-//! Texts of machines, and reports of documents, to sinks that fail and where requests for memory are refused; and large texts. What the
-//! others are is judged from outside, by the rows of equipment/texts.txt and equipment/conversations.txt.
+//! Texts of machines, to sinks that fail and where requests for memory are refused; and large texts. What the others are is judged from
+//! outside, by the rows of equipment/conversations.txt.
 
 mod devices;
 
-use crate::report::devices::{Text, every_break, text_of};
+use crate::texts::devices::{Text, every_break, text_of};
 use pickle_doc::{DocFault, Document};
 use pickle_machine::Machine;
-use pickle_show::{TextStop, write_document_report, write_show};
+use pickle_show::{TextStop, write_show};
 use std::alloc::Global;
 use std::test::Fail;
 use test_equipment::{insist_on_paper, paper, taken, written_out};
-
-/// Objects of every kind, with changes of every kind.
-const ALL_KINDS: &[u8] =
-    b"N\x88\x89J\xff\xff\xff\xffI12\n\x8a\x02\xff\x00\x8a\x11\x01\x00\x00\x00\x00\x00\x00\x00\x00\x00\x00\x00\x00\x00\x00\x00\x00L5L\nF1.5\nG?\xf0\x00\x00\x00\x00\x00\x00U\x02'\\S'a'\n\x8c\x02h\nVz\nC\x01\x80\x96\x01\x00\x00\x00\x00\x00\x00\x00b0000000000000000)NN\x87]Na(NNe0\x8f(NN\x900(NN\x910}NNs(NNu0cm\nf\n)RNb0\x8c\x01m\x8c\x01n\x93)\x810cm\nf\n)}\x920(Nim\nf\n0(cm\nf\nNo0Pid\n0NQ0\x82\x050\x97\x98.";
 
 /// A list appended to itself by way of the memo.
 const BY_MEMO: &[u8] = b"]q\x00(h\x00h\x00e.";
@@ -24,33 +20,6 @@ const ORDERED: &[u8] = b"ccollections\nOrderedDict\n)R(K\x01K\x02u.";
 
 /// A memo entry that is not there.
 const NO_ENTRY: &[u8] = b"K\x01q\x00K\x02q\x00h\x07.";
-
-/// Bytes whose report is written.
-const REPORTS: [&[u8]; 11] = [
-    b"\x80\x04\x95\x06\x00\x00\x00\x00\x00\x00\x00]\x94K\x01a.",
-    CALL,
-    ORDERED,
-    b"N(0.",
-    b"\x97\x98.",
-    NO_ENTRY,
-    b"0.",
-    b"",
-    b"X\x05\x00\x00\x00ab",
-    b"N\x7f",
-    ALL_KINDS,
-];
-
-/// Many pickles whose report is written.
-const MANY: [&[u8]; 8] = [
-    b"N.K\x01.",
-    b"\x97.\x97.",
-    b"N.\xff",
-    b"N.N",
-    b"Nq\x00.h\x00.",
-    b"K\x01.]N.0",
-    b"]q\x00(h\x00h\x00e.]q\x00(h\x00h\x00e.",
-    b".N.",
-];
 
 /// Objects that are shown after this many opcodes.
 const SHOWN: [(&[u8], usize, u32); 5] = [
@@ -63,7 +32,7 @@ const SHOWN: [(&[u8], usize, u32); 5] = [
 ];
 
 /// The stack and the memo after this many opcodes.
-const STACKS_AND_MEMOS: [(&[u8], usize, Text<'static>); 10] = [
+const STACKS_AND_MEMOS: [(&[u8], usize, Text); 10] = [
     (BY_MEMO, 5, Text::Stack),
     (BY_MEMO, 6, Text::Stack),
     (b"]2a.", 2, Text::Stack),
@@ -93,29 +62,6 @@ fn try_machine(alloc: Global, bytes: &[u8], count: usize) -> Option<Machine> {
 /// The machine after this many opcodes of a pickle.
 fn machine_of(alloc: Global, bytes: &[u8], count: usize) -> Result<Machine, DocFault> {
     try_machine(alloc, bytes, count).ok_or(DocFault::Memory)
-}
-
-/// What bytes read as, as many pickles or as one.
-pub fn opened(alloc: Global, many: bool, bytes: &[u8]) -> Result<Document, DocFault> {
-    if many {
-        Document::read_many(alloc, bytes)
-    } else {
-        Document::read(alloc, bytes)
-    }
-}
-
-/// The text and the status of a report, or nothing where memory is refused.
-fn try_report(alloc: Global, many: bool, bytes: &[u8]) -> Option<(Vec<u8>, u8)> {
-    let document = opened(alloc, many, bytes).ok()?;
-    let mut page = paper(alloc).ok()?;
-    let status = write_document_report(alloc, &document, &mut page).ok()?;
-    let text = taken(page).ok()?;
-    Some((text, status))
-}
-
-/// The text and the status of a report.
-fn reported(alloc: Global, many: bool, bytes: &[u8]) -> Result<(Vec<u8>, u8), DocFault> {
-    try_report(alloc, many, bytes).ok_or(DocFault::Memory)
 }
 
 /// A tuple in a tuple, and so on: each is one line, the innermost the last.
@@ -156,50 +102,7 @@ fn failing_sinks(rt: HostRuntime) -> Result<(), Fail> {
         let found = every_break(rt.alloc(), &machine, *text)?;
         assert!(rt; found > 0, "stack or memo of {bytes:?}");
     }
-    for bytes in &REPORTS {
-        let machine = Machine::new(rt.alloc());
-        let report = Text::Report { bytes, many: false };
-        let found = every_break(rt.alloc(), &machine, report)?;
-        assert!(rt; found > 0, "report of {bytes:?}");
-    }
     Ok(())
-}
-
-#[test]
-fn failing_sinks_of_many(rt: HostRuntime) -> Result<(), Fail> {
-    for bytes in &MANY {
-        let machine = Machine::new_many(rt.alloc());
-        let report = Text::Report { bytes, many: true };
-        let found = every_break(rt.alloc(), &machine, report)?;
-        assert!(rt; found > 0, "report of {bytes:?}");
-    }
-    Ok(())
-}
-
-/// The objects of all kinds, as a machine shows them: the report without its closing line.
-#[test]
-fn failing_sinks_of_objects(rt: HostRuntime) -> Result<(), Fail> {
-    let document = Document::read(rt.alloc(), ALL_KINDS)?;
-    let machine = machine_of(rt.alloc(), ALL_KINDS, document.len())?;
-    let (report, _) = reported(rt.alloc(), false, ALL_KINDS)?;
-    let end = b"result #58\n".as_slice();
-    let (objects, closing) = report.split_at(report.len().saturating_sub(end.len()));
-    assert_eq!(rt; closing, end);
-    let text = text_of(rt.alloc(), &machine, Text::Objects)?;
-    assert_eq!(rt; text.as_slice(), objects);
-    assert!(rt; every_break(rt.alloc(), &machine, Text::Objects)? > 0);
-    let text = text_of(rt.alloc(), &machine, Text::Object(0))?;
-    assert_eq!(rt; text.as_slice(), b"#0 none".as_slice());
-    assert!(rt; every_break(rt.alloc(), &machine, Text::Object(0))? > 0);
-    Ok(())
-}
-
-/// A document, where one request for memory may be refused.
-fn insist_on_reading(alloc: Global, many: bool, bytes: &[u8]) -> Result<Document, DocFault> {
-    match opened(alloc, many, bytes) {
-        Err(DocFault::Memory) => opened(alloc, many, bytes),
-        other => other,
-    }
 }
 
 /// A machine after this many opcodes, where one request for memory may be refused.
@@ -217,27 +120,6 @@ fn is_answer(taken: &[u8], text: &[u8], answer: Result<(), TextStop>) -> bool {
         Ok(()) => taken == text,
         Err(TextStop::Failed) => text.starts_with(taken),
         Err(TextStop::Memory) => taken.is_empty(),
-    }
-}
-
-/// A report where one request for memory may be refused, and asked for again then.
-fn report_with_little(alloc: Global, many: bool, bytes: &[u8]) -> Result<bool, Fail> {
-    let (text, status) = match try_report(alloc, many, bytes) {
-        Some(found) => found,
-        None => reported(alloc, many, bytes)?,
-    };
-    let document = insist_on_reading(alloc, many, bytes)?;
-    let mut page = insist_on_paper(alloc)?;
-    let answer = write_document_report(alloc, &document, &mut page);
-    let answer = written_out(&mut page, answer);
-    let written = page.into_inner().into_inner();
-    match answer {
-        Ok(found) => Ok(found == status && written.as_slice() == text.as_slice()),
-        Err(stop) => {
-            let (again, found) = reported(alloc, many, bytes)?;
-            let is_whole = again.as_slice() == text.as_slice() && found == status;
-            Ok(is_whole && is_answer(&written, &text, Err(stop)))
-        }
     }
 }
 
@@ -266,24 +148,10 @@ fn show_with_little(alloc: Global, machine: &Machine, id: u32) -> Result<bool, F
 /// Run with each request for memory refused in turn.
 #[test]
 fn refused_memory(rt: HostRuntime) -> Result<(), Fail> {
-    for bytes in &REPORTS {
-        let is_right = report_with_little(rt.alloc(), false, bytes)?;
-        assert!(rt; is_right, "report of {bytes:?}");
-    }
     for (bytes, count, id) in &SHOWN {
         let machine = insist_on_running(rt.alloc(), bytes, *count)?;
         let is_right = show_with_little(rt.alloc(), &machine, *id)?;
         assert!(rt; is_right, "object of {bytes:?}");
-    }
-    Ok(())
-}
-
-/// The same of many pickles.
-#[test]
-fn refused_memory_of_many(rt: HostRuntime) -> Result<(), Fail> {
-    for bytes in &MANY {
-        let is_right = report_with_little(rt.alloc(), true, bytes)?;
-        assert!(rt; is_right, "report of {bytes:?}");
     }
     Ok(())
 }

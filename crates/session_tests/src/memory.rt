@@ -3,52 +3,12 @@
 
 ghost use Rattle.std.specs.Prelude.{◌≡◌, []};
 
-use crate::pages::{paper, taken};
-use crate::session::{shows, write_session};
-use pickle_doc::{DocFault, Edit};
-use pickle_io::{Failed, ToWrite};
+use crate::runs::{Stop, bytes_at, bytes_of};
+use pickle_doc::Edit;
 use pickle_ops::{OpFault, Opcode, op_of};
 use pickle_session::{Command, Fault, Past, Reply, Session, Whole, Window};
-use std::alloc::{AllocError, AllocFailed, Global};
-
-/// Why a script did not go as noted.
-#[derive(Clone, Copy, Debug, PartialEq, Eq)]
-pub enum ScriptFault {
-    /// Memory was refused where it should not be, or more than once.
-    Memory,
-    /// Another thing is shown, after this many commands.
-    Differs(u32),
-}
-
-impl From<AllocError> for ScriptFault {
-    fn from(_error: AllocError) -> ScriptFault {
-        ScriptFault::Memory
-    }
-}
-
-impl<T: Drop> From<AllocFailed<T>> for ScriptFault {
-    fn from(_error: AllocFailed<T>) -> ScriptFault {
-        ScriptFault::Memory
-    }
-}
-
-impl From<OpFault> for ScriptFault {
-    fn from(_fault: OpFault) -> ScriptFault {
-        ScriptFault::Memory
-    }
-}
-
-impl From<DocFault> for ScriptFault {
-    fn from(_fault: DocFault) -> ScriptFault {
-        ScriptFault::Memory
-    }
-}
-
-impl From<Failed> for ScriptFault {
-    fn from(_failed: Failed) -> ScriptFault {
-        ScriptFault::Memory
-    }
-}
+use std::alloc::Global;
+use test_equipment::{paper, shows, taken, write_session};
 
 /// The commands: to the end, half way back, an edit ahead, to the end again, to the start, and the edit undone.
 const COMMANDS: usize = 6;
@@ -65,7 +25,7 @@ fn command(alloc: Global, k: usize, len: usize) -> Result<Command, OpFault> {
 }
 
 /// Command k, where one request for memory may be refused.
-fn insist_on_command(alloc: Global, k: usize, len: usize) -> Result<Command, ScriptFault> {
+fn insist_on_command(alloc: Global, k: usize, len: usize) -> Result<Command, Stop> {
     match command(alloc, k, len) {
         Ok(command) => Ok(command),
         Err(_) => Ok(command(alloc, k, len)?),
@@ -74,7 +34,7 @@ fn insist_on_command(alloc: Global, k: usize, len: usize) -> Result<Command, Scr
 
 /// What is shown after a command, and the reply to it.
 #[derive(Drop)]
-pub struct Note {
+struct Note {
     reply: Option<Reply>,
     shown: Vec<u8>,
     bytes: Vec<u8>,
@@ -86,21 +46,19 @@ fn note_of<P: Past>(
     alloc: Global,
     session: &Session<P>,
     reply: Option<Reply>,
-) -> Result<Note, ScriptFault> {
+) -> Result<Note, Stop> {
     let mut shown = paper(alloc)?;
-    let mut bytes = ToWrite::new(Vec::new(alloc));
     write_session(session, &mut shown)?;
-    session.document().write_bytes(&mut bytes)?;
     Ok(Note {
         reply,
         shown: taken(shown)?,
-        bytes: bytes.into_inner(),
+        bytes: bytes_of(alloc, session)?,
         kept: session.kept(),
     })
 }
 
 /// What a session shows at first and after each command.
-fn note_down<P: Past>(alloc: Global, session: &mut Session<P>) -> Result<Vec<Note>, ScriptFault> {
+fn note_down<P: Past>(alloc: Global, session: &mut Session<P>) -> Result<Vec<Note>, Stop> {
     let len = session.document().len();
     let mut notes = Vec::new(alloc);
     notes.push(note_of(alloc, session, None)?)?;
@@ -131,8 +89,8 @@ fn may_lack<P: Past>(session: &Session<P>, k: usize) -> bool {
 }
 
 /// What is shown after command k differs.
-fn differs_at(k: usize) -> ScriptFault {
-    ScriptFault::Differs(u32::try_from(k).unwrap_or(u32::MAX))
+fn differs_at(k: usize) -> Stop {
+    Stop::Differs(u32::try_from(k).unwrap_or(u32::MAX))
 }
 
 /// Obeys command k. Where memory is refused, everything is as it was; and given again it is obeyed.
@@ -141,7 +99,7 @@ fn obey_noted<P: Past>(
     session: &mut Session<P>,
     notes: &[Note],
     k: usize,
-) -> Result<(), ScriptFault> {
+) -> Result<(), Stop> {
     let command = insist_on_command(alloc, k, session.document().len())?;
     let may_lack = may_lack(session, k);
     let mut reply = session.obey(alloc, &command);
@@ -161,13 +119,9 @@ fn obey_noted<P: Past>(
 }
 
 /// Obeys all commands, and compares what is shown with the notes.
-fn follow<P: Past>(
-    alloc: Global,
-    session: &mut Session<P>,
-    notes: &[Note],
-) -> Result<(), ScriptFault> {
+fn follow<P: Past>(alloc: Global, session: &mut Session<P>, notes: &[Note]) -> Result<(), Stop> {
     if !is_noted(session, notes.first()) {
-        return Err(ScriptFault::Differs(0));
+        return Err(Stop::Differs(0));
     }
     for k in 0..COMMANDS {
         obey_noted(alloc, session, notes, k)?;
@@ -176,7 +130,7 @@ fn follow<P: Past>(
 }
 
 /// A session with all records, where one request for memory may be refused.
-fn open_whole(alloc: Global, bytes: &[u8]) -> Result<Session<Whole>, ScriptFault> {
+fn open_whole(alloc: Global, bytes: &[u8]) -> Result<Session<Whole>, Stop> {
     match Session::open(alloc, Whole::new(alloc), bytes) {
         Ok(session) => Ok(session),
         Err(_) => Ok(Session::open(alloc, Whole::new(alloc), bytes)?),
@@ -184,35 +138,27 @@ fn open_whole(alloc: Global, bytes: &[u8]) -> Result<Session<Whole>, ScriptFault
 }
 
 /// A session with the latest two records.
-fn try_window(alloc: Global, bytes: &[u8]) -> Result<Session<Window>, ScriptFault> {
+fn try_window(alloc: Global, bytes: &[u8]) -> Result<Session<Window>, Stop> {
     Ok(Session::open(alloc, Window::new(alloc, 2)?, bytes)?)
 }
 
 /// A session with the latest two records, where one request for memory may be refused.
-fn open_window(alloc: Global, bytes: &[u8]) -> Result<Session<Window>, ScriptFault> {
+fn open_window(alloc: Global, bytes: &[u8]) -> Result<Session<Window>, Stop> {
     match try_window(alloc, bytes) {
         Ok(session) => Ok(session),
         Err(_) => try_window(alloc, bytes),
     }
 }
 
-/// What the script shows over some bytes with all records and ample memory.
-pub fn note_whole(alloc: Global, bytes: &[u8]) -> Result<Vec<Note>, ScriptFault> {
-    note_down(alloc, &mut open_whole(alloc, bytes)?)
-}
-
-/// What the script shows over some bytes with the latest two records and ample memory.
-pub fn note_window(alloc: Global, bytes: &[u8]) -> Result<Vec<Note>, ScriptFault> {
-    note_down(alloc, &mut open_window(alloc, bytes)?)
-}
-
-/// Follows the script with all records, where one request for memory may be refused, and compares what is shown with the notes.
-pub fn follow_whole(alloc: Global, bytes: &[u8], notes: &[Note]) -> Result<(), ScriptFault> {
-    follow(alloc, &mut open_whole(alloc, bytes)?, notes)
-}
-
-/// Follows the script with the latest two records, where one request for memory may be refused, and compares what is shown with
-/// the notes.
-pub fn follow_window(alloc: Global, bytes: &[u8], notes: &[Note]) -> Result<(), ScriptFault> {
-    follow(alloc, &mut open_window(alloc, bytes)?, notes)
+/// Writes down what the script shows over a file with ample memory, says so in a line, and follows the script, with all records and with
+/// two. A request for memory that is made after that line may be refused.
+pub fn try_memory(rt: &HostRuntime, path: &str) -> Result<(), Stop> {
+    let bytes = bytes_at(rt, path)?;
+    let whole = note_down(rt.alloc(), &mut open_whole(rt.alloc(), &bytes)?)?;
+    let window = note_down(rt.alloc(), &mut open_window(rt.alloc(), &bytes)?)?;
+    println!(rt; "noted")?;
+    follow(rt.alloc(), &mut open_whole(rt.alloc(), &bytes)?, &whole)?;
+    follow(rt.alloc(), &mut open_window(rt.alloc(), &bytes)?, &window)?;
+    println!(rt; "as noted")?;
+    Ok(())
 }
