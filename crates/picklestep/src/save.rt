@@ -65,12 +65,7 @@ impl NewFile {
 
     /// Waits until the bytes that it was filled with are stored, and then gives the file this name. A mount point is not replaced:
     /// `Stop::Write`.
-    fn move_to(
-        &self,
-        rt: &HostRuntime,
-        target: &PathBuf,
-        filled: Filled<&File>,
-    ) -> Result<(), Stop>
+    fn move_to(&self, rt: &HostRuntime, target: &PathBuf, filled: Filled<&File>) -> Result<(), Stop>
         ensures { IfErr result (λ e. IsTrue (is_loss e)) }
     {
         if filled.writer.sync_all().is_err() || fs::rename(rt, &self.path, target).is_err() {
