@@ -44,7 +44,7 @@ function given(words) {
     return { args: ['picklestep', ...args], env: { PWD: home }, preopens: Object.fromEntries(roots) };
 }
 
-// --- Modes
+// --- Files
 
 function tried(act) {
     try {
@@ -54,37 +54,79 @@ function tried(act) {
     }
 }
 
-// The file that the words save to, where they save.
-function savedTo(words) {
-    const at = words.findIndex((word) => /^--save(=|$)/.test(word));
-    if (at < 0) return '';
-    return words[at] === '--save' ? words[at + 1] : words[at].slice('--save='.length);
+// A path from the root as the system takes it. (Each character of the module's stands for a byte.)
+const onSystem = (path) => Buffer.from(`/${path}`, 'latin1');
+
+// A path from the root without links before its name. Node's WASI takes `..` for the folder that is named before it, and the system for the one
+// that holds what a link there leads to.
+function straight(path) {
+    const [, folder, name] = /^(.*\/)?([^/]*)$/s.exec(path);
+    return `${realpathSync.native(onSystem(folder || ''), 'latin1')}/${name}`.replace(/^\/+/, '');
 }
 
-// Gives a new file the owner and the mode of the one whose place it took (a change of owner may clear bits of the mode), or the mode that the
-// mask leaves. A file that is no other than before was not saved.
-function settle(file, before, mask) {
-    const after = fstatSync(file);
-    if (!after.isFile() || (before && before.dev === after.dev && before.ino === after.ino)) return;
-    if (before) {
-        tried(() => fchownSync(file, -1, before.gid));
-        tried(() => fchownSync(file, before.uid, -1));
-    }
-    fchmodSync(file, before ? before.mode & 0o7777 : 0o666 & ~mask);
-}
-
-// Runs the module, which makes a file where it saves and no other. WASI has no modes: until the file has its own, nobody else may read it.
-function keepMode(out, start) {
-    if (!out || ON_WINDOWS) return start();
-    const mask = process.umask(0o077), leads = () => realpathSync(out);
-    const path = tried(leads), before = tried(() => statSync(path)); // (`/dev/stdout` may lead to what has no path)
-    const status = start();
-    const file = before && !before.isFile() ? undefined : tried(() => openSync(path || leads(), constants.O_NOFOLLOW | constants.O_NONBLOCK));
-    if (file !== undefined) {
-        settle(file, before, mask);
+// Gives a new file the owner and the mode of the one that it replaces (a change of owner may clear bits of the mode), or where there is none the
+// mode that the mask leaves. (Who may write in the folder may have put another file there.)
+function settle(path, before, mask) {
+    const file = openSync(onSystem(path), constants.O_NOFOLLOW | constants.O_NONBLOCK);
+    try {
+        const made = fstatSync(file);
+        if (!made.isFile() || made.nlink > 1) throw new Error('it is another file');
+        if (before) {
+            tried(() => fchownSync(file, -1, before.gid));
+            tried(() => fchownSync(file, before.uid, -1));
+            fchmodSync(file, before.mode & 0o7777);
+        } else {
+            tried(() => fchmodSync(file, 0o666 & ~mask));
+        }
+    } finally {
         closeSync(file);
     }
-    return status;
+}
+
+const NO_SUCH_FILE = 44; // (a number of WASI)
+
+// A call of WASI that is made with straight paths, after something else is done with them. `places` are those of the paths among what it is
+// given, each with its length behind it. For the time of the call they are in the module's memory, where its stack would end.
+function onPaths(call, places, memory, first = () => {}) {
+    const bytes = (at, size) => Buffer.from(memory().buffer, at >>> 0, size >>> 0);
+    return (...given) => {
+        let paths;
+        try {
+            paths = places.map((at) => straight(bytes(given[at], given[at + 1]).toString('latin1')));
+            first(paths, given);
+        } catch (error) {
+            return NO_SUCH_FILE;
+        }
+        const room = bytes(0, paths.join('').length), kept = Buffer.from(room);
+        let end = 0;
+        places.forEach((at, number) => {
+            given[at] = end;
+            given[at + 1] = room.write(paths[number], end, 'latin1');
+            end += given[at + 1];
+        });
+        const status = call(...given);
+        kept.copy(room);
+        return status;
+    };
+}
+
+const CREATES = 1; // (what is new, where WASI opens it)
+
+// The calls of WASI that have paths. WASI itself follows no link then: the system does, as far as it goes (also to `/dev/stdin`). WASI has no
+// modes: until a new file has its own, which is before it has its name, nobody else may read it.
+function fileCalls(calls, memory) {
+    const mask = process.umask(0o077);
+    let before; // (of what was opened last and is not new: where a new file is renamed, the one that it replaces)
+    function note([path], [, , , , how]) {
+        if (!(how & CREATES)) before = tried(() => statSync(onSystem(path)));
+    }
+    return {
+        path_open: onPaths((folder, follow, ...others) => calls.path_open(folder, 0, ...others), [2], memory, note),
+        path_filestat_get: onPaths(calls.path_filestat_get, [2], memory),
+        path_readlink: onPaths(calls.path_readlink, [1], memory),
+        path_unlink_file: onPaths(calls.path_unlink_file, [1], memory),
+        path_rename: onPaths(calls.path_rename, [1, 4], memory, ([path]) => settle(path, before, mask)),
+    };
 }
 
 // --- The start
@@ -118,9 +160,10 @@ async function run(words) {
     const wasi = new WASI({ version: 'preview1', ...given(words), returnOnExit: true });
     const module = new WebAssembly.Module(readFileSync(new URL('picklestep.wasm', import.meta.url)));
     const { wasi_snapshot_preview1: calls } = wasi.getImportObject();
-    const own = { ...calls, fd_read: reader(calls.fd_read, () => instance.exports.memory) };
+    const memory = () => instance.exports.memory;
+    const own = { ...calls, fd_read: reader(calls.fd_read, memory), ...(ON_WINDOWS ? {} : fileCalls(calls, memory)) };
     const instance = new WebAssembly.Instance(module, { wasi_snapshot_preview1: own });
-    return keepMode(savedTo(words), () => wasi.start(instance));
+    return wasi.start(instance);
 }
 
 // (Node's own status is 1, and that is the status of an answer.)
