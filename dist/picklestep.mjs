@@ -7,6 +7,14 @@ import { setFlagsFromString } from 'node:v8';
 const OLDEST = 20;
 const ON_WINDOWS = process.platform === 'win32';
 
+function tried(act) {
+    try {
+        return act();
+    } catch (error) {
+        return undefined;
+    }
+}
+
 // --- Paths
 
 // A path of Windows as the module has it, in whose root the drives are folders (`/C:`). A word that is no path stays as it is.
@@ -35,49 +43,52 @@ export function onDrives(words, folder) {
     return { args, home, drives: [...drives] };
 }
 
+// Whether the words are UTF-8, as far as Linux says it. For what is not, Node has the character U+FFFD, and the word may be the path of another file.
+function areText() {
+    return new TextDecoder('utf-8', { fatal: true }).decode(readFileSync('/proc/self/cmdline')) !== '';
+}
+
+// The variable that names the folder that paths start from. It is not there where that folder has no path that Node knows: it was removed, or
+// it has a name that is not UTF-8. (Then the module finds what begins at the root alone.)
+function startingFolder() {
+    const path = tried(() => process.cwd());
+    const [named, current] = [path, '.'].map((folder) => tried(() => statSync(folder, { bigint: true })));
+    return named && current && named.dev === current.dev && named.ino === current.ino ? { PWD: path } : {};
+}
+
 // The words, the folder that paths start from, and the folders of the system that the module may open.
 function given(words) {
-    const here = process.cwd();
-    if (!ON_WINDOWS) return { args: ['picklestep', ...words], env: { PWD: here }, preopens: { '/': '/' } };
-    const { args, home, drives } = onDrives(words, here);
+    if (words.some((word) => word.includes('\ufffd')) && !tried(areText)) throw new Error('cannot read');
+    if (!ON_WINDOWS) return { args: ['picklestep', ...words], env: startingFolder(), preopens: { '/': '/' } };
+    const { args, home, drives } = onDrives(words, process.cwd());
     const roots = drives.map((drive) => [`/${drive}`, `${drive}\\`]).filter(([, root]) => existsSync(root));
     return { args: ['picklestep', ...args], env: { PWD: home }, preopens: Object.fromEntries(roots) };
 }
 
 // --- Files
 
-function tried(act) {
-    try {
-        return act();
-    } catch (error) {
-        return undefined;
-    }
-}
-
 // A path from the root as the system takes it. (Each character of the module's stands for a byte.)
 const onSystem = (path) => Buffer.from(`/${path}`, 'latin1');
 
 // A path from the root without links before its name. Node's WASI takes `..` for the folder that is named before it, and the system for the one
-// that holds what a link there leads to.
+// that holds what a link there leads to. (The real path may be there where the system refuses this one: `..` in a folder that it does not search.)
 function straight(path) {
     const [, folder, name] = /^(.*\/)?([^/]*)$/s.exec(path);
-    return `${realpathSync.native(onSystem(folder || ''), 'latin1')}/${name}`.replace(/^\/+/, '');
+    const place = onSystem(folder || '');
+    statSync(place);
+    return `${realpathSync.native(place, 'latin1')}/${name}`.replace(/^\/+/, '');
 }
 
-// Gives a new file the owner and the mode of the one that it replaces (a change of owner may clear bits of the mode), or where there is none the
-// mode that the mask leaves. (Who may write in the folder may have put another file there.)
-function settle(path, before, mask) {
+// Gives a new file that has no bytes yet the owner and the mode of the one that it replaces (a change of owner may clear bits of the mode).
+// (Who may write in the folder may have put another file there.)
+function settle(path, before) {
     const file = openSync(onSystem(path), constants.O_NOFOLLOW | constants.O_NONBLOCK);
     try {
         const made = fstatSync(file);
-        if (!made.isFile() || made.nlink > 1) throw new Error('it is another file');
-        if (before) {
-            tried(() => fchownSync(file, -1, before.gid));
-            tried(() => fchownSync(file, before.uid, -1));
-            fchmodSync(file, before.mode & 0o7777);
-        } else {
-            tried(() => fchmodSync(file, 0o666 & ~mask));
-        }
+        if (!made.isFile() || made.nlink > 1 || made.size > 0) throw new Error('it is another file');
+        tried(() => fchownSync(file, -1, before.gid));
+        tried(() => fchownSync(file, before.uid, -1));
+        fchmodSync(file, before.mode & 0o7777);
     } finally {
         closeSync(file);
     }
@@ -113,19 +124,32 @@ function onPaths(call, places, memory, first = () => {}) {
 const CREATES = 1; // (what is new, where WASI opens it)
 
 // The calls of WASI that have paths. WASI itself follows no link then: the system does, as far as it goes (also to `/dev/stdin`). WASI has no
-// modes: until a new file has its own, which is before it has its name, nobody else may read it.
+// modes: a new file has what the mask leaves, or where it replaces another, nobody else may read it until it has the mode of that one. It has that
+// before its bytes, since the system may take bits away when it is written.
 function fileCalls(calls, memory) {
     const mask = process.umask(0o077);
-    let before; // (of what was opened last and is not new: where a new file is renamed, the one that it replaces)
+    let before; // (of what was opened last and is not new: where a new file is opened next, the one that it replaces)
+    let made; // (the path of the new file)
+    let isSettled = true;
     function note([path], [, , , , how]) {
-        if (!(how & CREATES)) before = tried(() => statSync(onSystem(path)));
+        made = how & CREATES ? path : '';
+        if (made) process.umask(before ? 0o077 : mask);
+        else before = tried(() => statSync(onSystem(path)));
+    }
+    function open(folder, follow, ...others) {
+        const status = calls.path_open(folder, 0, ...others);
+        if (status === 0 && made && before) isSettled = tried(() => settle(made, before) || true);
+        return status;
+    }
+    function check() {
+        if (!isSettled) throw new Error('the new file has not the mode of the old one');
     }
     return {
-        path_open: onPaths((folder, follow, ...others) => calls.path_open(folder, 0, ...others), [2], memory, note),
+        path_open: onPaths(open, [2], memory, note),
         path_filestat_get: onPaths(calls.path_filestat_get, [2], memory),
         path_readlink: onPaths(calls.path_readlink, [1], memory),
         path_unlink_file: onPaths(calls.path_unlink_file, [1], memory),
-        path_rename: onPaths(calls.path_rename, [1, 4], memory, ([path]) => settle(path, before, mask)),
+        path_rename: onPaths(calls.path_rename, [1, 4], memory, check),
     };
 }
 

@@ -9,7 +9,7 @@ import re
 import signal
 import stat
 import sys
-from typing import Any, Callable, List, Optional, Tuple
+from typing import Any, Callable, List, Tuple
 
 __all__ = ['main', 'on_drives', 'real_paths']
 
@@ -87,35 +87,33 @@ def _saved_to(words: List[str]) -> str:
     return ''
 
 
-def _settle(file: int, before: Optional[os.stat_result], mask: int) -> None:
-    """Gives a new file the owner and the mode of the one whose place it took (a change of owner may clear bits of the mode), or the mode that
-    the mask leaves. A file that is no other than before was not saved."""
+def _settle(file: int, before: os.stat_result) -> None:
+    """Gives a new file the owner and the mode of the one whose place it took (a change of owner may clear bits of the mode), without the bits
+    that the system takes from a file that is written. A file that is no other than before was not saved."""
     after = os.fstat(file)
-    if not stat.S_ISREG(after.st_mode) or before is not None and os.path.samestat(before, after):
+    if not stat.S_ISREG(after.st_mode) or os.path.samestat(before, after):
         return
-    if before is not None:
-        for owner, group in ((-1, before.st_gid), (before.st_uid, -1)):
-            with contextlib.suppress(OSError):
-                os.fchown(file, owner, group)
-    os.fchmod(file, 0o666 & ~mask if before is None else stat.S_IMODE(before.st_mode))
+    for owner, group in ((-1, before.st_gid), (before.st_uid, -1)):
+        with contextlib.suppress(OSError):
+            os.fchown(file, owner, group)
+    os.fchmod(file, stat.S_IMODE(before.st_mode) & (0o1777 if os.geteuid() else 0o7777))
 
 
 def _keep_mode(out: str, start: Callable[[], int]) -> int:
-    """Runs the module, which makes a file where it saves and no other. WASI has no modes: until the file has its own, nobody else may read it."""
-    if not out or os.name == 'nt':
-        return start()
-    mask = os.umask(0o077)
+    """Runs the module, which makes a file where it saves and no other. WASI has no modes: where the file takes the place of another, nobody else
+    may read it until it has the mode of that one."""
     path = os.path.realpath(out)
-    before = os.stat(path) if os.path.exists(path) else None
+    if not out or os.name == 'nt' or not os.path.isfile(path):
+        return start()
+    before = os.stat(path)
+    os.umask(0o077)
     status = start()
-    if before is not None and not stat.S_ISREG(before.st_mode):
-        return status
     try:
         file = os.open(path, os.O_RDONLY | os.O_NOFOLLOW | os.O_NONBLOCK)
     except OSError:  # (nothing was saved)
         return status
     try:
-        _settle(file, before, mask)
+        _settle(file, before)
     finally:
         os.close(file)
     return status

@@ -13,7 +13,7 @@ import sys
 import tempfile
 import unittest
 from pathlib import Path
-from typing import Any
+from typing import Any, Tuple
 from unittest import mock
 
 from picklestep import in_wasmtime, place
@@ -119,6 +119,25 @@ class OtherSystems(unittest.TestCase):
             self.assertEqual(self.over_wasmtime('-c', SAVE, folder), SAVED)
         with tempfile.TemporaryDirectory() as folder:
             self.assertEqual(asked('-c', SAVE, folder, PATH=os.environ['PATH'], PICKLESTEP_PROGRAM=str(MODULE)), SAVED)
+
+    @unittest.skipUnless(sys.platform == 'linux', 'names are not bytes')
+    def test_no_name_is_taken_for_another(self) -> None:
+        """Node has a character for what is not UTF-8 in a word and in the path of the current folder."""
+        with tempfile.TemporaryDirectory() as folder:
+            for name in (b'\xff', '\ufffd'.encode()):
+                Path(folder, os.fsdecode(name)).mkdir()
+                Path(folder, os.fsdecode(name), 'a.pickle').write_bytes(b'N.')
+
+            def answer(word: bytes, current: bytes = b'') -> Tuple[int, bytes]:
+                done = subprocess.run([str(shutil.which('node')), str(MODULE), 'objects', word], capture_output=True, check=False, timeout=120,
+                                      cwd=os.path.join(os.fsencode(folder), current))
+                return done.returncode, done.stdout + done.stderr
+
+            unread, read = (2, b'picklestep: cannot read\n'), (0, b'#0 none\nresult #0\n')
+            self.assertEqual(answer(b'\xff/a.pickle'), unread)
+            self.assertEqual(answer('\ufffd/a.pickle'.encode()), read)
+            self.assertEqual(answer(b'a.pickle', b'\xff'), unread)
+            self.assertEqual(answer(os.fsencode(folder) + '/\ufffd/a.pickle'.encode(), b'\xff'), read)
 
     def test_ctrl_c_ends_what_wasmtime_runs(self) -> None:
         command = [sys.executable, '-I', in_wasmtime.__file__, str(TESTS / 'lesser/stand_in'), str(MODULE)[:-3] + 'wasm', 'debug', str(MODULE)]
