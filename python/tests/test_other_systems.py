@@ -142,7 +142,8 @@ class OtherSystems(unittest.TestCase):
     def test_ctrl_c_ends_what_wasmtime_runs(self) -> None:
         command = [sys.executable, '-I', in_wasmtime.__file__, str(TESTS / 'lesser/stand_in'), str(MODULE)[:-3] + 'wasm', 'debug', str(MODULE)]
         process = subprocess.Popen(command, stdin=subprocess.PIPE, stdout=subprocess.PIPE, stderr=subprocess.PIPE,
-                                   env={'WASMTIME_STAND_IN': str(shutil.which('node'))})
+                                   env={'WASMTIME_STAND_IN': str(shutil.which('node'))},
+                                   preexec_fn=lambda: signal.signal(signal.SIGINT, signal.default_int_handler) and None)
         assert process.stdin is not None and process.stdout is not None
         os.write(process.stdin.fileno(), b'where\n')
         self.assertTrue(process.stdout.readline())
