@@ -466,14 +466,14 @@ def opened_in_node(machines: Machines) -> str:
 
 
 def is_private_meanwhile(tried: saves.Saves) -> str:
-    """What a killed save leaves, nobody else may read, whatever the mode of the old file is."""
+    """What a killed save leaves has the mode of the old file, so that nobody may read it who could not read that one."""
     tried.begin()
     (tried.room / "large").write_bytes(saves.payload(50_000_000))
     (tried.room / "out").write_bytes(saves.OLD)
-    (tried.room / "out").chmod(0o644)
+    (tried.room / "out").chmod(0o640)
     killed = [saves.kill_in_the_middle(tried, 1) for _ in range(3)]
     modes = {f"{tried.mode_of(name):o}" for name in tried.left()}
-    return "" if any(killed) and modes == {"600"} else f"{sum(killed)} were killed in the middle, and the modes are {sorted(modes)}"
+    return "" if any(killed) and modes == {"640"} else f"{sum(killed)} were killed in the middle, and the modes are {sorted(modes)}"
 
 
 def settles_before_it_renames(tried: saves.Saves) -> str:
