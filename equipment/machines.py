@@ -477,7 +477,7 @@ def is_private_meanwhile(tried: saves.Saves) -> str:
 
 
 def settles_before_it_renames(tried: saves.Saves) -> str:
-    """What is saved is stored and has its mode and owner before it has its name, and its folder is stored after that."""
+    """What is saved has its owner and mode before its bytes, is stored before it has its name, and its folder is stored after that."""
     for mode in (None, 0o600, 0o644):
         tried.begin()
         tried.room.chmod(0o755)
@@ -485,8 +485,9 @@ def settles_before_it_renames(tried: saves.Saves) -> str:
             (tried.room / "out").write_bytes(saves.OLD)
             (tried.room / "out").chmod(mode)
         run, order = saves.order_of(tried, "out")
-        owner = [] if mode is None else ["fchown file 600"]
-        wanted = ["write file 600", "fsync file 600", *owner, "fchmod file 600", "rename", "fsync folder 755"]
+        settled = [] if mode is None else ["fchown file 600", "fchmod file 600"]
+        found = tried.mode_of("out")
+        wanted = [*settled, f"write file {found:o}", f"fsync file {found:o}", "rename", "fsync folder 755"]
         why = tried.stored(run, "out") or ("" if order == wanted else f"the order is {order}")
         if why:
             return f"mode {mode}: {why}"
