@@ -287,7 +287,9 @@ class Words(unittest.TestCase):
             shell.obey(f'break {place}')
         before = shell.obey('break')
         for line in ('delete 3', 'insert 1 NONE', 'rename oldapp newapp'):
-            with mock.patch.object(Opened, '_take', side_effect=picklestep.ProgramError('it fails')):
+            fails = picklestep.ProgramError('it fails')
+            # (which of them reads depends on what is known by then)
+            with mock.patch.object(Opened, '_take', side_effect=fails), mock.patch.object(Opened, '_read_beside', side_effect=fails):
                 with self.assertRaisesRegex(WordError, 'it fails'):
                     shell.obey(line)
                     shell.obey('calls')  # (which waits until the pickle is read)
