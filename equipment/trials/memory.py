@@ -83,7 +83,7 @@ ALIKE = (
     ),
     (
         "no free step and no way back of a session asks for memory",
-        "session_tests",
+        "unit_tests",
         ("session::forwards", "session::no_memory_for_free_steps"),
     ),
 )
