@@ -120,6 +120,7 @@ impl<S: Sink + Drop> Buffered<S> {
     /// The same with room for this many bytes, or for a line where that is more. An error comes only where memory runs out.
     pub fn with_room(alloc: Global, sink: S, room: usize) -> Result<Buffered<S>, AllocError>
         ensures sink { IfOk result (λ b. b.sink ≡ sink) }
+        ensures room { IfOk result (λ b. room ≤ length b.text.items) }
         ensures held { IfOk result (λ b. held_in b.text.items b.start b.len ≡ []) }
         ensures none { IfOk result (λ b. (holding (S.told b.sink) (held_in b.text.items b.start b.len)).held ≡ (S.told sink).held) }
     {

@@ -10,7 +10,7 @@ use Rattle.pickle_session.specs.declared.reply.Fault.TheVariants as fault
 use Rattle.pickle_session.specs.declared.reply.Reply.{Reply}
 use Rattle.pickle_session.specs.declared.reply.Reply.TheVariants as reply
 use Rattle.pickle_session.specs.Session.{state_at}
-use Rattle.pickle_session.specs.Allowed.{SessionState, Answers, Goes, Stays, IsFree}
+use Rattle.pickle_session.specs.Allowed.{SessionState, Answers, Goes, Stays, IsFree, IsFreeAgain, goes_beyond, is_at_place}
 use Rattle.pickle_script.specs.declared.line.Line.{Line}
 use Rattle.pickle_script.specs.declared.line.Line.TheVariants as line
 use Rattle.pickle_script.specs.declared.line.Query.{Query}
@@ -30,13 +30,14 @@ pub record PrintsText (p : SessionState) (says text : List ℕ) (q : SessionStat
   pub unchanged : q ≡ p
 
 -- an answer that is allowed to the command, and its text; where the cursor stays the machine stays, and a refused command leaves the
--- records; a step that is free finds memory
+-- records; a step that is free finds memory, and after a way back that a record led a step over a light opcode is free
 pub record Replies (c : Command) (p : SessionState) (text : List ℕ) (q : SessionState) : Type 0 where
   pub answer : Reply
   pub answers : Answers c p answer q.session
   pub goes : Goes c p answer q
   pub stays : Stays p answer q
   pub free : c ≡ command.Step → IsFree p → answer ≢ reply.Refused fault.Memory
+  pub again : c ≡ command.Back → goes_beyond command.Back p ≡ false → is_at_place answer ≡ true → IsFreeAgain q
   pub text_is : text ≡ reply_text (end_of q.session.document) answer
 
 -- the command at the place that has this offset; or, where none has it, that there is none

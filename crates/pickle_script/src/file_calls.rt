@@ -87,7 +87,7 @@ fn write_left<S: Page>(
 
 /// Writes what the pickles would import and call that are left of the bytes of a file without these holes, in this reading, with arguments
 /// cut or in full, and answers its status; the offsets are those in the file. Where a hole ends behind the last byte, a line says so, and the
-/// status is 1. What is left is moved to the front of the bytes.
+/// status is 1. The bytes are not kept.
 ///
 /// The stops are those of `write_text`, and the sink is to be flushed as there.
 pub fn calls_of_file<S: Page>(
