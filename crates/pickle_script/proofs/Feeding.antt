@@ -16,7 +16,7 @@ use Rattle.pickle_script.specs.declared.line.Syntax.{Syntax}
 use Rattle.pickle_script.specs.declared.line.Syntax.TheVariants as syntax
 use Rattle.pickle_script.specs.Grammar.{AnswersWords, longest, words_of, words_say, line_says}
 use Rattle.pickle_script.specs.Transcript.{PrintsBy, IsRead, Prints, PrintsAll, quits, is_quit, has_quit, up_to_quit, is_refusal}
-use Rattle.pickle_script.specs.Conversation.{AppendsPast, BrokePast}
+use Rattle.pickle_script.specs.Conversation.{AppendsBeyond, BrokeBeyond}
 use Rattle.pickle_script.specs.declared.outcome.Outcome.{Outcome}
 use Rattle.pickle_script.specs.declared.outcome.Flow.{Flow}
 use Rattle.pickle_script.specs.declared.outcome.Flow.TheVariants as flow
@@ -97,15 +97,15 @@ no_quit-push ls l p q = any-push is_quit ls l ∙ rw (p, q) refl
 pub Wrote-push : (a b c : Told) (ts : List (List ℕ)) (t : List ℕ) → Wrote a b (concat ts) → Wrote b c t → Wrote a c (concat (ts ++ t ∷ []))
 Wrote-push a b c ts t p q = rw (concat-push ts t) (Wrote-trans a b c (concat ts) t p q)
 
-AppendsPast-front : (a b c : Option (List ℕ)) (whole next : List ℕ) → Appends a b whole → AppendsPrefix b c next → AppendsPast a c whole next
-AppendsPast-front None b c whole next p q = tt
-AppendsPast-front (Some x) None c whole next p q = absurd p
-AppendsPast-front (Some x) (Some y) None whole next p q = tt
-AppendsPast-front (Some x) (Some y) (Some z) whole next p q = (q.0, q.1, q.2 ∙ ap (λ (t : List ℕ). t ++ q.0) p ∙ append_assoc x whole q.0)
+AppendsBeyond-front : (a b c : Option (List ℕ)) (whole next : List ℕ) → Appends a b whole → AppendsPrefix b c next → AppendsBeyond a c whole next
+AppendsBeyond-front None b c whole next p q = tt
+AppendsBeyond-front (Some x) None c whole next p q = absurd p
+AppendsBeyond-front (Some x) (Some y) None whole next p q = tt
+AppendsBeyond-front (Some x) (Some y) (Some z) whole next p q = (q.0, q.1, q.2 ∙ ap (λ (t : List ℕ). t ++ q.0) p ∙ append_assoc x whole q.0)
 
-BrokePast-front : (a b c : Told) (whole next : List ℕ) → Wrote a b whole → Broke b c next → BrokePast a c whole next
-BrokePast-front a b c whole next p q = record {
-  taken = AppendsPast-front a.taken b.taken c.taken whole next p.taken q.front;
+BrokeBeyond-front : (a b c : Told) (whole next : List ℕ) → Wrote a b whole → Broke b c next → BrokeBeyond a c whole next
+BrokeBeyond-front a b c whole next p q = record {
+  taken = AppendsBeyond-front a.taken b.taken c.taken whole next p.taken q.front;
   stays = (Broke-after a b c whole next p q).stays;
   rises = omega (arith, p.calm, q.rises);
   failed = λ h. omega (arith, p.calm, q.failed (omega (arith, p.calm, h)));
@@ -235,7 +235,7 @@ last_breaks s q r old a b given held says e w is x = record {
   text = x.text;
   runs = Runs-push s q r w.cut.complete w.texts w.cut.rest x.text w.runs (gives_so s q r old a given held says x.text w is x.prints);
   no_quit = w.no_quit;
-  broke = BrokePast-front old a b (concat w.texts) x.text w.wrote x.writes;
+  broke = BrokeBeyond-front old a b (concat w.texts) x.text w.wrote x.writes;
 }
 
 pub line_breaks : (s q r : SessionState) (old a b : Told) (given : List ℕ) (held : Pending) (says : Result Line Syntax) (e : Failed)

@@ -12,7 +12,7 @@ use Rattle.pickle_script.specs.declared.line.Line.{Line}
 use Rattle.pickle_script.specs.declared.line.Syntax.{Syntax}
 use Rattle.pickle_script.specs.Script.{Cut, HasNoNewline, IsCut, joined}
 use Rattle.pickle_script.specs.Transcript.{PrintsAll, IsTranscript, is_quit, has_quit, up_to_quit}
-use Rattle.pickle_script.specs.Conversation.{AppendsPast, BrokePast}
+use Rattle.pickle_script.specs.Conversation.{AppendsBeyond, BrokeBeyond}
 use Rattle.pickle_script.specs.declared.outcome.Outcome.{Outcome}
 use Rattle.pickle_script.specs.Inside.Progress.{Pending, WritesLine, SoFar, HasQuit, BreaksInLine, HasBroken}
 use Rattle.pickle_script.proofs.Cuts.{is_newline}
@@ -66,17 +66,17 @@ no_front : (front rest : List ℕ) → [] ≡ front ++ rest → front ≡ []
 no_front [] rest e = refl
 no_front (b ∷ bs) rest e = absurd cc
 
-AppendsPast-whole : (a b c : Option (List ℕ)) (whole text : List ℕ) → Appends a b (whole ++ text) → AppendsPrefix b c [] → AppendsPast a c whole text
-AppendsPast-whole None b c whole text p q = tt
-AppendsPast-whole (Some x) None c whole text p q = absurd p
-AppendsPast-whole (Some x) (Some y) None whole text p q = tt
-AppendsPast-whole (Some x) (Some y) (Some z) whole text p q =
+AppendsBeyond-whole : (a b c : Option (List ℕ)) (whole text : List ℕ) → Appends a b (whole ++ text) → AppendsPrefix b c [] → AppendsBeyond a c whole text
+AppendsBeyond-whole None b c whole text p q = tt
+AppendsBeyond-whole (Some x) None c whole text p q = absurd p
+AppendsBeyond-whole (Some x) (Some y) None whole text p q = tt
+AppendsBeyond-whole (Some x) (Some y) (Some z) whole text p q =
     (text, ([], sym (append-nil text)), q.2 ∙ ap (λ (t : List ℕ). y ++ t) (no_front q.0 q.1.0 q.1.1) ∙ append-nil y ∙ p)
 
 -- the last text was taken whole, as a front of itself
-BrokePast-whole : (a b c : Told) (whole text : List ℕ) → Wrote a b (whole ++ text) → Broke b c [] → BrokePast a c whole text
-BrokePast-whole a b c whole text p q = record {
-  taken = AppendsPast-whole a.taken b.taken c.taken whole text p.taken q.front;
+BrokeBeyond-whole : (a b c : Told) (whole text : List ℕ) → Wrote a b (whole ++ text) → Broke b c [] → BrokeBeyond a c whole text
+BrokeBeyond-whole a b c whole text p q = record {
+  taken = AppendsBeyond-whole a.taken b.taken c.taken whole text p.taken q.front;
   stays = (Broke-after a b c (whole ++ text) [] p q).stays;
   rises = omega (arith, p.calm, q.rises);
   failed = λ h. omega (arith, p.calm, q.failed (omega (arith, p.calm, h)));
@@ -138,7 +138,7 @@ flush_breaks s q old a b (l ∷ ls) ts some r w f =
       text = x.last;
       runs = subst (λ (us : List (List ℕ)). PrintsAll s (o.before ++ o.last ∷ []) us q) x.are obeyed;
       no_quit = o.no_quit;
-      broke = BrokePast-whole old a b (concat x.before) x.last wrote f;
+      broke = BrokeBeyond-whole old a b (concat x.before) x.last wrote f;
     }
 
 -- ---- a line was obeyed: one that quits, or the bytes have a newline

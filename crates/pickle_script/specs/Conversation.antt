@@ -38,14 +38,14 @@ pub record StopsReading (s after : SessionState) (source source' : Option (List 
   pub wrote : Wrote sink sink' (concat texts)
 
 -- a whole text was taken and then a beginning of another; a sink that has failed may no longer report what it took
-abbrev pub AppendsPast : Option (List ℕ) → Option (List ℕ) → List ℕ → List ℕ → Type 0
-AppendsPast None new whole next = ⊤
-AppendsPast (Some bytes) None whole next = ⊤
-AppendsPast (Some bytes) (Some more) whole next = (front : List ℕ) × IsPrefix front next × (more ≡ bytes ++ (whole ++ front))
+abbrev pub AppendsBeyond : Option (List ℕ) → Option (List ℕ) → List ℕ → List ℕ → Type 0
+AppendsBeyond None new whole next = ⊤
+AppendsBeyond (Some bytes) None whole next = ⊤
+AppendsBeyond (Some bytes) (Some more) whole next = (front : List ℕ) × IsPrefix front next × (more ≡ bytes ++ (whole ++ front))
 
 -- a whole text was written and then a front of another, and then a failure came
-pub record BrokePast (old new : Told) (whole next : List ℕ) : Type 0 where
-  pub taken : AppendsPast old.taken new.taken whole next
+pub record BrokeBeyond (old new : Told) (whole next : List ℕ) : Type 0 where
+  pub taken : AppendsBeyond old.taken new.taken whole next
   pub stays : StaysHanded old new
   pub rises : old.failures ≤ new.failures
   pub failed : HasFailed old.failures new.failures
@@ -100,4 +100,4 @@ pub record StopsInLine (Fails : List ℕ → List (List ℕ) → List ℕ → Ty
 -- read
 abbrev pub StopsWriting : SessionState → SessionState → Option (List ℕ) → Option (List ℕ) → Told → Told → Type 0
 StopsWriting s after source source' sink sink' =
-    StopsInLine (λ given texts text. BrokePast sink sink' (concat texts) text × BrokeSince s given sink sink') s after source source'
+    StopsInLine (λ given texts text. BrokeBeyond sink sink' (concat texts) text × BrokeSince s given sink sink') s after source source'

@@ -18,7 +18,7 @@ use Rattle.pickle_script.specs.declared.texts.Text.TheVariants as text
 use Rattle.pickle_script.specs.FormText.{form_output}
 use Rattle.pickle_script.specs.Output.{AnswersText, AnswersCalls, IsCallsOfFile, StopsText}
 use Rattle.pickle_session.specs.Allowed.{SessionState}
-use Rattle.pickle_script.specs.Conversation.{AppendsPast, BrokePast, BrokeSince, StopsReading, StopsWriting}
+use Rattle.pickle_script.specs.Conversation.{AppendsBeyond, BrokeBeyond, BrokeSince, StopsReading, StopsWriting}
 use Rattle.picklestep.specs.Talk.{StopsAtDevice, Cuts, IsUnopened}
 use Rattle.picklestep.specs.declared.task.CallsOptions.{CallsOptions}
 use Rattle.picklestep.specs.Files.{Gives, Reports, IsRead}
@@ -202,12 +202,12 @@ report_unwritten told t many loose bytes old mid new d e first held answer resul
 
 -- ---- a conversation
 
-front_whole : (a b : Option (List ℕ)) (whole next : List ℕ) → AppendsPast a b whole next → AppendsPrefix a b (whole ++ next)
+front_whole : (a b : Option (List ℕ)) (whole next : List ℕ) → AppendsBeyond a b whole next → AppendsPrefix a b (whole ++ next)
 front_whole None b whole next p = tt
 front_whole (Some x) None whole next p = tt
 front_whole (Some x) (Some y) whole next p = (whole ++ p.0, (p.1.0, ap (λ (t : List ℕ). whole ++ t) p.1.1 ∙ sym (append_assoc whole p.0 p.1.0)), p.2)
 
-broke_whole : (a b : Told) (whole next : List ℕ) → BrokePast a b whole next → Broke a b (whole ++ next)
+broke_whole : (a b : Told) (whole next : List ℕ) → BrokeBeyond a b whole next → Broke a b (whole ++ next)
 broke_whole a b whole next p = record { front = front_whole a.taken b.taken whole next p.taken; stays = p.stays; rises = p.rises; failed = p.failed }
 
 since_below : (s : SessionState) (given : List ℕ) (d e : Told) (held : List ℕ) → BrokeSince s given d (holding e held) → BrokeSince s given d e

@@ -20,7 +20,7 @@ use std::alloc::{AllocError, Global};
 const NO_ANSWER: u8 = 2;
 
 /// The one line of a stop.
-fn line_of(stop: Stop) -> &'static str
+fn error_line(stop: Stop) -> &'static str
     ensures { result.now ≡ error_line stop }
 {
     match stop {
@@ -35,7 +35,7 @@ fn line_of(stop: Stop) -> &'static str
 fn report<E: Sink>(stop: Stop, errors: &mut E) -> u8
     ensures { IsReported stop (E.told errors.old) (E.told errors.new) result }
 {
-    let _ = write_all(errors, line_of(stop).as_bytes());
+    let _ = write_all(errors, error_line(stop).as_bytes());
     NO_ANSWER
 }
 

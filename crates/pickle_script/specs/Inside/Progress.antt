@@ -18,7 +18,7 @@ use Rattle.pickle_script.specs.declared.outcome.Flow.TheVariants as flow
 use Rattle.pickle_script.specs.Query.{IsQueryText}
 use Rattle.pickle_script.specs.Script.{Cut, IsCut, lines_of}
 use Rattle.pickle_script.specs.Transcript.{PrintsBy, PrintsAll, IsTranscript, has_quit, is_refusal, status_of}
-use Rattle.pickle_script.specs.Conversation.{BrokePast}
+use Rattle.pickle_script.specs.Conversation.{BrokeBeyond}
 
 -- the line that has begun, and whether a line was refused
 pub record Pending : Type 0 where
@@ -85,7 +85,7 @@ pub record BreaksInLine (s : SessionState) (old : Told) (lines : List (List ℕ)
   pub text : List ℕ
   pub runs : PrintsAll s (before ++ last ∷ []) (texts ++ text ∷ []) after
   pub no_quit : has_quit before ≡ false
-  pub broke : BrokePast old new (concat texts) text
+  pub broke : BrokeBeyond old new (concat texts) text
 
 pub record HasBroken (s : SessionState) (old : Told) (given : List ℕ) (after : SessionState) (new : Told) : Type 0 where
   pub cut : Cut
