@@ -63,7 +63,8 @@ CHECKLISTS = [
     Checklist(
         "To add an edit",
         r"\b(Edit::|edit\.)Unframe\b|\b(mod|pub fn) unframe\b|fn unframing\b",
-        ["crates/*_tests/src/**/*.rt", "crates/real_pickles/src/*.rt", "crates/pickle_doc/src/*.rt", "crates/pickle_doc/specs/*.antt"],
+        ["crates/*_tests/src/**/*.rt", "crates/real_pickles/src/*.rt", "crates/pickle_doc/src/*.rt", "crates/pickle_doc/specs/*.antt",
+         "crates/pickle_session/proofs/**/*.antt", "crates/session_laws/proofs/**/*.antt"],
     ),
     Checklist(
         "To add a question of the debugger",
