@@ -65,15 +65,8 @@ def size(values: tuple[Any, ...]) -> int:
     return len(values[0])
 
 
-class Meta(type):
-    """A thing from elsewhere: a class, which can be called, made, filled and given a state. It is equal to itself alone."""
-
-    append, extend, add = asked("append", one), asked("append", size), asked("add", one)
-    __setstate__ = asked("state", one)
-    __setitem__ = doing("set", one)
-
-    def __call__(cls, *values: Any, **named: Any) -> Any:
-        return thing(act("call", number_of(cls), len(values)))
+class Alone(type):
+    """A class that is equal to itself alone, and holds nothing. Asking it is no act."""
 
     def __hash__(cls) -> int:
         return id(cls) >> 4
@@ -89,6 +82,17 @@ class Meta(type):
 
     def __getitem__(cls, key: Any) -> None:
         return None
+
+
+class Meta(Alone):
+    """A thing from elsewhere: a class, which can be called, made, filled and given a state."""
+
+    append, extend, add = asked("append", one), asked("append", size), asked("add", one)
+    __setstate__ = asked("state", one)
+    __setitem__ = doing("set", one)
+
+    def __call__(cls, *values: Any, **named: Any) -> Any:
+        return thing(act("call", number_of(cls), len(values)))
 
 
 class Base(metaclass=Meta):

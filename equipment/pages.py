@@ -63,7 +63,8 @@ CHECKLISTS = [
     Checklist(
         "To add an edit",
         r"\b(Edit::|edit\.)Unframe\b|\b(mod|pub fn) unframe\b|fn unframing\b",
-        ["crates/*_tests/src/**/*.rt", "crates/real_pickles/src/*.rt", "crates/pickle_doc/src/*.rt", "crates/pickle_doc/specs/*.antt"],
+        ["crates/*_tests/src/**/*.rt", "crates/real_pickles/src/*.rt", "crates/pickle_doc/src/*.rt", "crates/pickle_doc/specs/*.antt",
+         "crates/pickle_session/proofs/**/*.antt", "crates/session_laws/proofs/**/*.antt"],
     ),
     Checklist(
         "To add a question of the debugger",
@@ -301,10 +302,24 @@ def fault_of_version(root: Path) -> str:
 
 # What users see has a sentence in the body of its commit, from this day on.
 BODIES_SINCE = "2026-11-28"
+CHANGE_LOG = "CHANGELOG.md"
+# So it has where what users read about the program changes, from this day on.
+BODIES_OF_TEXTS_SINCE = "2026-11-29"
+TEXTS_FOR_USERS = ("docs/CODES.md", "docs/USING.md", "python/picklestep/help/", "share/")
+
+
+def wants_body(day: str, counts: str) -> bool:
+    """Whether users see what a commit of this day does, by git's lines of the files: the lines that are new, those that are gone, the name."""
+    for line in counts.splitlines():
+        added, _, name = line.split("\t")
+        if name == CHANGE_LOG and added != "0" and day >= BODIES_SINCE or name.startswith(TEXTS_FOR_USERS) and day >= BODIES_OF_TEXTS_SINCE:
+            return True
+    return False
 
 
 def fault_of_bodies(root: Path) -> str:
-    """Each commit that adds lines to the change log has a body. Where there is no git, or not the whole repository, there is nothing to look at."""
+    """Each commit that adds lines to the change log, or changes what users read, has a body. Where there is no git, or not the whole repository,
+    there is nothing to look at."""
     if not (root / ".git").exists() or shutil.which("git") is None:
         return ""
 
@@ -314,15 +329,15 @@ def fault_of_bodies(root: Path) -> str:
 
     if git("rev-parse", "--is-shallow-repository").strip() != "false":  # (the first commit of a part seems to add all lines)
         return ""
-    log = git("log", "--no-merges", f"--since={BODIES_SINCE}T00:00:00", "--date=short", "--numstat", "--format=%x00%h %ad%x00%b%x00", "--", "CHANGELOG.md")
+    log = git("log", "--no-merges", f"--since={BODIES_SINCE}T00:00:00", "--date=short", "--no-renames", "--numstat", "--format=%x00%h %ad%x00%b%x00", "--",
+              CHANGE_LOG, *TEXTS_FOR_USERS)
     _, *parts = log.split("\0")
     faults = []
     for commit, body, counts in zip(parts[::3], parts[1::3], parts[2::3]):
         name, day = commit.split()
-        added = counts.split()[0]
-        if day >= BODIES_SINCE and added != "0" and not body.strip():
+        if not body.strip() and wants_body(day, counts.strip("\n")):
             faults.append(name)
-    return f"no body, though the change log has more lines: {', '.join(faults)}" if faults else ""
+    return f"no body, though users see what they change: {', '.join(faults)}" if faults else ""
 
 
 def fault_of_index(root: Path) -> str:

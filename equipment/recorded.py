@@ -14,7 +14,7 @@ from collections.abc import Callable, Iterator, Sequence
 from dataclasses import dataclass, field
 from typing import Any
 
-from load_worker import EXTENSIONS, LOADERS, has_more
+from load_worker import EXTENSIONS, LOADERS, Alone, has_more
 
 # Codes of extensions, those too that only the unpickler in Python takes.
 CODES = frozenset(EXTENSIONS)
@@ -140,26 +140,11 @@ def _of_taking(name: str) -> property:
     return property(lambda cls: functools.partial(getattr(Taking, name), cls))
 
 
-class Meta(type):
-    """A thing is a class, so that it can be made too. It is equal to itself alone, and holds nothing."""
+class Meta(Alone):
+    """A thing is a class, so that it can be made too."""
 
     def __call__(cls: Any, *values: Any, **named: Any) -> Any:
         return Taking.__call__(cls, *values, **named)
-
-    def __hash__(cls) -> int:
-        return id(cls) >> 4
-
-    def __index__(cls) -> int:
-        return 0
-
-    def __iter__(cls) -> Iterator[Any]:
-        return iter(())
-
-    def keys(cls) -> list[Any]:
-        return []
-
-    def __getitem__(cls, key: Any) -> None:
-        return None
 
     append, extend, add, __setstate__ = map(_of_taking, ("append", "extend", "add", "__setstate__"))
 

@@ -20,7 +20,7 @@ STEPS = "step\nstep\nstep\nback\nstack\nstep\nstep\nstep\nfly\n"
 STEPS_ANSWERED = "at 1\nat 2\nat 3\nat 2\nstack #0 #0\nat 3\nat 4\nrefused: C2 at the end, stopped\n" + UNKNOWN
 CUT_LISTING = "    0: K    BININT1    1\nfault: F3 truncated at 2\nhighest protocol among opcodes = 1\n"
 MANY = 50_000
-# Lines of 65,536 bytes at most are obeyed; of a longer one no word is.
+# Lines of 65,536 bytes at most are run; of a longer one no word is.
 BLANKS = " " * 65_532
 LONG_LINES = (
     f"    {BLANKS}\n     {BLANKS}\n{BLANKS}step\nstep{BLANKS} \nfly{BLANKS}  \nstep{BLANKS}\nback {BLANKS}"

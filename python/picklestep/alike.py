@@ -14,7 +14,7 @@ from .values import Unread
 __all__ = ['CONTAINERS', 'Compared', 'Labels', 'inside', 'is_held', 'paired']
 
 CONTAINERS = (list, tuple, dict, set, frozenset, Call)
-# Values that hold themselves are told apart by what they hold up to so many levels.
+# Values that hold themselves are compared by what they hold up to so many levels.
 _LEVELS = 16
 
 

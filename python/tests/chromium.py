@@ -44,8 +44,6 @@ CONTRASTS = '''(() => {
             const [low, high] = [light(getComputedStyle(each).color), light(behind(each))].sort((left, right) => left - right);
             return [each.className + ' ' + each.textContent.slice(0, 40), (high + 0.05) / (low + 0.05)]; });
 })()'''
-
-
 # The form of edits has what stands at the place, which is read when the form opens and when its place changes.
 FILLED = "document.querySelector('#edit-form').getAttribute('aria-busy') === 'false'"
 # How much of the line around what has the focus is cut off by what it is in, in pixels, with what that is.
@@ -62,6 +60,27 @@ FOCUS_LINE = '''(() => {
     }
     return [each.tagName + ' ' + each.id + ' ' + each.className, drawn, cut];
 })()'''
+# The page without a server can be given a pickle.
+READY = "document.querySelector('#opening')?.dataset.ready === 'yes'"
+# Everything that was asked for is shown.
+SETTLED = '''(async () => {
+    do {
+        await view.busy;
+        await new Promise(requestAnimationFrame);
+    } while (view.asks || view.drawing || view.pending);
+    return true; })()'''
+# What people see of a page.
+SEEN = '''(() => {
+    const texts = (selector) => [...document.querySelectorAll(selector)].map((each) => each.textContent);
+    return { rows: Object.fromEntries([...document.querySelectorAll('.row:not([hidden])')].map((row) =>
+            [row.dataset.place, [row.className, row.getAttribute('aria-label'), row.textContent]])),
+        title: document.title, ...Object.fromEntries(['#name', '#where', '#reached', '#closing', '#said', '#stack li', '#memo li', '#objects .thing',
+            '#objects-shown', '#reaches li', '#reaches-shown', '#result .thing', '#result .note', '#source', '#opcode', '#about', '#undo', '#redo']
+            .map((selector) => [selector, texts(selector)])), titles: ['undo', 'redo'].map((id) => document.getElementById(id).title),
+        readOn: document.querySelector('#read-on').hidden, focus: document.activeElement.id,
+        open: [...document.querySelectorAll('dialog[open]')].map((dialog) => [dialog.id, ...[...dialog.querySelectorAll('input, select, [role=alert]')]
+            .filter((each) => each.checkVisibility() && each.id !== 'save-over').map((each) => [each.id, each.checked, each.value ?? each.textContent])]),
+        slow: document.querySelector('#slow').checked, bar: document.querySelector('#bar').value }; })()'''
 
 
 class BrowserError(Exception):

@@ -293,7 +293,7 @@ class Walks(unittest.TestCase):
             self.assertEqual(saved, Path(folder, 'out').read_bytes())
 
     def line(self, numbers: random.Random) -> str:
-        """A line, which is often one that is obeyed."""
+        """A line, which is often one that is run."""
         place = numbers.choice([numbers.randrange(12), numbers.randrange(60), f'@{numbers.randrange(200)}'])
         opcode = numbers.choice(['NONE', 'POP', 'MARK', 'BININT1 07', 'EMPTY_LIST', 'GLOBAL 6f730a780a', 'STOP', 'NOPE', 'BININT1'])
         return numbers.choice(['step', 'step', 'step', 'back', f'goto {place}', 'run', f'break {place}', f'clear {place}', f'insert {place} {opcode}',

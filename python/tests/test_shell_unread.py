@@ -51,7 +51,7 @@ def look(rng: random.Random, count: int, here: int) -> str:
 
 
 def answer(shell: Shell, line: str) -> str:
-    """What a line is answered, also where it cannot be obeyed."""
+    """What a line is answered, also where it cannot be run."""
     try:
         return shell.obey(line)
     except WordError as error:

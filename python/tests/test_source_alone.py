@@ -11,12 +11,12 @@ import struct
 import unittest
 from typing import Dict, Iterable, List
 
-from chromium import PROGRAM, Browser
+from chromium import PROGRAM, READY, Browser
 from harmless import Maker, opcodes_at_random
 from picklestep.python_source import source
 from pickles import real_pickles
 from test_source import dumped
-from test_view_alone import MODELS, PAGE, READY
+from test_view_alone import MODELS, PAGE
 
 _TOGETHER = 25  # pickles in one input, so that its source is shown whole
 _GENERATED = 1000

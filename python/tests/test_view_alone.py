@@ -23,7 +23,7 @@ from pathlib import Path
 from typing import Any, Dict, Iterator, List, Tuple, Union
 
 import firefox
-from chromium import ACCESSIBILITY, CONTRASTS, FILLED, FOCUS_LINE, PROGRAM, Browser
+from chromium import ACCESSIBILITY, CONTRASTS, FILLED, FOCUS_LINE, PROGRAM, READY, SEEN, SETTLED, Browser
 from pickles import REAL, ROOT, known_opcodes, real_pickles
 from picklestep.python_source import source
 from picklestep.view.document import Document
@@ -36,26 +36,7 @@ SYSTEM = b'cposix\nsystem\n(X\x02\x00\x00\x00idtR.'
 SHOWN = [*REAL[::max(1, len(REAL) // 15)][:15], *sorted(MODELS.glob('sklearn_*.pkl'))[:5]]
 HOSTILE = ['</script><img src=x onerror="document.title=1">', '<b>bold</b>', '\u202eevil', '\u05d0\u05d1', '\x1b[31m\r\n', '\u200b\ufeff\u2028', '\0']
 HOSTILE_NAMES = b''.join(b'c%s\n%s\n0' % (text.encode('utf-8').replace(b'\n', b' '), b'<i>x</i>') for text in HOSTILE)
-READY = "document.querySelector('#opening')?.dataset.ready === 'yes'"
 UNKNOWN = 'what the rest imports and calls is not known'
-# Everything that was asked for is shown.
-SETTLED = '''(async () => {
-    do {
-        await view.busy;
-        await new Promise(requestAnimationFrame);
-    } while (view.asks || view.drawing || view.pending);
-    return true; })()'''
-SEEN = '''(() => {
-    const texts = (selector) => [...document.querySelectorAll(selector)].map((each) => each.textContent);
-    return { rows: Object.fromEntries([...document.querySelectorAll('.row:not([hidden])')].map((row) =>
-            [row.dataset.place, [row.className, row.getAttribute('aria-label'), row.textContent]])),
-        title: document.title, ...Object.fromEntries(['#name', '#where', '#reached', '#closing', '#said', '#stack li', '#memo li', '#objects .thing',
-            '#objects-shown', '#reaches li', '#reaches-shown', '#result .thing', '#result .note', '#source', '#opcode', '#about', '#undo', '#redo']
-            .map((selector) => [selector, texts(selector)])), titles: ['undo', 'redo'].map((id) => document.getElementById(id).title),
-        readOn: document.querySelector('#read-on').hidden, focus: document.activeElement.id,
-        open: [...document.querySelectorAll('dialog[open]')].map((dialog) => [dialog.id, ...[...dialog.querySelectorAll('input, select, [role=alert]')]
-            .filter((each) => each.checkVisibility() && each.id !== 'save-over').map((each) => [each.id, each.checked, each.value ?? each.textContent])]),
-        slow: document.querySelector('#slow').checked, bar: document.querySelector('#bar').value }; })()'''
 # The same keys for both pages. What begins with a sharp is clicked, with an equals sign in it it is written there; a key behind `>` is pressed
 # where the focus is, the others in the listing.
 KEYS = ['n', '#tab-result', 'ArrowRight', 'p', 'ArrowDown', 'b', ' ', 'End', '#objects .thing', '#result .thing', 'Home', 'Delete', 'u', 'r',

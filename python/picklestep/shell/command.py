@@ -26,7 +26,7 @@ def _parser() -> argparse.ArgumentParser:
 
 
 def main(arguments: List[str]) -> int:
-    """Obeys lines. The status is 1 where a line of a script could not be obeyed, and 2 where the pickle could not be opened."""
+    """Runs lines. The status is 1 where a line of a script could not be run, and 2 where the pickle could not be opened."""
     options = _parser().parse_args(arguments)
     try:
         with Shell(options.file, options.file, options.many, unframed=options.unframed) as shell:
@@ -60,7 +60,7 @@ def _lines(name: str, script: Iterable[str]) -> Iterator[str]:
 
 
 def _obey_all(shell: Shell, name: str, lines: Iterable[str]) -> int:
-    """Obeys the lines of a script."""
+    """Runs the lines of a script."""
     for number, line in enumerate(lines, 1):
         try:
             answer = shell.obey(line) if line.strip() else ''
@@ -85,7 +85,7 @@ def _answer(shell: Shell, line: str) -> str:
 
 
 def _converse(shell: Shell) -> int:
-    """Obeys lines that are typed."""
+    """Runs lines that are typed."""
     terminal = Terminal(lambda before: completions(shell.pickle, before))
     shell.ask = terminal.ask
     terminal.show(shell.obey('where') + '\n`help` shows the words.')

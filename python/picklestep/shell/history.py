@@ -6,8 +6,8 @@ import pickletools
 import time
 from array import array
 from bisect import bisect_left
-from itertools import compress
-from typing import Callable, Dict, List, Sequence, Tuple
+from itertools import chain, compress
+from typing import Callable, Dict, Iterator, List, Sequence, Tuple
 
 from ..view.lines import OpcodeLines
 
@@ -73,6 +73,15 @@ class History:
         first, last = bisect_left(self._stores, begin), bisect_left(self._stores, end)
         return self._stores[first:last], self._stored[first:last]
 
+    def _pieces(self, until: int, is_wanted: Callable[[], bool]) -> Iterator[range]:
+        """The places before another, some at a time, as long as that is wanted."""
+        for begin in range(0, until, _MOST_UNASKED):
+            time.sleep(_PAUSE)
+            if not is_wanted():
+                self.is_whole = False
+                return
+            yield range(begin, min(begin + _MOST_UNASKED, until))
+
     def _follow(self, lines: OpcodeLines, until: int, is_wanted: Callable[[], bool]) -> None:
         """Goes over the opcodes. (One loop, since there may be millions of them.)"""
         stack: List[int] = []
@@ -80,12 +89,8 @@ class History:
         memo: Dict[int, int] = {}
         made = 0
         deeds, taken, makers = _DEEDS, _TAKEN, lines.makers
-        for place, code, line in zip(range(until), makers.codes, lines.all()):
-            if place % _MOST_UNASKED == 0:
-                time.sleep(_PAUSE)
-                if not is_wanted():
-                    self.is_whole = False
-                    return
+        places = chain.from_iterable(self._pieces(until, is_wanted))
+        for place, code, line in zip(places, makers.codes, lines.all()):
             deed = deeds[code]
             if deed == _MAKE:
                 stack.append(made)

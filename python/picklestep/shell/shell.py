@@ -1,4 +1,4 @@
-"""The shell's words: each is obeyed by the proved program's session, and answered with values and names."""
+"""The shell's words: each is run by the proved program's session, and answered with values and names."""
 
 from __future__ import annotations
 
@@ -45,7 +45,7 @@ _OF_FRAMES = ('F6', 'F7', 'F8')
 
 
 class WordError(ValueError):
-    """A line that the shell cannot obey, and why."""
+    """A line that the shell cannot run, and why."""
 
 
 class Shell:

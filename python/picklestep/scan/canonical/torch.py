@@ -159,7 +159,7 @@ def tar_member(name: str, blob: Blob, budget: Optional[Budget] = None) -> Rows:
         require(type(count) is int and 0 <= count < _MOST_STORAGES, 'the first pickle is no number')
         for _ in range(count):
             described = pickle()
-            require(isinstance(described, tuple) and len(described) == 3, 'a storage or tensor that is not told as torch does')
+            require(isinstance(described, tuple) and len(described) == 3, 'a storage or tensor that is not described as torch does')
             at = found.pickles[-1].end
             found.raw.append((at, _raw(blob, at, _item(described[2])) if name == 'storages' else _sizes_of_tensor(blob, at)))
     if name == 'storages':

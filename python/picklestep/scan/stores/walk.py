@@ -155,6 +155,15 @@ class Walk:
         """Whether it is worth a question: it imports and then calls (with all that the call takes), or it is whole and more than a constant."""
         return self.is_called or not self.lacks and (self.goes_on or self.stops and self.opcodes > 3)
 
+    def note(self, content: bytes, at: int) -> None:
+        """Notes that the walk comes to an opcode that imports, calls, or does both."""
+        code = content[at]
+        if _WHAT[code] & 1 and (code == _STACK_GLOBAL or _MODULE.match(content, at + 1)):
+            self.imports = True
+        if _WHAT[code] & 2:
+            self.calls = True
+            self.is_called = self.imports
+
 
 def _depth_after(code: int, depth: int, marks: List[int]) -> int:
     """How much is on the stack after an opcode; -1 where it takes more than is there. `marks` has how much was below each MARK."""
@@ -199,11 +208,8 @@ def walk(content: bytes, at: int, until: Optional[int] = None, most: int = MOST,
         if depth < 0:
             found.lacks = True
             break
-        if _WHAT[code] & 1 and (code == _STACK_GLOBAL or _MODULE.match(content, at + 1)):
-            found.imports = True
-        if _WHAT[code] & 2:
-            found.calls = True
-            found.is_called = found.imports
+        if _WHAT[code]:
+            found.note(content, at)
         found.opcodes += 1
         at += step
         if code == _STOP:
