@@ -421,11 +421,11 @@ def in_node_root(machines: Machines) -> Noted:
     return found if found.why else machines.compare_answers(machines.real, machines.in_node(machines.real, root=root))
 
 
-def large(machines: Machines) -> Asked:
+def large(machines: Machines, count: int = 1_000_000) -> Asked:
     file = machines.folder / "large.pickle"
     if not file.exists():
         file.parent.mkdir(parents=True, exist_ok=True)
-        file.write_bytes(b"\x80\x04](" + b"\x8c\x03abc\x94" * 1_000_000 + b"e.")
+        file.write_bytes(b"\x80\x04](" + b"\x8c\x03abc\x94" * count + b"e.")
     return Asked(("objects",), file)
 
 
