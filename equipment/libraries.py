@@ -59,6 +59,7 @@ WARNINGS = ("-Wall", "-Wextra", "-Werror")
 OF_STOPS = {1: b"picklestep: out of memory\n", 2: b"picklestep: too large\n", 4: b"no task\n"}
 SEED_OF_LAWS, CASES_OF_LAWS = 2, 400
 LIMITS = (1, 1 << 16, 1 << 20, 4 << 20, 8 << 20)
+LARGE = 300_000  # strings, with which no task has enough
 EXAMPLE = b"    0: import 'posix' 'system' as #0\n   23: call 'posix' 'system' ('id') as #3\n1 imports, 1 calls\n"
 
 
@@ -108,6 +109,22 @@ class Libraries(Machines):
     def few(self) -> list[Asked]:
         """Some of all, with each task among them."""
         return [*self.real[:: 4 * len(self.tasks) + 1], *self.conversations[::40]]
+
+    @functools.cached_property
+    def edited(self) -> tuple[list[Asked], list[Asked]]:
+        """What is asked of the files that the program saves after a script, and the same of what the script leaves."""
+        folder = self.folder / "saved"
+        folder.mkdir(parents=True, exist_ok=True)
+        saved: list[Asked] = []
+        runs: list[Asked] = []
+        for file in sorted(self.pickles.glob("*.pickle")):
+            for modes in ((), ("--many",), ("--unframed",)):
+                out = folder / f"{len(saved)}.pickle"
+                subprocess.run([self.program, "debug", file, *modes, "--save", out], input=EDITS, capture_output=True, timeout=300, check=False)
+                words = [("list", *modes), ("objects", *modes)] + [task for task in TASKS if task[0] == "calls" and not modes and "--skip" not in task]
+                saved += [Asked(task, out) for task in words]
+                runs += [Asked(("edited", *task), file, EDITS) for task in words]
+        return saved, runs
 
     # --- The ways to link it ---
 
@@ -207,17 +224,7 @@ def compared(libraries: Libraries, way: str, kind: str) -> Noted:
 
 def of_edits(libraries: Libraries, way: str) -> Noted:
     """The texts of what a script leaves are those of the bytes that the program saves after it."""
-    folder = libraries.folder / "saved"
-    folder.mkdir(parents=True, exist_ok=True)
-    saved: list[Asked] = []
-    runs: list[Asked] = []
-    for file in sorted(libraries.pickles.glob("*.pickle")):
-        for modes in ((), ("--many",), ("--unframed",)):
-            out = folder / f"{len(saved)}.pickle"
-            subprocess.run([libraries.program, "debug", file, *modes, "--save", out], input=EDITS, capture_output=True, timeout=300, check=False)
-            words = [("list", *modes), ("objects", *modes)] + [task for task in TASKS if task[0] == "calls" and not modes and "--skip" not in task]
-            saved += [Asked(task, out) for task in words]
-            runs += [Asked(("edited", *task), file, EDITS) for task in words]
+    saved, runs = libraries.edited
     return libraries.compare_answers(saved, libraries.asked(getattr(libraries, way)(), runs))
 
 
@@ -235,7 +242,7 @@ def limits(libraries: Libraries, way: str) -> str:
     tasks are asked in one way, and some in the others."""
     command = getattr(libraries, way)()
     tasks = [words for words in TASKS if words[0] not in ("debug", "form") and "--skip" not in words]
-    runs = [Asked(words, large(libraries).file) for words in (tasks if way == "static" else tasks[::3])]
+    runs = [Asked(words, large(libraries, LARGE).file) for words in (tasks if way == "static" else tasks[::3])]
     for limit in LIMITS:
         for run, found in zip(runs, libraries.asked(command, runs, limit)):
             if found != Answer(2, b"", OF_STOPS[1]):

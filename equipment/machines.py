@@ -109,6 +109,14 @@ def in_turn(runs: list[Asked]) -> list[Asked]:
     return chosen
 
 
+def one_each(runs: list[Asked]) -> list[Asked]:
+    """A run of each file, with its words in turn."""
+    files: dict[Path, list[Asked]] = {}
+    for asked in runs:
+        files.setdefault(asked.file, []).append(asked)
+    return [same[number % len(same)] for number, same in enumerate(files.values())]
+
+
 def taken(file: Path) -> bytes:
     """The content of a file that is there no more, or nothing."""
     content = file.read_bytes() if file.exists() else b""
@@ -121,6 +129,28 @@ def ask(program: list[str], asked: Asked, memory: str | None = None) -> Answer:
     limited = [] if memory is None else ["sh", "-c", 'ulimit -v "$1"; shift; exec "$@"', "sh", memory]
     done = subprocess.run([*limited, *program, *asked.command(saved)], input=asked.given, capture_output=True, timeout=300, check=False)
     return Answer(done.returncode, done.stdout, done.stderr, taken(saved) if asked.saves else b"")
+
+
+def given(runs: list[Asked], folder: Path, there: Path) -> Iterator[tuple[str, list[str]]]:
+    """Puts what runs read into a folder, which is `there` from outside. Gives the beginning of the names of a run's files, and its words."""
+    there.mkdir(parents=True, exist_ok=True)
+    for number, asked in enumerate(runs):
+        (there / f"{number}.in").write_bytes(asked.given)
+        yield str(folder / str(number)), ["picklestep", *asked.command(folder / f"{number}.saved")]
+
+
+def answers_in(there: Path, statuses: Iterable[int]) -> Iterator[Answer]:
+    """The answers of such runs."""
+    for number, status in enumerate(statuses):
+        yield Answer(status, *(taken(there / f"{number}.{kind}") for kind in ("out", "err", "saved")))
+
+
+def output_of(words: list[str]) -> bytes:
+    """What a command prints. One that fails is a fault of the trial."""
+    done = subprocess.run(words, stdin=subprocess.DEVNULL, capture_output=True, timeout=900, check=False)
+    if done.returncode != 0:
+        raise OSError(f"{Path(words[0]).name}: status {done.returncode}, {beginning(done.stderr)}")
+    return done.stdout
 
 
 @dataclass
@@ -146,6 +176,11 @@ class Machines:
         """Each task over each real pickle."""
         files = sorted(self.pickles.glob("*.pickle"))
         return [Asked(words, file) for file in files for words in self.tasks]
+
+    @property
+    def some(self) -> list[Asked]:
+        """A few of them, with each task among them."""
+        return self.real[:: 10 * len(self.tasks) + 1]
 
     @functools.cached_property
     def random(self) -> list[Asked]:
@@ -213,18 +248,32 @@ class Machines:
         node = self.tool("node", "Node 20 or later")
         folder = self.folder / "node"
         there = root.path(folder) if root else folder
-        there.mkdir(parents=True, exist_ok=True)
-        lines = []
-        for number, asked in enumerate(runs):
-            (there / f"{number}.in").write_bytes(asked.given)
-            lines.append({"words": ["picklestep", *asked.command(folder / f"{number}.saved")], "at": str(folder / str(number))})
+        lines = [{"words": words, "at": at} for at, words in given(runs, folder, there)]
         (there / "runs.json").write_text(json.dumps({"module": str(self.dist / MODULE), "pages": pages, "runs": lines}))
         words = [node, str(self.root / "equipment/run_module.mjs"), str(folder / "runs.json")]
-        done = subprocess.run(root.start(*words) if root else words, capture_output=True, timeout=900)
-        if done.returncode != 0:
-            raise OSError(f"node: status {done.returncode}, {beginning(done.stderr)}")
-        for number, status in enumerate(json.loads(done.stdout)):
-            yield Answer(status, *(taken(there / f"{number}.{kind}") for kind in ("out", "err", "saved")))
+        return answers_in(there, json.loads(output_of(root.start(*words) if root else words)))
+
+    def in_emulator(self, runs: list[Asked], root: Root | None = None) -> Iterator[Answer]:
+        """What the program for ARM answers. Its starts are children of one process, in which the emulator has translated most of it before: else
+        that is most of the time of a start."""
+        folder = self.folder / "arm"
+        there = root.path(folder) if root else folder
+        lines = ["\t".join(["", at, *words]) for at, words in given(self.some, folder / "before", there / "before")]
+        lines += ["\t".join([at, *words]) for at, words in given(runs, folder, there)]
+        (there / "runs").write_text("".join(f"{line}\n" for line in lines))
+        emulator, program = self.arm()
+        words = [emulator, self.starter, program, str(folder / "runs")]
+        return answers_in(there, map(int, output_of(root.start(*words) if root else words).split()))
+
+    @functools.cached_property
+    def starter(self) -> str:
+        """start_again.c, compiled. It lies where the program does not."""
+        made = self.folder / "start_again"
+        made.parent.mkdir(parents=True, exist_ok=True)
+        compiler = self.tool("aarch64-linux-gnu-gcc-12", "Debian's gcc-12-aarch64-linux-gnu")
+        words = ("-static", "-O1", "-Wall", "-Wextra", "-Werror", "-Wl,-Ttext-segment=0x10000000")
+        output_of([compiler, *words, "-o", str(made), str(self.root / "equipment/start_again.c")])
+        return str(made)
 
     def tool(self, name: str, what: str) -> str:
         found = shutil.which(name)
@@ -255,7 +304,7 @@ class Machines:
         """With the program for ARM, and the emulator, which needs libraries of this machine."""
         root = self.new_root("arm")
         root.add_program(Path(self.arm()[0]))
-        put(self.dist / ARM, root.at / "picklestep")
+        root.add([self.dist / ARM, Path(self.starter)])
         return root
 
     @functools.cached_property
@@ -339,14 +388,18 @@ def in_empty_root(machines: Machines) -> Noted:
 
 
 def on_alpine(machines: Machines) -> Noted:
-    """As it is installed there; that of the clone is the same, and the program that needs glibc does not start."""
+    """As it is installed there, by its entrance and then without the shell's time; that of the clone is the same, and the program that needs glibc
+    does not start."""
     root = machines.alpine_root
     refused = subprocess.run(root.start(f"/clone/dist/{BUILT}", "list"), capture_output=True, check=False)
     if refused.returncode != 127:
         return Noted(f"the root has a glibc: status {refused.returncode}, errors {beginning(refused.stderr)}", "")
-    some = machines.real[:: 10 * len(machines.tasks) + 1]
-    found = machines.compare_all(root.start("/clone/picklestep"), some)
-    return found if found.why else machines.compare_all(root.start("/usr/local/bin/picklestep"), machines.real)
+    program = "/usr/local/lib/picklestep/picklestep/bin/picklestep"
+    for start, runs in (("/clone/picklestep", machines.some), ("/usr/local/bin/picklestep", one_each(machines.real)), (program, machines.real)):
+        found = machines.compare_all(root.start(start), runs)
+        if found.why:
+            break
+    return found
 
 
 def on_plain(machines: Machines) -> Noted:
@@ -359,23 +412,25 @@ def on_plain(machines: Machines) -> Noted:
 
 
 def in_arm_root(machines: Machines) -> Noted:
-    root = machines.arm_root
-    return machines.compare_all(root.start(machines.arm()[0], "/picklestep"), in_turn(machines.real))
+    """Each is asked once in a process of its own, and with each word in children of one."""
+    root, runs = machines.arm_root, in_turn(machines.real)
+    found = machines.compare_all(root.start(*machines.arm()), one_each(runs))
+    return found if found.why else machines.compare_answers(runs, machines.in_emulator(runs, root))
 
 
 def in_node_root(machines: Machines) -> Noted:
     """The module, and some of them as a user starts it."""
     root = machines.node_root
     started = root.start(machines.tool("node", "Node 20 or later"), machines.dist / SCRIPTED)
-    found = machines.compare_all(started, machines.real[:: 10 * len(machines.tasks) + 1])
+    found = machines.compare_all(started, machines.some)
     return found if found.why else machines.compare_answers(machines.real, machines.in_node(machines.real, root=root))
 
 
-def large(machines: Machines) -> Asked:
+def large(machines: Machines, count: int = 1_000_000) -> Asked:
     file = machines.folder / "large.pickle"
     if not file.exists():
         file.parent.mkdir(parents=True, exist_ok=True)
-        file.write_bytes(b"\x80\x04](" + b"\x8c\x03abc\x94" * 1_000_000 + b"e.")
+        file.write_bytes(b"\x80\x04](" + b"\x8c\x03abc\x94" * count + b"e.")
     return Asked(("objects",), file)
 
 
@@ -523,7 +578,8 @@ def compared(machines: Machines, way: str, kind: str) -> Noted:
     if way == "module":
         return machines.compare_module(runs)
     if way == "arm":
-        return machines.compare_all(machines.arm(), in_turn(runs))
+        some = in_turn(runs)
+        return machines.compare_answers(some, machines.in_emulator(some))
     return machines.compare_all([str(machines.dist / STATIC)], runs)
 
 

@@ -80,12 +80,19 @@ class Wheels:
         (found,) = self.folder.glob("picklestep-*.tar.gz")
         return found
 
+    @functools.cached_property
+    def unpacked(self) -> Path:
+        """The sources of the source distribution."""
+        shutil.unpack_archive(self.source_distribution, self.folder / "unpacked")
+        (found,) = (self.folder / "unpacked").iterdir()
+        return found
+
     @functools.cache
-    def wheel(self, machine: str, source: Path) -> Path:
-        """The wheel for a kind of machine, built from these sources."""
-        to = self.folder / f"wheel-{machine}-{source.name}"
-        words = ("-m", "pip", "--disable-pip-version-check", "-q", "wheel", "--no-index", "--no-deps", "--no-build-isolation", "-w", to)
-        self.call(self.python, *words, source, PICKLESTEP_MACHINE=machine)
+    def wheel(self, machine: str, sources: Path) -> Path:
+        """The wheel for a kind of machine, built in the folder of these sources (which pip would ask more often; that it builds them too is
+        tried where it installs the source distribution)."""
+        to = self.folder / f"wheel-{machine}-{sources.name}"
+        self.call(self.python, "setup.py", "-q", "bdist_wheel", "-d", to, at=sources, PICKLESTEP_MACHINE=machine)
         (found,) = to.glob("*.whl")
         return found
 
@@ -111,7 +118,7 @@ class Wheels:
 def same_wheels(wheels: Wheels) -> str:
     """The wheels of the repository and those of the source distribution have the same files."""
     for machine in MACHINES:
-        ours, others = (contents(wheels.wheel(machine, source)) for source in (wheels.sources, wheels.source_distribution))
+        ours, others = (contents(wheels.wheel(machine, sources)) for sources in (wheels.sources, wheels.unpacked))
         if ours != others:
             return f"{machine}: {sorted(ours.items() ^ others.items())[0][0]} differs"
     return ""

@@ -65,10 +65,11 @@ MADE = (*PROGRAMS, *(f'{folder}/{part}' for folder in LIBRARIES.values() for par
 # What a crate is to rattle: its row of crates.txt, its root file, and words.
 CRATES = {'picklestep': ('picklestep:', 'src/main.rt', []),
           'picklestep_library': ('picklestep_library staticlib:', 'src/lib.rt', ['--crate-type', 'staticlib'])}
-# The keeper stands in for clang while rattle builds.
+# The keeper stands in for clang while rattle builds. The object file that rattle asks it for is used by nobody, so it is an empty one: that of
+# a module takes as long as one of those that are wanted.
 KEEPER = """#!/bin/bash
-[ ! -f module.bc ] || cp -- module.bc '{kept}'
-exec {clang} "$@"
+[ -f module.bc ] || exec {clang} "$@"
+cp -- module.bc '{kept}' && exec {clang} --no-default-config --target={target} -c -x c /dev/null -o module.o
 """
 
 
@@ -134,7 +135,7 @@ def keep_module(crate: str, folder: Path) -> Path:
         (tools / 'bin' / name).symlink_to(KIT / 'toolchain/bin' / name)
     module = folder / crate / 'module.bc'
     clang = tools / 'bin/clang'
-    clang.write_text(KEEPER.format(kept=module, clang=CLANG))
+    clang.write_text(KEEPER.format(kept=module, clang=CLANG, target=X86))
     clang.chmod(0o755)
     (ROOT / 'crates' / crate / 'out').mkdir(exist_ok=True)
     run(KIT / 'bin/rattle', 'build', '--crate-name', crate, root, *words, *libraries(row), '-L', f'dependency={KIT}/rlibs',

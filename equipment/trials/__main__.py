@@ -12,6 +12,7 @@ the program.
 from __future__ import annotations
 
 import argparse
+import os
 import signal
 import sys
 from pathlib import Path
@@ -31,6 +32,8 @@ def main() -> int:
     parser.add_argument("--proofs", nargs=4, metavar=("LOG", "STATUS", "SECONDS", "LACKS"))
     parser.add_argument("names", nargs="*")
     words = parser.parse_args()
+    # (Node reads these certificates at each start, which takes as long as all else of it; nothing that is tried asks a server for one)
+    os.environ.pop("NODE_EXTRA_CA_CERTS", None)
     room = Room(ROOT, words.program.resolve(), (words.built or words.program).resolve(), words.folder.resolve())
     try:
         if words.list:
