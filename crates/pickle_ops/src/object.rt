@@ -38,11 +38,55 @@ pub(crate) enum Made {
     More(Box<Content>),
 }
 
+impl Made {
+    ghost use Rattle.std.specs.Prelude.{◌≡◌, ◌<◌, [], length, IfOk, OnErr};
+    ghost use Rattle.pickle_ops.specs.Object.{most_inline_parts};
+    ghost use Rattle.pickle_ops.specs.Inside.Content.{parts_of, made_changes};
+
+    /// These parts and changes, in a box.
+    fn boxed(alloc: Global, parts: &[ObjId], changes: Vec<Change>) -> Result<Made, AllocError>
+        ensures parts { IfOk result (λ m. parts_of m ≡ parts.now) }
+        ensures changes { IfOk result (λ m. made_changes m ≡ changes.items) }
+    {
+        let content = Content {
+            parts: Vec::from_slice(alloc, parts)?,
+            changes,
+        };
+        Ok(Made::More(Box::new(alloc, content)?))
+    }
+
+    /// These parts, and no change. It fails only where memory runs out, and only where there are more than three.
+    fn of(alloc: Global, parts: &[ObjId]) -> Result<Made, AllocError>
+        ensures parts { IfOk result (λ m. parts_of m ≡ parts.now) }
+        ensures changes { IfOk result (λ m. made_changes m ≡ []) }
+        ensures err { OnErr result (most_inline_parts < length parts.now) }
+    {
+        match *parts {
+            [] => Ok(Made::Nothing),
+            [first] => Ok(Made::One([first])),
+            [first, second] => Ok(Made::Two([first, second])),
+            [first, second, third] => Ok(Made::Three([first, second, third])),
+            _ => Made::boxed(alloc, parts, Vec::new(alloc)),
+        }
+    }
+}
+
 /// An object of the heap: its kind and its parts, which stay, and what was done to it since.
-#[derive(Debug, Drop)]
+#[derive(Debug)]
 pub struct Object {
     kind: Kind,
     made: Made,
+}
+
+// By hand, so that to let an object go is one call, and not a case for each kind.
+impl Drop for Object {
+    #[inline(always)]
+    fn drop(self) {
+        let Object {
+            kind: _kind,
+            made: _made,
+        } = self;
+    }
 }
 
 const _: () = prove!(size_of::<Object>() == 40);
@@ -77,20 +121,10 @@ impl Object {
         ensures ok { IfOk result (λ o. o ≡ record { kind = kind; parts = parts.now; changes = [] }) }
         ensures err { OnErr result (most_inline_parts < length parts.now) }
     {
-        let made = match *parts {
-            [] => Made::Nothing,
-            [first] => Made::One([first]),
-            [first, second] => Made::Two([first, second]),
-            [first, second, third] => Made::Three([first, second, third]),
-            _ => {
-                let content = Content {
-                    parts: Vec::from_slice(alloc, parts)?,
-                    changes: Vec::new(alloc),
-                };
-                Made::More(Box::new(alloc, content)?)
-            }
-        };
-        Ok(Object { kind, made })
+        Ok(Object {
+            kind,
+            made: Made::of(alloc, parts)?,
+        })
     }
 
     /// What it is.
@@ -136,11 +170,8 @@ impl Object {
             content.changes.extend_from_slice(more)?;
             return Ok(());
         }
-        let content = Content {
-            parts: Vec::from_slice(alloc, self.parts())?,
-            changes: Vec::from_slice(alloc, more)?,
-        };
-        self.made = Made::More(Box::new(alloc, content)?);
+        let changes = Vec::from_slice(alloc, more)?;
+        self.made = Made::boxed(alloc, self.parts(), changes)?;
         Ok(())
     }
 
@@ -156,11 +187,7 @@ impl Object {
             content.changes.extend_from_slice(more.as_slice())?;
             return Ok(());
         }
-        let content = Content {
-            parts: Vec::from_slice(alloc, self.parts())?,
-            changes: more,
-        };
-        self.made = Made::More(Box::new(alloc, content)?);
+        self.made = Made::boxed(alloc, self.parts(), more)?;
         Ok(())
     }
 

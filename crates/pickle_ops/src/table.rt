@@ -31,9 +31,9 @@ macro_rules! kind {
     (($op:ident $by:tt $with:tt) { $code:literal $name:literal $protocol:literal $form:ident $row:tt $kind:tt $($rest:tt)* }) => { kind!($op $by $with $kind) };
     ($op:ident $by:tt $with:tt _) => { Ok(Kind::None) };
     ($op:ident $by:tt $with:tt $kind:ident) => { Ok(Kind::$kind) };
-    ($op:ident ($payload:ident $texts:ident) $with:tt (int_kind payload)) => { Ok(int_kind($op.$payload $with?)) };
-    ($op:ident ($payload:ident $texts:ident) $with:tt ($kind:ident payload)) => { Ok(Kind::$kind($op.$payload $with?)) };
-    ($op:ident ($payload:ident $texts:ident) $with:tt ($kind:ident texts)) => { Ok(Kind::$kind($op.$texts $with?)) };
+    ($op:ident ($payload:ident $texts:ident) $with:tt (int_kind payload)) => { $op.$payload $with.map(int_kind) };
+    ($op:ident ($payload:ident $texts:ident) $with:tt ($kind:ident payload)) => { $op.$payload $with.map(Kind::$kind) };
+    ($op:ident ($payload:ident $texts:ident) $with:tt ($kind:ident texts)) => { $op.$texts $with.map(Kind::$kind) };
     ($op:ident $by:tt $with:tt ($kind:ident integer)) => { Ok(Kind::$kind($op.integer())) };
 }
 
