@@ -44,6 +44,7 @@ impl Made {
     ghost use Rattle.pickle_ops.specs.Inside.Content.{parts_of, made_changes};
 
     /// These parts and changes, in a box.
+    #[inline(always)]
     fn boxed(alloc: Global, parts: &[ObjId], changes: Vec<Change>) -> Result<Made, AllocError>
         ensures parts { IfOk result (λ m. parts_of m ≡ parts.now) }
         ensures changes { IfOk result (λ m. made_changes m ≡ changes.items) }
@@ -56,6 +57,7 @@ impl Made {
     }
 
     /// These parts, and no change. It fails only where memory runs out, and only where there are more than three.
+    #[inline(always)]
     fn of(alloc: Global, parts: &[ObjId]) -> Result<Made, AllocError>
         ensures parts { IfOk result (λ m. parts_of m ≡ parts.now) }
         ensures changes { IfOk result (λ m. made_changes m ≡ []) }

@@ -26,14 +26,19 @@ macro_rules! row {
     ($op:ident ($row:ident integer)) => { Row::$row($op.integer()) };
 }
 
+/// What this makes of what the argument holds, if there was memory for that. A `?` says the same, and in so many arms it is dear to prove.
+macro_rules! made_of {
+    ($held:expr => $($make:tt)*) => { match $held { Ok(held) => Ok($($make)*(held)), Err(error) => Err(error) } };
+}
+
 /// The kind of a record, of the operation; its payload and its texts by these methods, with what they take.
 macro_rules! kind {
     (($op:ident $by:tt $with:tt) { $code:literal $name:literal $protocol:literal $form:ident $row:tt $kind:tt $($rest:tt)* }) => { kind!($op $by $with $kind) };
     ($op:ident $by:tt $with:tt _) => { Ok(Kind::None) };
     ($op:ident $by:tt $with:tt $kind:ident) => { Ok(Kind::$kind) };
-    ($op:ident ($payload:ident $texts:ident) $with:tt (int_kind payload)) => { $op.$payload $with.map(int_kind) };
-    ($op:ident ($payload:ident $texts:ident) $with:tt ($kind:ident payload)) => { $op.$payload $with.map(Kind::$kind) };
-    ($op:ident ($payload:ident $texts:ident) $with:tt ($kind:ident texts)) => { $op.$texts $with.map(Kind::$kind) };
+    ($op:ident ($payload:ident $texts:ident) $with:tt (int_kind payload)) => { made_of!($op.$payload $with => int_kind) };
+    ($op:ident ($payload:ident $texts:ident) $with:tt ($kind:ident payload)) => { made_of!($op.$payload $with => Kind::$kind) };
+    ($op:ident ($payload:ident $texts:ident) $with:tt ($kind:ident texts)) => { made_of!($op.$texts $with => Kind::$kind) };
     ($op:ident $by:tt $with:tt ($kind:ident integer)) => { Ok(Kind::$kind($op.integer())) };
 }
 
