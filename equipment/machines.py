@@ -388,13 +388,18 @@ def in_empty_root(machines: Machines) -> Noted:
 
 
 def on_alpine(machines: Machines) -> Noted:
-    """As it is installed there; that of the clone is the same, and the program that needs glibc does not start."""
+    """As it is installed there, by its entrance and, sooner, without it; that of the clone is the same, and the program that needs glibc does
+    not start."""
     root = machines.alpine_root
     refused = subprocess.run(root.start(f"/clone/dist/{BUILT}", "list"), capture_output=True, check=False)
     if refused.returncode != 127:
         return Noted(f"the root has a glibc: status {refused.returncode}, errors {beginning(refused.stderr)}", "")
-    found = machines.compare_all(root.start("/clone/picklestep"), machines.some)
-    return found if found.why else machines.compare_all(root.start("/usr/local/bin/picklestep"), machines.real)
+    program = "/usr/local/lib/picklestep/picklestep/bin/picklestep"
+    for start, runs in (("/clone/picklestep", machines.some), ("/usr/local/bin/picklestep", one_each(machines.real)), (program, machines.real)):
+        found = machines.compare_all(root.start(start), runs)
+        if found.why:
+            break
+    return found
 
 
 def on_plain(machines: Machines) -> Noted:
