@@ -121,7 +121,8 @@ class Libraries(Machines):
             for modes in ((), ("--many",), ("--unframed",)):
                 out = folder / f"{len(saved)}.pickle"
                 subprocess.run([self.program, "debug", file, *modes, "--save", out], input=EDITS, capture_output=True, timeout=300, check=False)
-                words = [("list", *modes), ("objects", *modes)] + [task for task in TASKS if task[0] == "calls" and not modes and "--skip" not in task]
+                calls = [task for task in TASKS if task[0] == "calls" and not modes and "--skip" not in task]
+                words = [("list", *modes), ("objects", *modes), *calls]
                 saved += [Asked(task, out) for task in words]
                 runs += [Asked(("edited", *task), file, EDITS) for task in words]
         return saved, runs

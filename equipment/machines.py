@@ -388,8 +388,8 @@ def in_empty_root(machines: Machines) -> Noted:
 
 
 def on_alpine(machines: Machines) -> Noted:
-    """As it is installed there, by its entrance and then without the shell's time; that of the clone is the same, and the program that needs glibc
-    does not start."""
+    """As it is installed there, by its entrance and, sooner, without it; that of the clone is the same, and the program that needs glibc does
+    not start."""
     root = machines.alpine_root
     refused = subprocess.run(root.start(f"/clone/dist/{BUILT}", "list"), capture_output=True, check=False)
     if refused.returncode != 127:

@@ -1,5 +1,5 @@
-// start_again PROGRAM RUNS: starts a static program again and again in one process, each time in a child, as the kernel would start it. An
-// emulator has then translated it once, and not at each start, which takes six times as long as what it does.
+// start_again PROGRAM RUNS: starts a static program for ARM as the kernel would, each time in a child of this process. An emulator has then
+// translated most of it once, and not at each start, which takes six times as long as all else.
 //
 // Each line of RUNS has AT and the words of a start, with tabs between them. It reads AT.in and writes AT.out and AT.err, and a line of standard
 // output has its status. A line that begins with a tab is a start in the process itself, so that its children have what is translated there:
@@ -50,7 +50,8 @@ static void load(unsigned flags) {
         size_t start = part->p_vaddr & -PAGE, filled = part->p_vaddr + part->p_filesz, end = part->p_vaddr + part->p_memsz;
         size_t whole = (filled + PAGE - 1) & -PAGE;
         int can = (part->p_flags & PF_R ? PROT_READ : 0) | (part->p_flags & PF_W ? PROT_WRITE : 0) | (part->p_flags & PF_X ? PROT_EXEC : 0);
-        must(mmap((void *)start, filled - start, can, MAP_PRIVATE | MAP_FIXED, program, (off_t)(part->p_offset & -PAGE)) == (void *)start, "mmap");
+        off_t from = (off_t)(part->p_offset & -PAGE);
+        must(mmap((void *)start, filled - start, can, MAP_PRIVATE | MAP_FIXED, program, from) == (void *)start, "mmap");
         if (end <= filled)
             continue;
         memset((void *)filled, 0, whole - filled);
@@ -107,7 +108,7 @@ static void redirect(const char *at) {
     }
 }
 
-// The program has ended: this is its process no more. (Its thread's data are not this one's, so the first thing is to have those again.)
+// The program has ended. (Until its thread's data are this one's again, nothing of the C library may be called.)
 static void take_back(int number) {
     __asm__ volatile("msr tpidr_el0, %0" : : "r"(own_thread));
     (void)number;
