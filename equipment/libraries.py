@@ -245,7 +245,7 @@ def limits(libraries: Libraries, way: str) -> str:
     tasks = [words for words in TASKS if words[0] not in ("debug", "form") and "--skip" not in words]
     runs = [Asked(words, large(libraries, LARGE).file) for words in (tasks if way == "static" else tasks[::3])]
     for limit in LIMITS:
-        for run, found in zip(runs, libraries.asked(command, runs, limit)):
+        for run, found in zip(runs, libraries.asked(command, runs, limit), strict=True):
             if found != Answer(2, b"", OF_STOPS[1]):
                 return f"{limit} bytes, {' '.join(run.words)}: status {found.status}"
     return libraries.compare_answers(runs, libraries.asked(command, runs)).why

@@ -65,7 +65,7 @@ def size(values: tuple[Any, ...]) -> int:
     return len(values[0])
 
 
-class Alone(type):
+class EqualToItself(type):
     """A class that is equal to itself alone, and holds nothing. Asking it is no act."""
 
     def __hash__(cls) -> int:
@@ -84,7 +84,7 @@ class Alone(type):
         return None
 
 
-class Meta(Alone):
+class Meta(EqualToItself):
     """A thing from elsewhere: a class, which can be called, made, filled and given a state."""
 
     append, extend, add = asked("append", one), asked("append", size), asked("add", one)

@@ -131,7 +131,7 @@ def ask(program: list[str], asked: Asked, memory: str | None = None) -> Answer:
     return Answer(done.returncode, done.stdout, done.stderr, taken(saved) if asked.saves else b"")
 
 
-def given(runs: list[Asked], folder: Path, there: Path) -> Iterator[tuple[str, list[str]]]:
+def put_inputs(runs: list[Asked], folder: Path, there: Path) -> Iterator[tuple[str, list[str]]]:
     """Puts what runs read into a folder, which is `there` from outside. Gives the beginning of the names of a run's files, and its words."""
     there.mkdir(parents=True, exist_ok=True)
     for number, asked in enumerate(runs):
@@ -145,9 +145,9 @@ def answers_in(there: Path, statuses: Iterable[int]) -> Iterator[Answer]:
         yield Answer(status, *(taken(there / f"{number}.{kind}") for kind in ("out", "err", "saved")))
 
 
-def output_of(words: list[str]) -> bytes:
-    """What a command prints. One that fails is a fault of the trial."""
-    done = subprocess.run(words, stdin=subprocess.DEVNULL, capture_output=True, timeout=900, check=False)
+def output_of(words: list[str], root: Root | None = None) -> bytes:
+    """What a command prints, in a root if there is one. One that fails is a fault of the trial."""
+    done = subprocess.run(root.start(*words) if root else words, stdin=subprocess.DEVNULL, capture_output=True, timeout=900, check=False)
     if done.returncode != 0:
         raise OSError(f"{Path(words[0]).name}: status {done.returncode}, {beginning(done.stderr)}")
     return done.stdout
@@ -248,22 +248,22 @@ class Machines:
         node = self.tool("node", "Node 20 or later")
         folder = self.folder / "node"
         there = root.path(folder) if root else folder
-        lines = [{"words": words, "at": at} for at, words in given(runs, folder, there)]
+        lines = [{"words": words, "at": at} for at, words in put_inputs(runs, folder, there)]
         (there / "runs.json").write_text(json.dumps({"module": str(self.dist / MODULE), "pages": pages, "runs": lines}))
         words = [node, str(self.root / "equipment/run_module.mjs"), str(folder / "runs.json")]
-        return answers_in(there, json.loads(output_of(root.start(*words) if root else words)))
+        return answers_in(there, json.loads(output_of(words, root)))
 
     def in_emulator(self, runs: list[Asked], root: Root | None = None) -> Iterator[Answer]:
         """What the program for ARM answers. Its starts are children of one process, in which the emulator has translated most of it before: else
         that is most of the time of a start."""
         folder = self.folder / "arm"
         there = root.path(folder) if root else folder
-        lines = ["\t".join(["", at, *words]) for at, words in given(self.some, folder / "before", there / "before")]
-        lines += ["\t".join([at, *words]) for at, words in given(runs, folder, there)]
+        lines = ["\t".join(["", at, *words]) for at, words in put_inputs(self.some, folder / "before", there / "before")]
+        lines += ["\t".join([at, *words]) for at, words in put_inputs(runs, folder, there)]
         (there / "runs").write_text("".join(f"{line}\n" for line in lines))
         emulator, program = self.arm()
         words = [emulator, self.starter, program, str(folder / "runs")]
-        return answers_in(there, map(int, output_of(root.start(*words) if root else words).split()))
+        return answers_in(there, map(int, output_of(words, root).split()))
 
     @functools.cached_property
     def starter(self) -> str:
@@ -301,7 +301,7 @@ class Machines:
 
     @functools.cached_property
     def arm_root(self) -> Root:
-        """With the program for ARM, and the emulator, which needs libraries of this machine."""
+        """With the program for ARM, what starts it again, and the emulator, which needs libraries of this machine."""
         root = self.new_root("arm")
         root.add_program(Path(self.arm()[0]))
         root.add([self.dist / ARM, Path(self.starter)])
@@ -427,7 +427,7 @@ def in_node_root(machines: Machines) -> Noted:
 
 
 def large(machines: Machines, count: int = 1_000_000) -> Asked:
-    file = machines.folder / "large.pickle"
+    file = machines.folder / f"large_{count}.pickle"
     if not file.exists():
         file.parent.mkdir(parents=True, exist_ok=True)
         file.write_bytes(b"\x80\x04](" + b"\x8c\x03abc\x94" * count + b"e.")
@@ -459,10 +459,10 @@ def memory_of_arm(machines: Machines) -> str:
 
 def memory_of_module(machines: Machines) -> str:
     for limit in LIMITS:
-        for found in machines.in_node([large(machines)], pages=limit << 4):
-            why = is_out_of_memory(found)
-            if why:
-                return f"{limit} MiB: {why}"
+        (found,) = machines.in_node([large(machines)], pages=limit << 4)
+        why = is_out_of_memory(found)
+        if why:
+            return f"{limit} MiB: {why}"
     return ""
 
 

@@ -14,7 +14,7 @@ from collections.abc import Callable, Iterator, Sequence
 from dataclasses import dataclass, field
 from typing import Any
 
-from load_worker import EXTENSIONS, LOADERS, Alone, has_more
+from load_worker import EXTENSIONS, LOADERS, EqualToItself, has_more
 
 # Codes of extensions, those too that only the unpickler in Python takes.
 CODES = frozenset(EXTENSIONS)
@@ -140,7 +140,7 @@ def _of_taking(name: str) -> property:
     return property(lambda cls: functools.partial(getattr(Taking, name), cls))
 
 
-class Meta(Alone):
+class Meta(EqualToItself):
     """A thing is a class, so that it can be made too."""
 
     def __call__(cls: Any, *values: Any, **named: Any) -> Any:

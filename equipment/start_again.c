@@ -61,7 +61,7 @@ static void load(unsigned flags) {
 }
 
 // What the kernel tells the program: the same as this process, but for what is of the program's file.
-static size_t told(size_t kind, size_t value) {
+static size_t value_of(size_t kind, size_t value) {
     const Elf64_Phdr *first = (const void *)((const char *)head + head->e_phoff);
     switch (kind) {
     case AT_PHDR:
@@ -86,7 +86,7 @@ static void start(char **words, int count) {
     *at++ = 0; // (no variable)
     for (const size_t *from = own_values;; from += 2) {
         *at++ = from[0];
-        *at++ = told(from[0], from[1]);
+        *at++ = value_of(from[0], from[1]);
         if (from[0] == AT_NULL)
             break;
     }
@@ -157,6 +157,7 @@ static void start_child(const char *at, char **words, int count) {
     pid_t child = fork();
     must(child >= 0, "fork");
     if (!child) {
+        alarm(300); // (seconds: no start outlives the trial)
         redirect(at);
         start(words, count);
     }
@@ -181,6 +182,8 @@ static void open_program(const char *path) {
     head = mmap(NULL, (size_t)about.st_size, PROT_READ, MAP_PRIVATE, program, 0);
     stack = mmap(NULL, STACK, PROT_READ | PROT_WRITE, MAP_PRIVATE | MAP_ANONYMOUS, -1, 0);
     must(head != MAP_FAILED && stack != MAP_FAILED, path);
+    const Elf64_Phdr *first = (const void *)((const char *)head + head->e_phoff);
+    must(first->p_type == PT_LOAD && !first->p_offset, "the first part is not the file's beginning");
     load(PF_X);
 }
 

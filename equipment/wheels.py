@@ -89,8 +89,8 @@ class Wheels:
 
     @functools.cache
     def wheel(self, machine: str, sources: Path) -> Path:
-        """The wheel for a kind of machine, built in the folder of these sources (which pip would ask more often; that it builds them too is
-        tried where it installs the source distribution)."""
+        """The wheel for a kind of machine, built in the folder of these sources (pip would start them several times; that it builds them too
+        is tried where it installs the source distribution)."""
         to = self.folder / f"wheel-{machine}-{sources.name}"
         self.call(self.python, "setup.py", "-q", "bdist_wheel", "-d", to, at=sources, PICKLESTEP_MACHINE=machine)
         (found,) = to.glob("*.whl")

@@ -65,8 +65,8 @@ MADE = (*PROGRAMS, *(f'{folder}/{part}' for folder in LIBRARIES.values() for par
 # What a crate is to rattle: its row of crates.txt, its root file, and words.
 CRATES = {'picklestep': ('picklestep:', 'src/main.rt', []),
           'picklestep_library': ('picklestep_library staticlib:', 'src/lib.rt', ['--crate-type', 'staticlib'])}
-# The keeper stands in for clang while rattle builds. The object file that rattle asks it for is used by nobody, so it is an empty one: that of
-# a module takes as long as one of those that are wanted.
+# The keeper stands in for clang while rattle builds. The object file that rattle asks it for is used by nobody, so it is an empty one: to
+# compile the module would take as long as for a target.
 KEEPER = """#!/bin/bash
 [ -f module.bc ] || exec {clang} "$@"
 cp -- module.bc '{kept}' && exec {clang} --no-default-config --target={target} -c -x c /dev/null -o module.o
