@@ -10,5 +10,4 @@ mod value;
 
 pub use coding::{Coding, Piece};
 pub use old_names::{NewNames, module_renamed, renamed};
-pub use rows::{MODULES, NAMES};
 pub use value::{Reading, is_plain_name, read, short_value, write_text, write_value};

@@ -80,7 +80,7 @@ pub struct Object {
     made: Made,
 }
 
-// By hand, so that to let an object go is one call, and not a case for each kind.
+// By hand: a proof then has one way to let an object go, and not a case for each kind.
 impl Drop for Object {
     #[inline(always)]
     fn drop(self) {

@@ -26,7 +26,8 @@ macro_rules! row {
     ($op:ident ($row:ident integer)) => { Row::$row($op.integer()) };
 }
 
-/// What this makes of what the argument holds, if there was memory for that. A `?` says the same, and in so many arms it is dear to prove.
+/// What is made of what an argument holds, or the error where there was no memory for that. `?` says the same, but in so many arms its
+/// proof takes long.
 macro_rules! made_of {
     ($held:expr => $($make:tt)*) => { match $held { Ok(held) => Ok($($make)*(held)), Err(error) => Err(error) } };
 }

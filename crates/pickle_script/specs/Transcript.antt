@@ -30,7 +30,8 @@ pub record PrintsText (p : SessionState) (says text : List ℕ) (q : SessionStat
   pub unchanged : q ≡ p
 
 -- an answer that is allowed to the command, and its text; where the cursor stays the machine stays, and a refused command leaves the
--- records; a step that is free finds memory, and after a way back that a record led a step over a light opcode is free
+-- records; a step that is free finds memory; after a way back that a record led, a step over a light opcode is free, unless a further
+-- pickle begins with it
 pub record Replies (c : Command) (p : SessionState) (text : List ℕ) (q : SessionState) : Type 0 where
   pub answer : Reply
   pub answers : Answers c p answer q.session

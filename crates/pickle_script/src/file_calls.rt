@@ -86,8 +86,8 @@ fn write_left<S: Page>(
 }
 
 /// Writes what the pickles would import and call that are left of the bytes of a file without these holes, in this reading, with arguments
-/// cut or in full, and answers its status; the offsets are those in the file. Where a hole ends behind the last byte, a line says so, and the
-/// status is 1. The bytes are not kept.
+/// cut or in full, and answers its status; the offsets are those in the file. Where a hole ends behind the last byte, a line that says so is
+/// all that is written, and the status is 1. The bytes are moved, and are not what they were.
 ///
 /// The stops are those of `write_text`, and the sink is to be flushed as there.
 pub fn calls_of_file<S: Page>(

@@ -34,6 +34,5 @@ pub use line::{Action, Line, Place, Query, Syntax};
 pub use place::write_where;
 pub use reply::write_reply;
 pub use stop::{Stop, line_of};
-pub use syntax::{write_no_item_at, write_no_such_object, write_syntax};
 pub use talk::converse;
 pub use texts::{Text, list, list_many, objects, objects_many, write_text};

@@ -6,7 +6,8 @@ ghost use Rattle.pickle_script.specs.PlaceText.{cursor_text, offset_text, some_r
 use crate::fault_text::write_end;
 use pickle_doc::End;
 use pickle_io::{Failed, Page, write_all, write_decimal};
-use pickle_machine::{Machine, ObjId};
+use pickle_machine::Machine;
+use pickle_ops::ObjId;
 use pickle_session::{Past, Session};
 use pickle_show::{write_all_next, write_id};
 

@@ -42,7 +42,6 @@ mod stack;
 mod stop;
 mod words;
 
-pub use begins::{CONTAINERS, write_begins};
 pub use calls::{Ran, run_items};
 pub use calls_laws::{
     first_lines_come_first, line_exactly, line_of_import, line_of_inst, no_line_no_reach,
@@ -57,9 +56,9 @@ pub use list::{list_bytes, list_items, write_listing};
 pub use memo::write_memo;
 pub use naming::{Detail, Naming};
 pub use number::write_right;
-pub use object::{write_all_next, write_object, write_objects};
+pub use object::{write_all_next, write_objects};
 pub use report::{
-    Closing, closing_at, report_of_bytes, report_of_items, write_closing, write_document_report,
+    Closing, report_of_bytes, report_of_items, write_closing, write_document_report,
 };
 pub use report_line::{write_fault_at, write_fault_text, write_item_refusal, write_refusal};
 pub use show::write_show;

@@ -6,8 +6,8 @@ ghost use Rattle.std.specs.Prelude.{◌≡◌};
 use pickle_io::{
     Failed, Page, Sink, write_all, write_decimal, write_hex, write_quoted, write_signed,
 };
-use pickle_machine::{Change, Kind, Machine, ObjId, Object};
-use pickle_ops::Payload;
+use pickle_machine::Machine;
+use pickle_ops::{Change, Kind, ObjId, Object, Payload};
 
 /// Writes signs and the number of an object after them.
 fn write_id<S: Page>(signs: &str, id: ObjId, page: &mut S) -> Result<(), Failed> {
