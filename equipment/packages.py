@@ -18,7 +18,7 @@ import shutil
 import subprocess
 import sys
 import unittest
-from collections.abc import Iterable, Iterator, Set
+from collections.abc import Callable, Iterable, Iterator, Set
 from dataclasses import dataclass
 from pathlib import Path
 from typing import Any, Dict, List, Optional, TextIO, Tuple
@@ -181,12 +181,13 @@ def check_types(folder: Path) -> str:
 
 @dataclass
 class Package:
-    """The group of trials of the package. The tests run in one call of an interpreter, which the wheel is installed into."""
+    """The group of trials of the package. The tests run in one call of an interpreter, which the wheel is installed into.
+    For `aside` see Group."""
 
     program: str
     folder: Path
     name: str = 'python'
-    aside: None = None
+    aside: Optional[Callable[[], None]] = None
 
     def names(self) -> List[str]:
         words = [sys.executable, str(Path(__file__).resolve()), '--names']

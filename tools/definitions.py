@@ -3,8 +3,8 @@
 
     python3 tools/definitions.py
 
-The head is the comment at the top of the file: what it defines, and the source. Files that only name others (`Lib.antt`) have
-none, and so have those of a crate's own proofs (`specs/Inside`). The status is 1 where another file has none.
+The head is the comment at the top of the file: what it defines, and the source. Neither files that only name others (`Lib.antt`)
+nor those for a crate's own proofs (`specs/Inside`) have one. The status is 1 where another file has none.
 """
 
 from __future__ import annotations

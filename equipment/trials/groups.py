@@ -111,7 +111,7 @@ def of_surroundings(room: Room) -> list[AnyGroup]:
     return [
         Group("loaders", functools.partial(loader_trials, loaded, room), loaded.closing, aside=lambda: None),
         Group("hostile", functools.partial(hostile.trials, cut), cut.closing, aside=hostile.limit_stack),
-        packages.Package(str(room.program), room.folder / "python"),
+        packages.Package(str(room.program), room.folder / "python", aside=lambda: None),
         Group("devices", functools.partial(devices.trials, broken), broken.closing),
         Group("saves", functools.partial(saves.trials, saved), saved.closing),
         Group("release", functools.partial(releases.trials, released), released.closing),
