@@ -9,6 +9,7 @@ import threading
 import time
 import weakref
 from operator import index
+from pathlib import Path
 from typing import Dict, Iterator, List, Optional, Sequence, Tuple, Union, overload
 
 from . import library, replies
@@ -17,6 +18,7 @@ from .arguments import ArgumentValue, encoded
 from .errors import ProgramError, Refused, TimedOut
 from .program import Process, run_program
 from .records import Mark, Ran, Ref, Where
+from .saving import written_whole
 from .sources import Input, OwnFile, Source, is_word
 from .tasks import AskedOfEdits, calls_of, frames_of, listing_of, modes
 
@@ -464,8 +466,11 @@ class Session(contextlib.AbstractContextManager['Session']):
             self._save(name, [], self._talk.edits())
         else:
             content = self.bytes()
-            with open(name, 'wb') as file:
-                file.write(content)
+            try:
+                with written_whole(Path(name)) as file:
+                    file.write(content)
+            except OSError as error:
+                raise ProgramError(f'cannot write: {error.strerror or error}') from error
 
     def _bytes_after(self, edits: List[_Bytes]) -> _Bytes:
         """The pickle with edits."""

@@ -20,9 +20,14 @@ _PACKAGE = os.path.dirname(os.path.dirname(os.path.abspath(picklestep.__file__))
 _CONTROL = re.compile(r'\x1b\[[0-9;?]*[a-zA-Z]|\x1b[=>]|\r|\x07')
 
 
-def _take_terminal() -> None:
-    """Makes standard input the terminal of the process, so that Ctrl-C reaches it, also where who runs the tests ignores it."""
+def heed_ctrl_c() -> None:
+    """Lets Ctrl-C reach a process, also where who runs the tests ignores it (as what a script starts in the background does)."""
     signal.signal(signal.SIGINT, signal.SIG_DFL)
+
+
+def _take_terminal() -> None:
+    """Makes standard input the terminal of the process, so that Ctrl-C reaches it."""
+    heed_ctrl_c()
     fcntl.ioctl(0, termios.TIOCSCTTY, 0)
 
 

@@ -2,6 +2,7 @@
 
 from __future__ import annotations
 
+import io
 import json
 import os
 import pickle
@@ -16,20 +17,18 @@ import time
 import unittest
 import unittest.mock
 from collections import OrderedDict
+from contextlib import redirect_stderr, redirect_stdout
 from pathlib import Path
-from typing import Callable, Dict, List
+from typing import Callable, Dict, Iterator, List
 
 from pickles import chosen
 from picklestep.program import find_program
-from picklestep.scan import Options, cluster, look, pool
+from picklestep.scan import Options, Result, cluster, command, look, look_at_bytes, pool
 from scan_support import HARMLESS, HOSTILE, MODELS, ScanCase, environment, names_of, python_with
+from terminals import heed_ctrl_c
 
 # A number of seconds by which a sleeping process is told from others.
 SLEEP = f'61.{os.getpid()}'
-
-
-def _heed_ctrl_c() -> None:
-    signal.signal(signal.SIGINT, signal.SIG_DFL)
 
 
 class RunCase(ScanCase):
@@ -58,10 +57,9 @@ class RunCase(ScanCase):
         return {**environment(), 'PICKLESTEP_PROGRAM': str(script)}
 
     def start(self, words: List[str], env: Dict[str, str], python: str = sys.executable) -> 'subprocess.Popen[str]':
-        """A run that goes on, as a group of its own. Ctrl-C reaches it also where this process ignores it (as one that a script starts in the
-        background)."""
+        """A run that goes on, as a group of its own, which Ctrl-C reaches."""
         return subprocess.Popen([python, '-m', 'picklestep', 'scan', *words], cwd=self.folder, env=env, stdout=subprocess.PIPE,
-                                stderr=subprocess.PIPE, text=True, preexec_fn=_heed_ctrl_c, start_new_session=True)
+                                stderr=subprocess.PIPE, text=True, preexec_fn=heed_ctrl_c, start_new_session=True)
 
     def wait_for(self, test: Callable[[], bool]) -> None:
         """Waits until something holds, twenty seconds at most."""
@@ -248,6 +246,25 @@ class Runs(RunCase):
         self.leave('--sarif', 'left', '--write-allow', 'left.txt')
         for whole, left in (('whole', 'left'), ('whole.txt', 'left.txt')):
             self.assertEqual((self.folder / left).read_text(), (self.folder / whole).read_text())
+
+    def test_what_is_done_without_end(self) -> None:
+        """Until Ctrl-C, at which other files are written; what is not done is refused."""
+        url = 'redis://127.0.0.1:1/0'
+        for words in (['--brief'], ['--jobs', '2'], ['--cluster', 'tcp://127.0.0.1:1'], ['--resume', 'log'], ['--sample', '3']):
+            run = self.scan('--follow', url, *words)
+            self.assertEqual((run.returncode, run.stdout, run.stderr), (2, '', f'picklestep: --follow takes no {words[0]}\n'))
+
+        def follow(*_: object) -> Iterator[Result]:
+            yield look_at_bytes('key', HOSTILE)
+            raise KeyboardInterrupt
+
+        sarif, names, out, summary = self.folder / 'a.sarif', self.folder / 'a.txt', io.StringIO(), io.StringIO()
+        with unittest.mock.patch.object(command, 'follow', follow), redirect_stdout(out), redirect_stderr(summary):
+            self.assertEqual(command.main(['--follow', url, '--sarif', str(sarif), '--write-allow', str(names)]), 130)
+        self.assertEqual([json.loads(line)['path'] for line in out.getvalue().splitlines()], ['key'])
+        self.assertIn('! posix.system: once', summary.getvalue())
+        self.assertIn('posix.system', names.read_text())
+        self.assertTrue(json.loads(sarif.read_text())['runs'][0]['results'])
 
     def test_progress_on_a_terminal(self) -> None:
         self.fill(5)

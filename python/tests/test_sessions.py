@@ -2,6 +2,7 @@
 
 from __future__ import annotations
 
+import errno
 import os
 import pickletools
 import random
@@ -12,6 +13,7 @@ import threading
 import unittest
 from pathlib import Path
 from typing import Callable, Dict, List, Tuple
+from unittest import mock
 
 import picklestep
 from picklestep import Change, End, Item, Mark, Object, Ran, Ref, Refused, Session, Shown, Where
@@ -251,10 +253,27 @@ class Edits(unittest.TestCase):
                 other = Path(os.fsdecode(os.fsencode(folder) + b'/\xff'))
                 session.save(other)
                 self.assertEqual(other.read_bytes(), b'\x880N.')
-                with self.assertRaises(picklestep.ProgramError):
-                    session.save(Path(folder) / 'not there' / 'x')
+                for name in ('x', os.fsdecode(b'\xff')):
+                    with self.assertRaisesRegex(picklestep.ProgramError, '^cannot write'):
+                        session.save(Path(folder) / 'not there' / name)
                 session.where()
                 self.assertEqual(sorted(os.listdir(os.fsencode(folder))), [b'a pickle', b'\xff'])
+
+    def test_saving_replaces_a_file_when_all_is_stored(self) -> None:
+        """Also one whose name is not UTF-8, which the program is not given."""
+        with tempfile.TemporaryDirectory() as folder, Session(b'N.') as session:
+            for name in (b'x', b'\xff'):
+                path, old = Path(folder, os.fsdecode(name)), Path(folder, 'old')
+                path.write_bytes(b'old')
+                path.chmod(0o640)
+                os.link(path, old)
+                session.save(path)
+                self.assertEqual((path.read_bytes(), path.stat().st_mode & 0o777, old.read_bytes()), (b'N.', 0o640, b'old'))
+                old.unlink()
+            with mock.patch('os.fsync', side_effect=OSError(errno.ENOSPC, os.strerror(errno.ENOSPC))):
+                session.replace(0, 'NEWTRUE')
+                self.assertRaisesRegex(picklestep.ProgramError, 'cannot write: No space', session.save, path)
+            self.assertEqual((path.read_bytes(), sorted(os.listdir(os.fsencode(folder)))), (b'N.', [b'x', b'\xff']))
 
     def test_many_edits(self) -> None:
         with Session(b'N.') as session:

@@ -10,6 +10,7 @@ import pickle
 import pickletools
 import random
 import re
+import signal
 import subprocess
 import sys
 import tempfile
@@ -28,7 +29,7 @@ from picklestep.shell.shell import Shell, WordError
 from picklestep.shell.words import SAMPLE, WORDS
 from picklestep.view.document import Document
 from pickles import changed_pickles, chosen, real_pickles
-from terminals import Terminal
+from terminals import Terminal, heed_ctrl_c
 
 _QUESTION = '(yes/no) '
 
@@ -625,6 +626,14 @@ class Words(unittest.TestCase):
             shell.obey(f"save '{folder}/my file.pickle'")
             self.assertEqual(os.listdir(folder), ['my file.pickle'])
 
+    def test_save_to_names_with_backslashes(self) -> None:
+        """Windows has them between folders."""
+        shell = self.shell(SAMPLE)
+        for line, name in (('C:\\tmp\\#1.pickle', 'C:\\tmp\\#1.pickle'), ('"C:\\my files\\a.pickle"', 'C:\\my files\\a.pickle'), ("'a\\ b\\'", 'a\\ b\\')):
+            with mock.patch.object(shell.pickle, 'save') as save:
+                self.assertEqual(shell.obey(f'save {line}'), f'saved {name}')
+                save.assert_called_once_with(name, True)
+
     def test_batch(self) -> None:
         with tempfile.TemporaryDirectory() as folder:
             pickled, script = Path(folder, 'a.pickle'), Path(folder, 'script')
@@ -645,6 +654,19 @@ class Words(unittest.TestCase):
             self.assertEqual((piped.returncode, '\x1b' in piped.stdout, 'the end: stopped' in piped.stdout), (0, False, True))
             done = subprocess.run([*words[:-1], os.path.join(folder, 'none')], env=path, capture_output=True, text=True, timeout=300, check=False)
             self.assertEqual(done.returncode, 2)
+
+    def test_an_interrupted_script(self) -> None:
+        with tempfile.TemporaryDirectory() as folder:
+            Path(folder, 'a.pickle').write_bytes(SAMPLE)
+            path = {**os.environ, 'PYTHONPATH': os.path.dirname(os.path.dirname(picklestep.__file__))}
+            with subprocess.Popen([sys.executable, '-m', 'picklestep', 'shell', 'a.pickle'], cwd=folder, env=path, stdin=subprocess.PIPE,
+                                  stdout=subprocess.PIPE, stderr=subprocess.PIPE, preexec_fn=heed_ctrl_c, start_new_session=True) as run:
+                assert run.stdin is not None and run.stdout is not None and run.stderr is not None
+                run.stdin.write(b'where\n')
+                run.stdin.flush()
+                run.stdout.read(1)
+                os.killpg(run.pid, signal.SIGINT)
+                self.assertEqual((run.wait(300), run.stderr.read()), (130, b'picklestep: interrupted\n'))
 
 
 if __name__ == '__main__':

@@ -35,6 +35,8 @@ __all__ = ['main']
 # The status of a program that SIGPIPE ended, as a shell gives it.
 _OF_NO_READER = 128 + 13
 _UNITS = {'': 1, 'K': 1 << 10, 'M': 1 << 20, 'G': 1 << 30}
+# What is not done with --follow, which looks at one value after another without end.
+_NOT_FOLLOWED = ('brief', 'jobs', 'cluster', 'resume', 'sample')
 
 
 def _bytes(text: str) -> int:
@@ -56,8 +58,8 @@ def _parser(fewest: str = '+') -> argparse.ArgumentParser:
     """The options and names. `fewest` is how many names there are to be, as argparse has it."""
     parser = argparse.ArgumentParser(
         prog='picklestep scan', description='Shows what the pickles in files import and call. Nothing of them is run or loaded.',
-        epilog='Status: 0; 1 if there is a line to look at first (it begins with !); 2 if the command could not begin; 130 after Ctrl-C. '
-               'Neither ! nor its absence is a verdict.')
+        epilog='Status: 0; 1 if there is a line to look at first (it begins with !); 2 if the command could not begin; 130 after Ctrl-C; '
+               '141 if its reader left. Neither ! nor its absence is a verdict.')
     parser.add_argument('paths', metavar='PATH', nargs=fewest,
                         help='a file, a folder, a server (redis://, memcached://, postgresql://, mysql://), a URL for fsspec, or - for names on '
                              'standard input')
@@ -225,16 +227,20 @@ def _in_a_row(first: Iterable[Result], results: Generator[Result, None, None], o
 
 
 def _follow(words: argparse.Namespace) -> int:
-    """Looks at new values until Ctrl-C."""
+    """Looks at new values until Ctrl-C, which is the end that this run has: other files are written then."""
     if len(words.paths) != 1 or not is_server(words.paths[0]):
         raise NoServer('--follow wants one server')
-    report = Report(sys.stdout, _judge(words), as_json=True)
+    options = _parser()
+    for name in _NOT_FOLLOWED:
+        if getattr(words, name) != options.get_default(name):
+            raise NoServer(f'--follow takes no --{name}')
+    words.json = True
+    output = _Output(words)
     try:
         for result in follow(Address(words.paths[0]), _options(words), Wanted(words.match)):
-            report.add(result)
+            output.add(result)
     except KeyboardInterrupt:
-        for line in report.summary():
-            print(line, file=sys.stderr)
+        output.end(is_whole=True)
     return 130
 
 

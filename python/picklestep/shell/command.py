@@ -26,7 +26,7 @@ def _parser() -> argparse.ArgumentParser:
 
 
 def main(arguments: List[str]) -> int:
-    """Runs lines. The status is 1 where a line of a script could not be run, and 2 where the pickle could not be opened."""
+    """Runs lines. The status is 1 where a line of a script could not be run, 2 where the pickle could not be opened, and 130 after Ctrl-C."""
     options = _parser().parse_args(arguments)
     try:
         with Shell(options.file, options.file, options.many, unframed=options.unframed) as shell:
@@ -41,7 +41,7 @@ def main(arguments: List[str]) -> int:
         return 2
     except KeyboardInterrupt:
         print('picklestep: interrupted', file=sys.stderr)
-        return 1
+        return 130
 
 
 def _lines(name: str, script: Iterable[str]) -> Iterator[str]:

@@ -625,7 +625,7 @@ class Shell:
         return '\n'.join([*rows, *differences[:_MOST_LINES], *more, *self.pickle.kept])
 
     def _do_save(self, text: str) -> str:
-        words = shlex.split(text)
+        words = _names(text)
         if len(words) > 1:
             raise WordError(f'it is: {WORDS["save"].usage}, in quotes where it has blanks')
         path = words[0] if words else self._path
@@ -670,6 +670,13 @@ def _argument(line: str, shown: str) -> str:
         return shown
     is_value = not opcode.note and opcode.argument is not None and not isinstance(opcode.argument, tuple) and ' bytes more' not in shown
     return shown_value(opcode.value) if is_value else shown
+
+
+def _names(text: str) -> List[str]:
+    """Names of files, which blanks part outside of quotes. A backslash is a sign like others: Windows has it between folders."""
+    words = shlex.shlex(text, posix=True)
+    words.whitespace_split, words.escape, words.commenters = True, '', ''
+    return list(words)
 
 
 def _letters(data: bytes) -> str:

@@ -4,17 +4,15 @@ from __future__ import annotations
 
 import argparse
 import contextlib
-import os
-import secrets
-import shutil
 import signal
 import sys
 import tempfile
 import webbrowser
 from pathlib import Path
-from typing import IO, Iterator, List, Optional
+from typing import Iterator, List, Optional
 
 from ..errors import PicklestepError, reason
+from ..saving import written_whole
 from ..wording import shown
 from .document import Document
 from .export import MOST, write_report
@@ -34,29 +32,8 @@ def _parser() -> argparse.ArgumentParser:
     return parser
 
 
-@contextlib.contextmanager
-def _written_whole(path: Path) -> Iterator[IO[str]]:
-    """A text file that gets its name when it is whole. A device or a pipe is written as it is, since it cannot be replaced."""
-    if path.exists() and not path.is_file():
-        with open(path, 'w', encoding='utf-8') as file:
-            yield file
-        return
-    path = Path(os.path.realpath(path))
-    beside = path.with_name(f'picklestep-view-{secrets.token_hex(4)}.unfinished')
-    file = open(beside, 'x', encoding='utf-8')
-    try:
-        with file:
-            yield file
-        if path.exists():
-            shutil.copymode(path, beside)
-        os.replace(beside, path)
-    except BaseException:
-        beside.unlink()
-        raise
-
-
 def _export(document: Document, path: Path) -> int:
-    with _written_whole(path) as file:
+    with written_whole(path, 'utf-8') as file:
         shown, all_lines = write_report(document, file)
     if shown < all_lines:
         print(f'picklestep: {path} has the first {MOST:,} of {all_lines:,} opcodes', file=sys.stderr)
