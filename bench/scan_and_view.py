@@ -131,7 +131,8 @@ def view(path: Path, edit: bool) -> None:
     print(f'view {path.name}: the first page after {time.perf_counter() - start:.1f} s')
     if edit:
         start = time.perf_counter()
-        answer = ask(address, 'edit', what='replace', place=places // 2 // 2 * 2, name='BININT1', form='number', argument='8', count=0)
+        answer = ask(address, 'edit', what='replace', place=places // 2 // 2 * 2, name='BININT1', raw='08', count=0)
+        assert not answer.get('failed'), answer['said']
         print(f'view {path.name}: {answer["said"]} after {time.perf_counter() - start:.1f} s')
     print(f'view {path.name}: memory {memory(family(run.pid)) / 1e6:.0f} MB, the server alone {memory([run.pid]) / 1e6:.0f} MB')
     run.terminate()
