@@ -302,6 +302,55 @@ def renew(value: Any) -> None:
     globals()['renewed'] = value
 
 
+class OwnText(str):
+    """A text of a type of its own."""
+
+
+asked: List[str] = []
+
+
+class Asked:
+    """It keeps for which attributes it is asked."""
+
+    def __getattribute__(self, name: str) -> Any:
+        asked.append(name)
+        return super().__getattribute__(name)
+
+
+class AskedEach(Asked):
+    def append(self, item: Any) -> None:
+        """It takes items one by one."""
+
+
+class AskedAll(Asked):
+    def __setstate__(self, state: Any) -> None:
+        """It takes any state."""
+
+    def extend(self, items: Any) -> None:
+        """It takes items at once."""
+
+    def add(self, item: Any) -> None:
+        """It takes members."""
+
+
+class AskedTuple(Asked, tuple):
+    def __iter__(self) -> Any:
+        """It says that it has other items."""
+        asked.append('__iter__')
+        return iter('abc')
+
+    def __len__(self) -> int:
+        asked.append('__len__')
+        return 3
+
+
+class AskedDict(Asked, dict):
+    def __iter__(self) -> Any:
+        """It says that it has other keys."""
+        asked.append('__iter__')
+        return iter('abc')
+
+
 class Watcher:
     """What it is made with, as that was when it was made: a call that comes too early or too late shows."""
 

@@ -19,8 +19,9 @@ import sys
 import tempfile
 import time
 import unittest
-from typing import Any, List, Tuple
+from typing import Any, Callable, List, Tuple
 
+import harmless
 import picklestep
 from harmless import Maker, OwnList, canonical, executed, opcodes_at_random
 from picklestep.python_source import main, source
@@ -120,6 +121,38 @@ class Equality(unittest.TestCase):
         self.assert_same([renew + b'K\0\x85Rcharmless\nrenewed\n' + renew + b'K\5\x85Rcharmless\nrenewed\n\x87.',
                           b'\x80\x04charmless\nNamed.first\ncharmless\nNamed\nN}X\5\0\0\0firstK\5s\x86b\x86charmless\nNamed\nN}X\5\0\0\0firstK\1s\x86b\x86.'])
 
+    def test_attributes_are_asked_for_once(self) -> None:
+        """Of what is built or filled, and of a state, arguments and keywords that come from a call."""
+        thing = b'charmless\nAsked\n)\x81'
+        items, pairs = b'charmless\nAskedTuple\n(N}\x86tR', b'charmless\nAskedDict\n(](X\4\0\0\0lastK\1\x86etR'
+        states = [b'N', b'}', b'K\1', b'}X\1\0\0\0aK\1s', b'NN\x86', b'N}X\1\0\0\0aK\1s\x86', b'K\1}\x86', thing, items, pairs, b'N' + pairs + b'\x86']
+        fills = [b'K\1a', b'(K\1K\2e', b'K\1K\2s', b'(K\1K\2u', b'(K\1K\2\x90', *(state + b'b' for state in states)]
+        made = [b'charmless\n' + kind + b'\n)\x81' + fill + b'.' for kind in (b'Plain', b'Asked', b'AskedEach', b'AskedAll') for fill in fills]
+        made += [b'cbuiltins\nslice\n' + given + b'R.' for given in (items, thing)] + [b'(' + thing + b'o.']
+        made += [b'charmless\nWithKeywords\n' + given + b'\x92.' for given in (b')' + pairs, b')' + thing, items + b'}', thing + b'}')]
+        for data in made:
+            with self.subTest(data):
+                found = []
+                for run in ways(data):
+                    harmless.asked.clear()
+                    how, value = outcome(run)
+                    asked = [*harmless.asked]
+                    found.append((how, asked, how == 'made' and (repr(value) if type(value) is slice else inside(value))))
+                self.assertEqual(found[1], found[0], source(data).text)
+
+    def test_names_that_a_call_made(self) -> None:
+        """Of STACK_GLOBAL: they are texts and of no other type, dotted from protocol 4 on, and below 3 those of Python 2."""
+        makers: List[Callable[[bytes], bytes]] = [
+            lambda text: b'V' + text + b'\n', lambda text: b'cbuiltins\nstr\n(V' + text + b'\ntR', lambda text: b'charmless\nOwnText\n(V' + text + b'\ntR',
+            lambda text: b'cbuiltins\nbytes\n(C' + bytes([len(text)]) + text + b'tR']
+        names = [(b'harmless', b'Named.first'), (b'harmless', b'Named.none'), (b'harmless', b'OwnText'), (b'__builtin__', b'unichr'), (b'none', b'none'),
+                 (b'harmless', b''), (b'', b'x')]
+        for before in (b'', *(b'\x80' + bytes([protocol]) for protocol in range(6))):
+            self.assert_same([before + of_module(module) + of_name(name) + b'\x93.' for of_module in makers for of_name in makers for module, name in names])
+        found = source(b'Vos\n' + makers[1](b'getcwd') + b'\x93.' + b'\x80\4Vos\n' + makers[1](b'getcwd') + b'\x93.', many=True)
+        self.assertEqual([line for line in found if ' = find_class(' in line], [
+            "_5 = find_class('os', _4, protocol=0)  # 29", "_11 = find_class('os', _10, protocol=4)  # 62"])
+
     def test_what_is_no_tuple_and_no_value(self) -> None:
         kind = b'cbuiltins\nint\n'
         self.assert_same([kind + given + call + b'.' for given in (b')', b']', b'](K\5e', b'}', b'K\5', b'N', b'(K\5t', b'cbuiltins\ntuple\n)R',
@@ -155,6 +188,20 @@ class Equality(unittest.TestCase):
         for number, data in enumerate(pickles, 1):
             made = names['result' if number == 1 else f'result_{number}']
             self.assertEqual(canonical(made), canonical(pickle.loads(data)), f'seed {number - 1}')
+
+
+def ways(data: bytes) -> List[Callable[[], Any]]:
+    """What loads a pickle, and what runs its source."""
+    text = source(data).text
+    return [lambda: pickle.loads(data), lambda: executed(text)['result']]
+
+
+def outcome(run: Callable[[], Any]) -> Tuple[str, Any]:
+    """What it makes, or of which type what it raises is."""
+    try:
+        return 'made', run()
+    except Exception as error:
+        return 'raised', type(error)
 
 
 def inside(value: Any) -> Tuple[Any, ...]:
@@ -247,6 +294,28 @@ class Real(unittest.TestCase):
         self.assertIn(b'\x82M', data)
         self.assertEqual(executed(source(data).text)['result'], collections.OrderedDict(a=1))
 
+    def test_extensions_are_kept(self) -> None:
+        """What a code was found to be stays, and a name is found as the protocol at its place finds it."""
+        codes = {b'\x82\xc9': ('harmless', 'renewed'), b'\x83\xca\xca': ('harmless', 'Named.first'), b'\x84\xff\xff\xff\x7f': ('__builtin__', 'unichr')}
+        for opcode, names in codes.items():
+            copyreg.add_extension(*names, int.from_bytes(opcode[1:], 'little'))
+            self.addCleanup(copyreg.remove_extension, *names, int.from_bytes(opcode[1:], 'little'))
+        self.addCleanup(copyreg.clear_extension_cache)
+        self.addCleanup(harmless.renew, 0)
+        protocols = [b'', *(b'\x80' + bytes([protocol]) for protocol in range(6))]
+        pickles = [before + b'(' + opcode + b'charmless\nrenew\n]\x85R' + between + opcode + b't.'
+                   for before in protocols for between in protocols for opcode in (*codes, b'\x82\xcb')]
+        for data in pickles:
+            with self.subTest(data):
+                found = []
+                for run in ways(data):
+                    copyreg.clear_extension_cache()
+                    harmless.renew([])
+                    how, made = outcome(run)
+                    found.append((how, made, how == 'made' and made[0] is made[2], dict(copyreg._extension_cache)))  # type: ignore[attr-defined]
+                self.assertEqual(found[1], found[0], source(data).text)
+        self.assertIn('\n_2 = extension(202, protocol=0)  # 6\n', source(b'\x80\4N0N.\x83\xca\0.', many=True).text)
+
 
 class Shown(unittest.TestCase):
     """How the source looks."""
@@ -287,11 +356,12 @@ class Shown(unittest.TestCase):
                 self.assertEqual(executed(source(data, unframed=True).text)['result'], value)
 
     def test_names_that_clash_or_are_no_names(self) -> None:
-        lines = list(source(b'(ca\nset\ncb\nset\ncb\nset\nca\n_3\nc\x01\nx y\nccl\nclass\nc__future__\ndivision\nt.'))
+        lines = list(source(b'(ca\nset\ncb\nset\ncb\nset\nca\n_3\nc\x01\nx y\nccl\nclass\nc__future__\ndivision\n'
+                            b'ca\nunpickle\nca\nfind_class\nt.'))
         self.assertEqual([line.partition('  # ')[0] for line in lines[2:-1]], [
             'from a import set as set_0', 'from b import set as set_1', 'from b import set as set_2', 'from a import _3 as _3_3',
             "_4 = getattr(import_module('\\x01'), 'x y')", "_5 = getattr(import_module('cl'), 'class')",
-            "_6 = getattr(import_module('__future__'), 'division')"])
+            "_6 = getattr(import_module('__future__'), 'division')", 'from a import unpickle as unpickle_7', 'from a import find_class as find_class_8'])
 
     def test_a_long_name_that_is_called_without_arguments(self) -> None:
         name = 'n' * 500
@@ -454,7 +524,7 @@ def _made(text: str) -> List[int]:
     for statement in ast.parse(text).body:
         if isinstance(statement, ast.Assign) and isinstance(statement.targets[0], ast.Name) and _COMMENT.search(lines[(statement.end_lineno or 0) - 1]):
             shown = ast.unparse(statement)
-            if re.match('_[0-9]+ = ', shown) and 'import_module(' not in shown and not shown.endswith('.toreadonly()'):
+            if re.match('_[0-9]+ = ', shown) and not re.search(r'import_module\(|find_class\(|\.toreadonly\(\)$', shown):
                 found.append(int(shown.partition(' ')[0][1:]))
     return sorted(found)
 

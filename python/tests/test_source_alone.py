@@ -80,6 +80,7 @@ _EDGES = [
     b']' * 300 + b'a' * 299 + b'.', b'N' + b'\x85' * 100 + b'.',
     b'(ca\nb\no.(ca\nb\nK\x01o.ca\nb\n}X\x01\0\0\0aK\x01sb.',
     *(b'ca\nb\n' + given + call + b'.' for given in (b']', b'K\x01', b'}', b'N', b')2\x86', b'ca\nb\n)R') for call in (b'R', b'\x81', b'}\x92')),
+    b'Va\nca\nb\n)R\x93.\x80\x04Va\nca\nb\n)R\x93\x82\x05\x86.',
     b'ca\nb\n)ca\nb\n)R\x92.', b'\x80\x04ca\nb.c\nca\nb\nca\nb.class\nca.b\nb.\xc3\xa9.c\n(t.', b'N.ca\nresult_2\n.ca\nresult_2\n.ca\nb\nca\nb\n\x86.',
     b'X\x01\0\0\0\xff0N.', b'Iabc\n0}X\x01\0\0\0\xffNs.', *_ENDS]
 

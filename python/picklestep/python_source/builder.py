@@ -563,13 +563,14 @@ class Builder:
         if texts[0] is not None and texts[1] is not None:
             self._push_name(self._import(offset_of(line), texts[0], texts[1]))
             return
-        self.needs.add('import_module')
-        self.events.append(Statement(f'_{self._made} = getattr(import_module({{}}), {{}})', [module, name], offset_of(line)))
+        self.needs |= {'find_class', 'unpickle'}
+        form = f'_{self._made} = find_class({{}}, {{}}, protocol={self._protocol})'
+        self.events.append(Statement(form, [module, name], offset_of(line)))
         self._push_name()
 
     def _on_extension(self, line: str) -> None:
-        self.needs |= {'extension', 'import_module'}
-        self._call_of_own(line, 'extension', [line[line.rindex(' ') + 1:]])
+        self.needs.add('unpickle')
+        self._call_of_own(line, 'extension', [line[line.rindex(' ') + 1:], f'protocol={self._protocol}'])
 
     def _on_persid(self, line: str) -> None:
         self._call_of_own(line, 'persistent_load', [str(of_line('PERSID', line[line.index("'"):]))])

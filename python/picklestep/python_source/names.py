@@ -35,8 +35,8 @@ _BUILTINS = '''
 # The names that a source has from the start, with the module and the name of each thing.
 TAKEN: Dict[str, Tuple[str, str]] = {
     **{name: ('builtins', name) for name in _BUILTINS}, 'import_module': ('importlib', 'import_module'), 'reduce': ('functools', 'reduce'),
-    **{name: ('', name) for name in ('add_items', 'arguments', 'buffers', 'cut', 'extend', 'extension', 'instantiate', 'keywords',
-                                     'persistent_load', 'result', 'set_state', 'stack')}}
+    **{name: ('', name) for name in ('add_items', 'arguments', 'buffers', 'cut', 'extend', 'extension', 'find_class', 'instantiate',
+                                     'keywords', 'persistent_load', 'result', 'set_state', 'stack', 'unpickle')}}
 
 
 def is_identifier(text: str) -> bool:

@@ -32,7 +32,7 @@ class Builder {
     const kind = this.facts.kinds[name];
     if (HANDLERS[name]) return () => HANDLERS[name](this);
     if (kind) return () => this.pushContainer(kind[0], kind[1] === null ? this.cut() : this.last(kind[1]));
-    if (name.startsWith('EXT')) return () => this.callOwn('extension', [String(this.number(form))]);
+    if (name.startsWith('EXT')) return () => this.callOwn('extension', [String(this.number(form)), `protocol=${this.protocol}`]);
     if (name.endsWith('PUT')) return () => this.memo.set(this.number(form), this.stack.at(-1));
     if (name.endsWith('GET')) return () => this.stack.push(this.memo.get(this.number(form)));
     return () => this.pushValue(this.valueOf(name, form));
@@ -228,16 +228,16 @@ class Builder {
       this.pushName(this.import(...texts));
       return;
     }
-    this.needs.add('import_module');
-    const number = this.made;
-    this.events.push(new Statement((one, other) => `_${number} = getattr(import_module(${one}), ${other})`, [module, name], this.offset));
+    this.needs.add('find_class').add('unpickle');
+    const { made, protocol } = this;
+    this.events.push(new Statement((one, other) => `_${made} = find_class(${one}, ${other}, protocol=${protocol})`, [module, name], this.offset));
     this.pushName();
   }
 
   // A call of what the source is given, or defines.
   callOwn(called, items) {
     this.needs.add(called);
-    if (called === 'extension') this.needs.add('import_module');
+    if (called === 'extension') this.needs.add('unpickle');
     this.call('', called, { items });
   }
 
