@@ -76,12 +76,12 @@ class Module:
 
 
 def chunks(text: str) -> Iterator[str]:
-    """The declarations of a file: a line that is not indented, with the indented ones below it."""
+    """The declarations of a file: a line that is not indented, with the indented ones below it, and a bracket that ends it."""
     chunk: list[str] = []
     for line in text.splitlines():
         if line.lstrip().startswith("--") or not line.strip():
             continue
-        if chunk and not line.startswith(" "):
+        if chunk and not line.startswith((" ", "}")):
             yield "\n".join(chunk)
             chunk = []
         chunk.append(line)

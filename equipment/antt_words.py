@@ -138,6 +138,7 @@ WORDS: Mapping[str, Function] = {
     "after_first": Function(2, lambda test, items: items[_place(test, items) + 1:]),
     "list_any": Function(2, lambda test, items: _place(test, items) < len(items)),
     "list_all": Function(2, lambda test, items: all([apply(test, item) for item in items])),
+    "bytes_eq": Function(2, lambda left, right: left == right),
     "codes": Function(1, lambda text: tuple(map(ord, text))),
     "decimal": Function(1, _decimal),
     "signed_decimal": Function(1, _decimal),

@@ -14,6 +14,7 @@ from dataclasses import dataclass, field
 from typing import Any, Optional, TypeVar
 
 import antt
+import old_names
 from antt_words import Function, Made, Value
 from recorded import CODES, TAKING, Plan
 
@@ -145,10 +146,15 @@ def with_deep_stack(work: Callable[[], T]) -> T:
 
 
 def program_of(crates: pathlib.Path) -> antt.Program:
-    """The definitions of a folder of crates. The opcodes, which a file of Rattle's lists, are those of the table in its order."""
+    """The definitions of a folder of crates. Files of Rattle's list the opcodes, which are those of the table in its order, and names of Python 2."""
     table = antt.read_module(TABLE, (crates / "pickle_ops" / "specs" / "Table.antt").read_text())
     names = [text.split()[1].removeprefix("op.") for text in table.clauses["entry_of"]]
-    return antt.Program(crates, {"ALL": tuple(Made(f"Opcode.{name}") for name in names)})
+    rows = {name: _rows(words) for name, words in zip(("NAMES", "MODULES"), old_names.rows_of(crates))}
+    return antt.Program(crates, {"ALL": tuple(Made(f"Opcode.{name}") for name in names), **rows})
+
+
+def _rows(rows: Sequence[Sequence[str]]) -> Value:
+    return tuple(Made(",", tuple({"now": tuple(word.encode())} for word in row)) for row in rows)
 
 
 class Definition:

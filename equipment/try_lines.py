@@ -24,6 +24,7 @@ from random import Random
 from types import SimpleNamespace
 from typing import Any, Union
 
+import antt
 from antt_words import NONE, Made, Value, some
 from definition import ROOT, program_of, short, with_deep_stack
 
@@ -62,9 +63,9 @@ SEED = 1
 ALONE = tuple(fuzz.spelled(name, Random(SEED)) for name in fuzz.OPCODES)
 HOW = {"Append": "append", "Add": "add", "Build": "state"}
 SCRIPT = "run\nstack\nmemo\n"
-# The smallest real pickles.
-MOST = 60
+# How many differences are shown, and how much of a pickle: no row has more.
 MOST_SHOWN = 3
+MOST_BYTES = 1000
 
 
 @dataclass(frozen=True)
@@ -75,6 +76,13 @@ class Line:
     of: Any
     read: Callable[[str], Any]
 
+    def reading(self, text: str) -> str:
+        """What is read of a line of the program, or what the reader raises, as a text: 1.0 is equal to 1, and a float that is no number to none."""
+        try:
+            return repr(self.read(text))
+        except Exception as fault:
+            return f"{type(fault).__name__}: {fault}"
+
 
 def text_of(codes: Sequence[int]) -> str:
     return bytes(codes).decode("ascii")
@@ -83,6 +91,17 @@ def text_of(codes: Sequence[int]) -> str:
 def float_of(payload: Sequence[int]) -> float:
     number: float = struct.unpack(">d", bytes(payload))[0]
     return number
+
+
+def words_of(program: antt.Program, words: Sequence[tuple[str, Sequence[str]]]) -> SimpleNamespace:
+    """The definitions of these names, each with the file that has it."""
+    return SimpleNamespace(**{name: program.value(path, name) for path, names in words for name in names})
+
+
+def kinds_of(program: antt.Program, file: str, name: str) -> list[str]:
+    """The kinds of objects that a definition tells apart."""
+    clauses = program.modules[f"{SHOW}.{file}"].clauses[name]
+    return [f"Kind.{clause.split('kind.')[1].split()[0].rstrip(')')}" for clause in clauses if "kind." in clause]
 
 
 def two_of(texts: dict[str, Value]) -> tuple[bytes, bytes]:
@@ -101,10 +120,9 @@ class Lines:
 
     def __init__(self, crates: pathlib.Path) -> None:
         program = program_of(crates)
-        self.words = SimpleNamespace(**{name: program.value(path, name) for path, names in WORDS for name in names})
+        self.words = words_of(program, WORDS)
         self.opcodes = [text_of(self.words.name_of(opcode)) for opcode in program.value(f"{OPS}.declared.opcode.TheConstants", "ALL")]
-        kinds = program.modules[f"{SHOW}.ObjectText"].clauses["kind_text"]
-        self.kinds = [f"Kind.{clause.split('kind.')[1].split()[0].rstrip(')')}" for clause in kinds]
+        self.kinds = kinds_of(program, "ObjectText", "kind_text")
         self.shown: set[str] = set()
 
     def lacks(self) -> list[str]:
@@ -190,15 +208,15 @@ class Tally:
     lacks: list[str] = field(default_factory=list)
 
     def compare(self, data: bytes, found: Sequence[str], meant: Sequence[Line]) -> None:
+        begins = data[:MOST_BYTES].hex()
         if len(found) != len(meant):
-            self.different.append(f"{len(found)} lines and not {len(meant)}: {data.hex()}")
+            self.different.append(f"{len(found)} lines and not {len(meant)}: {begins}")
         for text, line in zip(found, meant):
             self.lines += 1
             if f"{text}\n" != line.text:
-                self.different.append(f"'{text}' and not '{line.text}': {data.hex()}")
-            # (by their text, since 1.0 is equal to 1, and a float that is no number to none)
-            elif repr(line.read(text)) != repr(line.of):
-                self.different.append(f"of '{text}' is read {line.read(text)} and not {line.of}")
+                self.different.append(f"'{text}' and not '{line.text}': {begins}")
+            elif line.reading(text) != repr(line.of):
+                self.different.append(f"of '{text}' is read {line.reading(text)} and not {line.of}")
 
 
 @dataclass
@@ -208,39 +226,44 @@ class Program:
     path: str
     file: pathlib.Path
 
-    def lines(self, task: str, script: str = "") -> list[str]:
-        done = subprocess.run([self.path, task, "--many", self.file], input=script.encode(), capture_output=True, check=False, timeout=60)
+    def lines(self, *words: str, script: str = "") -> list[str]:
+        done = subprocess.run([self.path, *words, self.file], input=script.encode(), capture_output=True, check=False, timeout=60)
         return done.stdout.decode("ascii").split("\n")[:-1]
 
 
 def try_pickle(lines: Lines, program: Program, tally: Tally, data: bytes) -> None:
     program.file.write_bytes(data)
     # (lines of opcodes and of objects alone begin with no letter)
-    opcodes, objects = ([line for line in program.lines(task) if not line[0].isalpha()] for task in ("list", "objects"))
+    opcodes, objects = ([line for line in program.lines(task, "--many") if not line[0].isalpha()] for task in ("list", "objects"))
     meant, state = lines.follow(data, len(opcodes))
     tally.compare(data, opcodes, meant)
     tally.compare(data, objects, [lines.of_object(number, made) for number, made in enumerate(state["heap"])])
-    tally.compare(data, program.lines("debug", SCRIPT)[1:], [lines.of_stack(state), lines.of_memo(state)])
+    tally.compare(data, program.lines("debug", "--many", script=SCRIPT)[1:], [lines.of_stack(state), lines.of_memo(state)])
 
 
-def rows() -> Iterator[bytes]:
-    for page in PAGES:
+def pickles_of(pages: Sequence[str], given: Sequence[bytes]) -> Iterator[bytes]:
+    """The pickles of rows, those that are made, and those that are given, each once."""
+    yield from dict.fromkeys([*rows(pages), *SPECIAL, *ALONE, *given])
+
+
+def rows(pages: Sequence[str]) -> Iterator[bytes]:
+    for page in pages:
         for block in conversations.blocks_of((ROOT / "equipment" / page).read_text("utf-8")):
             yield block.pickle
 
 
 def try_all(crates: pathlib.Path, program: Program, given: Sequence[bytes]) -> Tally:
     tally, lines = Tally(), Lines(crates)
-    for data in dict.fromkeys([*rows(), *SPECIAL, *ALONE, *given]):
+    for data in pickles_of(PAGES, given):
         try_pickle(lines, program, tally, data)
     tally.lacks = lines.lacks()
     return tally
 
 
-def _trial(program: pathlib.Path, folder: pathlib.Path, pickles: Sequence[pathlib.Path]) -> Noted:
-    """Runs this script in a process of its own."""
-    folder.mkdir(exist_ok=True)
-    words = [sys.executable, "-B", __file__, str(program), str(folder), *map(str, pickles)]
+def run(script: str, program: pathlib.Path, folder: pathlib.Path, pickles: Sequence[pathlib.Path]) -> Noted:
+    """Runs this script, or the other that compares lines, in a process of its own."""
+    folder.mkdir(parents=True, exist_ok=True)
+    words = [sys.executable, "-B", script, str(program), str(folder), *map(str, pickles)]
     done = subprocess.run(words, capture_output=True, text=True, check=False, timeout=600)
     if done.returncode != 0:
         return Noted(f"it ended with status {done.returncode}: {done.stderr.strip()[-300:]}", "")
@@ -251,11 +274,10 @@ def _trial(program: pathlib.Path, folder: pathlib.Path, pickles: Sequence[pathli
 
 
 def trials(program: pathlib.Path, folder: pathlib.Path, pickles: pathlib.Path) -> list[Trial]:
-    smallest = sorted(pickles.glob("*.pickle"), key=lambda path: path.stat().st_size)[:MOST]
-    return [Trial("lines beside their definitions", functools.partial(_trial, program, folder, smallest))]
+    return [Trial("lines beside their definitions", functools.partial(run, __file__, program, folder, sorted(pickles.glob("*.pickle"))))]
 
 
-def main() -> None:
+def main(tried: Callable[[pathlib.Path, Program, Sequence[bytes]], Tally]) -> None:
     parser = argparse.ArgumentParser()
     parser.add_argument("--crates", type=pathlib.Path, default=ROOT / "crates")
     parser.add_argument("program")
@@ -264,9 +286,9 @@ def main() -> None:
     words = parser.parse_args()
     given = [path.read_bytes() for path in words.pickles]
     program = Program(words.program, words.folder / "tried.pickle")
-    found = with_deep_stack(lambda: try_all(words.crates, program, given))
+    found = with_deep_stack(lambda: tried(words.crates, program, given))
     print(json.dumps({**vars(found), "different": sorted(found.different, key=len)}))
 
 
 if __name__ == "__main__":
-    main()
+    main(try_all)

@@ -21,6 +21,7 @@ import pages
 import releases
 import saves
 import several
+import try_calls
 import try_definition
 import try_lines
 import wheels
@@ -66,6 +67,11 @@ def loader_trials(loaded: loads.Loads, room: Room) -> list[Trial]:
     return [*loads.trials(loaded, room.pickles), *try_definition.trials(room.pickles)]
 
 
+def line_trials(room: Room) -> list[Trial]:
+    tried = ((try_lines, "lines"), (try_calls, "lines_of_calls"))
+    return [trial for module, name in tried for trial in module.trials(room.program, room.folder / name, room.pickles)]
+
+
 def of_program(room: Room) -> list[AnyGroup]:
     """What the program does by itself."""
     return [
@@ -89,7 +95,7 @@ def of_pickles(room: Room) -> list[AnyGroup]:
     inputs = several.Inputs(str(room.program), room.folder / "several")
     return [
         Group("listings", functools.partial(listings.trials, room)),
-        Group("lines", functools.partial(try_lines.trials, room.program, room.folder / "lines", room.pickles)),
+        Group("lines", functools.partial(line_trials, room)),
         Group("calls", functools.partial(count_calls.trials, counts, room.pickles), counts.closing),
         Group("there-and-back", functools.partial(listings.there_and_back, room)),
         Group("several", functools.partial(several.trials, inputs, room.pickles, answers), inputs.closing),
