@@ -1,4 +1,5 @@
--- What proofs and the contracts of private functions cite. Besides, a `StepRecord` shows the parts of its effect (`Records`).
+-- What proofs and the contracts of private functions cite. Besides, a `StepRecord` shows the parts of its effect (`Records`),
+-- and a `Stack` its sections (`Cells`).
 pub mod Cells
 pub mod Records
 pub mod Memo

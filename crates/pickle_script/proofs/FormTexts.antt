@@ -2,15 +2,14 @@
 use Rattle.std.proofs.Common.{◌≡◌, ℕ, List, false, Ok, Err, Option, sym, ap, ◌∙◌, subst}
 use Rattle.std.specs.Prelude.{Result, IfErr, IsErrAnd}
 use Rattle.pickle_io.specs.Device.{Told, Wrote, Broke}
-use Rattle.pickle_io.proofs.Devices.{WroteAllBut-none}
-use Rattle.pickle_doc.specs.Document.{Contents, AreBytes}
-use Rattle.pickle_doc.proofs.Existence.{some_document}
-use Rattle.pickle_show.specs.Output.{Output, Completes, Breaks, Begins, Cuts}
+use Rattle.pickle_doc.specs.Document.{Contents}
+use Rattle.pickle_show.specs.Output.{Output, Completes, Breaks}
 use Rattle.pickle_show.specs.declared.stop.TextStop.{TextStop}
 use Rattle.pickle_show.specs.declared.stop.TextStop.TheVariants as stop
 use Rattle.pickle_form.specs.declared.reason.Other.{Other}
 use Rattle.pickle_form.specs.Form.{IsFirstOther}
 use Rattle.pickle_script.specs.FormText.{form_text, form_status, form_answer, form_output}
+use Rattle.pickle_script.specs.Output.{CutsForm}
 
 pub form_whole : (bytes : List ℕ) (a b : Told) (first : Option Other) → IsFirstOther bytes first → Wrote a b (form_text first) → Completes form_output false false bytes a b (form_status first)
 unfolding form_output
@@ -21,11 +20,6 @@ pub form_broken : (bytes : List ℕ) (a b : Told) (first : Option Other) → IsF
 unfolding form_output
 form_broken bytes a b first w q = (w.0, w.1, subst (λ (x : Option Other). Broke a b (form_text x)) w.2 q)
 
-pub form_not_begun : (bytes : List ℕ) (a : Told) → AreBytes bytes → Begins form_output false false bytes a a
-form_not_begun bytes a small =
-    let some = some_document false false bytes small in
-    (some.0, some.1, ((form_output some.0).text, WroteAllBut-none a (form_output some.0).text))
-
-pub form_cut : (bytes : List ℕ) (a b : Told) (x : TextStop) (r : Result ℕ TextStop) → IsErrAnd r (λ e. e ≡ x) → Cuts form_output false false bytes a b x → IfErr r (Cuts form_output false false bytes a b)
+pub form_cut : (bytes : List ℕ) (a b : Told) (x : TextStop) (r : Result ℕ TextStop) → IsErrAnd r (λ e. e ≡ x) → CutsForm bytes a b x → IfErr r (CutsForm bytes a b)
 form_cut bytes a b x (Ok status) h w = absurd h
 form_cut bytes a b x (Err e) h w = rw h w

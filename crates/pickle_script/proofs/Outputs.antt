@@ -19,7 +19,6 @@ use Rattle.pickle_script.specs.declared.texts.Text.{Text}
 use Rattle.pickle_script.specs.declared.texts.Text.TheVariants as text
 use Rattle.pickle_holes.specs.declared.hole.Hole.{Hole}
 use Rattle.pickle_holes.specs.Holes.{first_outside}
-use Rattle.pickle_script.specs.FormText.{form_output}
 use Rattle.pickle_script.specs.Output.{StopsText, AnswersText, outside_line, IsCallsOfFile, CompletesFile, CutsFile, AnswersCalls}
 
 -- nothing is a beginning of any text
@@ -44,7 +43,7 @@ no_calls how pickles.OneMemo bytes a small =
 nothing_left : (t : Text) (many loose : Bool) (bytes : List ℕ) (a : Told) → AreBytes bytes → StopsText t many loose bytes a a stop.TooLarge
 nothing_left text.Listing many loose bytes a small = nothing_written listing many loose bytes a small
 nothing_left text.Objects many loose bytes a small = refl
-nothing_left text.Form many loose bytes a small = nothing_written form_output false false bytes a small
+nothing_left text.Form many loose bytes a small = refl
 nothing_left (text.Calls pickles detail) many loose bytes a small = no_calls (whole detail) pickles bytes a small
 
 pub refused_large : {S : Type 0} (told : S → Told) (t : Text) (many loose : Bool) (bytes : List ℕ) (sink : S) → AreBytes bytes → size_limit < length bytes

@@ -47,6 +47,17 @@ StopsReport many loose bytes old new stop.Write = BreaksReport many loose bytes 
 StopsReport many loose bytes old new stop.TooLarge = new ≡ old
 StopsReport many loose bytes old new stop.Memory = new ≡ old
 
+-- what is left of the form, which is said once all is read: a beginning where the sink failed, and nothing where memory ran out
+abbrev pub CutsForm : List ℕ → Told → Told → TextStop → Type 0
+CutsForm bytes old new cut.Failed = Breaks form_output false false bytes old new
+CutsForm bytes old new cut.Memory = new ≡ old
+
+abbrev pub StopsForm : List ℕ → Told → Told → Stop → Type 0
+StopsForm bytes old new stop.Read = ⊥
+StopsForm bytes old new stop.Write = CutsForm bytes old new cut.Failed
+StopsForm bytes old new stop.TooLarge = CutsForm bytes old new cut.Memory
+StopsForm bytes old new stop.Memory = CutsForm bytes old new cut.Memory
+
 -- what it leaves of what is imported and called: as of a listing
 abbrev pub StopsCalls : Manner → Pickles → List ℕ → Told → Told → Stop → Type 0
 StopsCalls how pickles bytes old new stop.Read = ⊥
@@ -57,7 +68,7 @@ StopsCalls how pickles bytes old new stop.Memory = further.CutsCallsText how pic
 abbrev pub StopsText : Text → Bool → Bool → List ℕ → Told → Told → Stop → Type 0
 StopsText text.Listing many loose bytes old new e = Stops listing many loose bytes old new e
 StopsText text.Objects many loose bytes old new e = StopsReport many loose bytes old new e
-StopsText text.Form many loose bytes old new e = Stops form_output false false bytes old new e
+StopsText text.Form many loose bytes old new e = StopsForm bytes old new e
 StopsText (text.Calls pickles detail) many loose bytes old new e = StopsCalls (whole detail) pickles bytes old new e
 
 -- ---- the answer

@@ -3,8 +3,9 @@
 ghost use Rattle.std.specs.Prelude.{◌≡◌, ◌≤◌, false, length, IfOk, IfErr};
 ghost use Rattle.pickle_io.specs.Device.{Writes};
 ghost use Rattle.pickle_doc.specs.Document.{size_limit};
-ghost use Rattle.pickle_show.specs.Output.{Completes, Cuts};
+ghost use Rattle.pickle_show.specs.Output.{Completes};
 ghost use Rattle.pickle_script.specs.FormText.{place_text, other_words, other_line, form_text, form_status, form_output};
+ghost use Rattle.pickle_script.specs.Output.{CutsForm};
 
 use pickle_form::{Other, first_other};
 use pickle_io::{Failed, Page, write_all, write_decimal};
@@ -69,7 +70,7 @@ fn form_status(first: Option<Other>) -> u8
 pub(crate) fn write_form<S: Page>(alloc: Global, bytes: &[u8], page: &mut S) -> Result<u8, TextStop>
     requires { length bytes.now ≤ size_limit }
     ensures ok { IfOk result (Completes form_output false false bytes.now (S.told page.old) (S.told page.new)) }
-    ensures err { IfErr result (Cuts form_output false false bytes.now (S.told page.old) (S.told page.new)) }
+    ensures err { IfErr result (CutsForm bytes.now (S.told page.old) (S.told page.new)) }
 {
     let first = first_other(alloc, bytes)?;
     write_first(first, page)?;

@@ -75,7 +75,7 @@ impl From<TextStop> for Stop {
     }
 }
 
-/// The words that the program prints for a stop.
+/// The words of a stop. The line that the program prints holds the same.
 pub fn line_of(stop: &Stop) -> &'static str
     ensures { result.now ≡ stop_words stop.now }
 {

@@ -34,7 +34,7 @@ pub enum Text {
 /// called has a reading of its own and does not depend on `many` or `loose`; its status is 0 where the reading ends with the bytes, right
 /// behind a STOP, else 1. Nor does the form, whose status is 0 where the pickle is in it, else 1.
 /// `Stop::TooLarge` where there are more bytes than `LIMIT`: nothing was written then. `Stop::Memory` where memory runs out,
-/// `Stop::Write` where the sink fails: what was written then is a beginning of the text, and of a report nothing where memory ran out.
+/// `Stop::Write` where the sink fails: what was written then is a beginning of the text; where memory ran out, of a report or form nothing.
 /// The sink may still hold a part of what was written: the caller flushes it.
 pub fn write_text<S: Page>(
     alloc: Global,

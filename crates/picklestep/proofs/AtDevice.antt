@@ -1,5 +1,5 @@
 -- From what a page took to what its device did.
-use Rattle.std.proofs.Common.{◌≡◌, ◌≢◌, ◌⊎◌, inl, inr, ℕ, ◌+◌, ◌<◌, ◌≤◌, Bool, List, [], ◌∷◌, ◌++◌, length, Option, None, Some, Result, Ok, Err, refl, sym, ap, subst, ◌∙◌, append_assoc, append-nil, arith}
+use Rattle.std.proofs.Common.{◌≡◌, ◌≢◌, ◌⊎◌, inl, inr, ℕ, ◌+◌, ◌<◌, ◌≤◌, Bool, true, List, [], ◌∷◌, ◌++◌, length, Option, None, Some, Result, Ok, Err, refl, sym, ap, subst, ◌∙◌, append_assoc, append-nil, arith}
 use Rattle.std.specs.Prelude.{MatchResult, IsErr, IsErrAnd, IfErr}
 use Rattle.std.specs.List.{concat}
 use Rattle.pickle_io.specs.Device.{Told, holding, AppendsPrefix, HasFailed, Wrote, Broke, WroteAllBut}
@@ -24,7 +24,7 @@ use Rattle.picklestep.specs.declared.task.CallsOptions.{CallsOptions}
 use Rattle.picklestep.specs.Files.{Gives, Reports, IsRead}
 use Rattle.picklestep.specs.Skips.{StandFor}
 use Rattle.picklestep.specs.Program.{AnswersWords, Answers}
-use Rattle.picklestep.specs.Device.{Took, TookText, NoneWithoutMemory, nothing, IsTextOf, is_calls, AnswersInput}
+use Rattle.picklestep.specs.Device.{Took, TookText, NoneWithoutMemory, comes_last, nothing, IsTextOf, is_calls, AnswersInput}
 
 -- ---- what was written on the page
 
@@ -45,7 +45,7 @@ said_text told text.Form many loose bytes old new (Err stop.Write) few p = let w
 said_text told text.Objects many loose bytes old new (Err stop.Write) few p = let w = p.stopped in inl (record { text = w.2.0; status = w.2.1 }, (w.0, w.1, w.2.2), w.2.3)
 said_text told (text.Calls pickles detail) many loose bytes old new (Err stop.Write) few p = inl p.stopped
 said_text told text.Listing many loose bytes old new (Err stop.Memory) few p = let w = p.stopped in inl (listing w.0, (w.0, w.1, refl), w.2)
-said_text told text.Form many loose bytes old new (Err stop.Memory) few p = let w = p.stopped in inl (form_output w.0, (w.0, w.1, refl), w.2)
+said_text told text.Form many loose bytes old new (Err stop.Memory) few p = inr (refl, wrote_nothing (told old) (told new) p.stopped)
 said_text told text.Objects many loose bytes old new (Err stop.Memory) few p = inr (refl, wrote_nothing (told old) (told new) p.stopped)
 said_text told (text.Calls pickles detail) many loose bytes old new (Err stop.Memory) few p = inl p.stopped
 said_text told text.Listing many loose bytes old new (Err stop.Read) few p = absurd p.stopped
@@ -181,20 +181,23 @@ answers_calls told options source source' whole bytes old mid new d e first held
     let took : TookText (is_calls options bytes) d e result = text_below (is_calls options bytes) d e first held result none all to in
     inr (record { bytes = whole; read = read; calm = still; took = subst (λ (b : List ℕ). TookText (is_calls options b) d e result) same took })
 
-unwritten : {S : Type 0} (told : S → Told) (many loose : Bool) (bytes : List ℕ) (old mid : S) (answer : Result ℕ Stop)
-    → AnswersText text.Objects many loose bytes told old mid answer → answer ≡ Err stop.Memory → told mid ≡ told old
-unwritten told many loose bytes old mid answer p memory =
+unwritten : {S : Type 0} (told : S → Told) (t : Text) (many loose : Bool) (bytes : List ℕ) (old mid : S) (answer : Result ℕ Stop)
+    → AnswersText t many loose bytes told old mid answer → comes_last t ≡ true → answer ≡ Err stop.Memory → told mid ≡ told old
+unwritten told text.Listing many loose bytes old mid answer p last memory = absurd cc
+unwritten told text.Objects many loose bytes old mid answer p last memory =
     subst (λ (r : Result ℕ Stop). IfErr r (StopsText text.Objects many loose bytes (told old) (told mid))) memory p.stopped
+unwritten told text.Form many loose bytes old mid answer p last memory =
+    subst (λ (r : Result ℕ Stop). IfErr r (StopsText text.Form many loose bytes (told old) (told mid))) memory p.stopped
+unwritten told (text.Calls pickles detail) many loose bytes old mid answer p last memory = absurd cc
 
--- where memory ran out nothing of a report was written
-pub report_unwritten : {S : Type 0} (told : S → Told) (t : Text) (many loose : Bool) (bytes : List ℕ) (old mid new : S) (d e : Told) (first held : List ℕ) (answer result : Result ℕ Stop)
+-- where memory ran out nothing was written of a text that comes last
+pub last_unwritten : {S : Type 0} (told : S → Told) (t : Text) (many loose : Bool) (bytes : List ℕ) (old mid new : S) (d e : Told) (first held : List ℕ) (answer result : Result ℕ Stop)
     → AnswersText t many loose bytes told old mid answer → (result ≢ Err stop.Write → result ≡ answer) → (result ≢ Err stop.Write → Wrote (told mid) (told new) [])
     → told old ≡ holding d first → told new ≡ holding e held → (holding d first).held ≡ 0 → (result ≢ Err stop.Write → (holding e held).held ≡ 0)
-    → t ≡ text.Objects → NoneWithoutMemory d e result
-report_unwritten told t many loose bytes old mid new d e first held answer result w passed calm before after none all is memory =
+    → comes_last t ≡ true → NoneWithoutMemory d e result
+last_unwritten told t many loose bytes old mid new d e first held answer result w passed calm before after none all last memory =
     let n : result ≢ Err stop.Write = λ x. let c : err stop.Memory ≡ err stop.Write = sym memory ∙ x in absurd cc in
-    let report = subst (λ (x : Text). AnswersText x many loose bytes told old mid answer) is w in
-    let still : told mid ≡ told old = unwritten told many loose bytes old mid answer report (sym (passed n) ∙ memory) in
+    let still : told mid ≡ told old = unwritten told t many loose bytes old mid answer w last (sym (passed n) ∙ memory) in
     let flushed : Wrote (told old) (told new) [] = subst (λ (x : Told). Wrote x (told new) []) still (calm n) in
     let from : Wrote (holding d first) (told new) [] = subst (λ (x : Told). Wrote x (told new) []) before flushed in
     let to : Wrote (holding d first) (holding e held) [] = subst (λ (x : Told). Wrote (holding d first) x []) after from in

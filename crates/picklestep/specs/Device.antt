@@ -48,6 +48,12 @@ nothing = record { text = []; status = 0 }
 abbrev pub TookText : (Output → Type 0) → Told → Told → Result ℕ Stop → Type 0
 TookText Is old new result = ((o : Output) × Is o × Took o old new result) ⊎ (IsErr result × Took nothing old new result)
 
+-- whether a text is written once all is run or read
+abbrev pub comes_last : Text → Bool
+comes_last text.Objects = true
+comes_last text.Form = true
+comes_last _ = false
+
 -- where memory ran out nothing was written
 abbrev pub NoneWithoutMemory : Told → Told → Result ℕ Stop → Type 0
 NoneWithoutMemory old new result = result ≡ Err stop.Memory → Wrote old new []
@@ -98,14 +104,15 @@ abbrev pub asks_for_text : Task → Bool
 asks_for_text (task.Debug input options) = false
 asks_for_text _ = true
 
--- the device took so of the text that is asked for, in the mode that is asked for, of all bytes of the source; a report is written once all
--- is run
+-- the device took so of the text that is asked for, in the mode that is asked for, of all bytes of the source; a report and the form come
+-- last
 abbrev pub AnswersTask : Task → Gives → Gives → Told → Told → Result ℕ Stop → Type 0
 AnswersTask (task.List input) source source' old new result = AnswersInput (IsTextOf text.Listing input.many input.unframed) source source' old new result
 AnswersTask (task.Objects input) source source' old new result =
     AnswersInput (IsTextOf text.Objects input.many input.unframed) source source' old new result × NoneWithoutMemory old new result
 AnswersTask (task.Calls input options) source source' old new result = AnswersInput (is_calls options) source source' old new result
-AnswersTask (task.Form input) source source' old new result = AnswersInput (IsTextOf text.Form false false) source source' old new result
+AnswersTask (task.Form input) source source' old new result =
+    AnswersInput (IsTextOf text.Form false false) source source' old new result × NoneWithoutMemory old new result
 AnswersTask (task.Debug input options) source source' old new result = ⊤
 
 -- of all bytes of a file that was opened

@@ -2,7 +2,7 @@
 //! speak of the device.
 
 ghost use Rattle.std.specs.Prelude.{◌≡◌, ◌≢◌, true, Err};
-ghost use Rattle.picklestep.specs.Device.{NoneWithoutMemory, IsTextOf, AnswersInput, AnswersTask, AnswersFile, is_calls, asks_for_text, device_of, input_of as asked_input};
+ghost use Rattle.picklestep.specs.Device.{NoneWithoutMemory, comes_last, IsTextOf, AnswersInput, AnswersTask, AnswersFile, is_calls, asks_for_text, device_of, input_of as asked_input};
 ghost use Rattle.picklestep.specs.Files.{gives, reports};
 
 use crate::files::{Files, open_file};
@@ -26,7 +26,7 @@ fn answer_text<R: Source, K: Sink + Drop>(
     requires handed { (⟦<Buffered<K> as Sink>⟧.told page.old).held ≡ 0 }
     ensures answers { AnswersInput (IsTextOf text many loose) (gives (R.remaining source.old) (R.failures source.old))
         (gives (R.remaining source.new) (R.failures source.new)) (K.told (device_of page.old)) (K.told (device_of page.new)) result }
-    ensures report { text ≡ Text.Objects → NoneWithoutMemory (K.told (device_of page.old)) (K.told (device_of page.new)) result }
+    ensures last { comes_last text ≡ true → NoneWithoutMemory (K.told (device_of page.old)) (K.told (device_of page.new)) result }
     ensures handed { result ≢ Err Stop.Write → (⟦<Buffered<K> as Sink>⟧.told page.new).held ≡ 0 }
 {
     let bytes = read_limited(alloc, source, LIMIT)?;
@@ -71,8 +71,8 @@ fn input_of(task: &Task) -> &GivenFile
 /// and answers the status.
 ///
 /// `Stop::Read` where the source fails, `Stop::TooLarge` where it has more bytes than `LIMIT`, `Stop::Memory` where memory runs out: a
-/// beginning of the text was written and handed on then, and of a report or before all was read nothing. `Stop::Write` where the device
-/// fails.
+/// beginning of the text was written and handed on then, and of a report, of the form or before all was read nothing. `Stop::Write` where
+/// the device fails.
 fn answer_task<R: Source, K: Sink + Drop>(
     alloc: Global,
     task: &Task,

@@ -7,6 +7,7 @@ ghost use Rattle.pickle_doc.specs.Document.{document_bytes};
 ghost use Rattle.pickle_script.specs.declared.stop.Stop.{Stop};
 ghost use Rattle.picklestep.specs.Files.{Kind, HasAtLeast, IsShut, IsUnread, IsRead, reports};
 
+use crate::stored::Stored;
 use pickle_doc::{Document, LIMIT};
 use pickle_io::{Page, Source, read_limited};
 use pickle_script::Stop;
@@ -39,7 +40,8 @@ pub trait Files {
 
     /// Saves all bytes of a document to the file of a name, and to no other. After an error the file may have taken a beginning of them,
     /// or it is as it was.
-    fn save(&mut self, path: &str, document: &Document) -> Result<(), Stop>
+    fn save<'d>(&mut self, path: &str, document: &'d Document) -> Result<Stored<'d>, Stop>
+        ensures stored { IfOk result (λ s. s.document.now ≡ document.now) }
         ensures takes { OnOk result (Wrote (took self.old path.now) (took self.new path.now) (document_bytes document.now.contents)) }
         ensures others { (name : List ℕ) → name ≢ path.now → took self.new name ≡ took self.old name }
         ensures lost { IfErr result (λ e. IsTrue (loses self.old path.now e)) };

@@ -1,17 +1,15 @@
 //! How a document is saved so that no file is lost: into a new file, which takes the name of the old one when all of it is stored.
 
-ghost use Rattle.std.specs.Prelude.{IfOk, IfErr, IsTrue};
-ghost use Rattle.std.specs.Io.KnownBytes.{Appends};
-ghost use Rattle.pickle_doc.specs.Document.{document_bytes};
+ghost use Rattle.std.specs.Prelude.{◌≡◌, IfOk, IfErr, IsTrue};
 ghost use Rattle.picklestep.specs.Files.{is_loss};
 
-use crate::files::{Files, stop_for, write_document};
+use crate::files::{Files, stop_for};
+use crate::stored::{Filled, Stored, write_to};
 use pickle_doc::Document;
-use pickle_io::{Buffered, FromRead, ToWrite};
+use pickle_io::FromRead;
 use pickle_script::Stop;
-use std::alloc::Global;
 use std::fs::{File, Metadata, OpenOptions};
-use std::io::{ErrorKind, Write};
+use std::io::ErrorKind;
 use std::os::unix::fs::{MetadataExt, OpenOptionsExt, fchown};
 use std::path::{Path, PathBuf};
 use std::{fs, io};
@@ -65,14 +63,20 @@ impl NewFile {
 
     /// Waits until the bytes that it was filled with are stored, and then gives the file this name. A mount point is not replaced:
     /// `Stop::Write`.
-    fn move_to(&self, rt: &HostRuntime, target: &PathBuf, filled: Filled<&File>) -> Result<(), Stop>
-        ensures { IfErr result (λ e. IsTrue (is_loss e)) }
+    fn move_to<'d>(
+        &self,
+        rt: &HostRuntime,
+        target: &PathBuf,
+        filled: Filled<'d, &File>,
+    ) -> Result<Stored<'d>, Stop>
+        ensures stored { IfOk result (λ s. s.document.now ≡ filled.entry.document.now) }
+        ensures loss { IfErr result (λ e. IsTrue (is_loss e)) }
     {
-        if filled.writer.sync_all().is_err() || fs::rename(rt, &self.path, target).is_err() {
+        if filled.writer().sync_all().is_err() || fs::rename(rt, &self.path, target).is_err() {
             return Err(Stop::Write);
         }
         sync_folder(rt, target);
-        Ok(())
+        Ok(filled.into_stored())
     }
 }
 
@@ -121,36 +125,16 @@ fn has_name(rt: &HostRuntime, about: &Metadata, target: &PathBuf) -> bool {
     }
 }
 
-/// A writer that has taken all bytes of a document. Only `write_to` makes one.
-#[derive(Drop)]
-struct Filled<W> {
-    writer: W,
-}
-
-/// Writes the bytes of a document to a writer. A file reports none, so this is said of any writer.
-fn write_to<W: Write + Drop>(
-    alloc: Global,
-    document: &Document,
-    writer: W,
-) -> Result<Filled<W>, Stop>
-    ensures all { IfOk result (λ filled. Appends (W.contents writer) (W.contents filled.writer) (document_bytes document.now.contents)) }
-    ensures loss { IfErr result (λ e. IsTrue (is_loss e)) }
-{
-    let mut page = Buffered::new(alloc, ToWrite::new(writer))?;
-    write_document(document, &mut page)?;
-    let writer = page.into_inner().into_inner();
-    Ok(Filled { writer })
-}
-
 /// Fills a new file and gives it its name.
-fn fill(
+fn fill<'d>(
     rt: &HostRuntime,
-    document: &Document,
+    document: &'d Document,
     new: &NewFile,
     target: &PathBuf,
     about: Option<&Metadata>,
-) -> Result<(), Stop>
-    ensures { IfErr result (λ e. IsTrue (is_loss e)) }
+) -> Result<Stored<'d>, Stop>
+    ensures stored { IfOk result (λ s. s.document.now ≡ document.now) }
+    ensures loss { IfErr result (λ e. IsTrue (is_loss e)) }
 {
     if let Some(about) = about {
         new.take_after(about)?;
@@ -161,28 +145,35 @@ fn fill(
 
 /// Saves a document in a new file, which then takes the name `target`; `about` is of the file that has this name, if there is one. After a
 /// failure that file is as it was, and the new one is removed.
-fn replace(
+fn replace<'d>(
     rt: &HostRuntime,
-    document: &Document,
+    document: &'d Document,
     target: &PathBuf,
     about: Option<&Metadata>,
-) -> Result<(), Stop>
-    ensures { IfErr result (λ e. IsTrue (is_loss e)) }
+) -> Result<Stored<'d>, Stop>
+    ensures stored { IfOk result (λ s. s.document.now ≡ document.now) }
+    ensures loss { IfErr result (λ e. IsTrue (is_loss e)) }
 {
     // Nobody else may read the new file before it has the mode of the old one.
     let mode = if about.is_some() { 0o600 } else { 0o666 };
     let new = NewFile::next_to(rt, target, mode)?;
-    let filled = fill(rt, document, &new, target, about);
-    if filled.is_err() {
+    let stored = fill(rt, document, &new, target, about);
+    if stored.is_err() {
         let _ = fs::remove_file(rt, &new.path);
     }
-    filled
+    stored
 }
 
 /// Saves a document where `path` opened this file. A device or a pipe takes the bytes, and so does a regular file that was removed
 /// while it is open, to which `/dev/stdout` may lead.
-fn save_over(rt: &HostRuntime, document: &Document, path: &str, file: File) -> Result<(), Stop>
-    ensures { IfErr result (λ e. IsTrue (is_loss e)) }
+fn save_over<'d>(
+    rt: &HostRuntime,
+    document: &'d Document,
+    path: &str,
+    file: File,
+) -> Result<Stored<'d>, Stop>
+    ensures stored { IfOk result (λ s. s.document.now ≡ document.now) }
+    ensures loss { IfErr result (λ e. IsTrue (is_loss e)) }
 {
     let Ok(about) = file.metadata() else {
         return Err(Stop::Write);
@@ -198,14 +189,18 @@ fn save_over(rt: &HostRuntime, document: &Document, path: &str, file: File) -> R
             return Err(Stop::Write);
         }
     }
-    write_to(rt.alloc(), document, file)?;
-    Ok(())
+    Ok(write_to(rt.alloc(), document, file)?.into_stored())
 }
 
 /// Saves a document to a path. `Stop::Write` where the file, or a new one next to it, cannot be written, `Stop::Memory` where there is
 /// no room; a regular file is then as it was. A device or a pipe may have taken a beginning of the bytes.
-fn save_document(rt: &HostRuntime, document: &Document, path: &str) -> Result<(), Stop>
-    ensures { IfErr result (λ e. IsTrue (is_loss e)) }
+fn save_document<'d>(
+    rt: &HostRuntime,
+    document: &'d Document,
+    path: &str,
+) -> Result<Stored<'d>, Stop>
+    ensures stored { IfOk result (λ s. s.document.now ≡ document.now) }
+    ensures loss { IfErr result (λ e. IsTrue (is_loss e)) }
 {
     // The file is opened first, and left unchanged, so that one that may not be written is not replaced.
     match OpenOptions::new().write(true).open(rt, path) {
@@ -252,7 +247,7 @@ impl Files for SystemFiles<'_> {
         Ok((FromRead::new(file), least))
     }
 
-    fn save(&mut self, path: &str, document: &Document) -> Result<(), Stop> {
+    fn save<'d>(&mut self, path: &str, document: &'d Document) -> Result<Stored<'d>, Stop> {
         save_document(self.rt, document, path)
     }
 }

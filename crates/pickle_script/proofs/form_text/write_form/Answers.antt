@@ -1,10 +1,10 @@
-use Rattle.std.proofs.Common.{arith}
+use Rattle.std.proofs.Common.{refl}
 use Rattle.pickle_show.specs.declared.stop.TextStop.TheVariants as stop
-use Rattle.pickle_script.proofs.FormTexts.{form_whole, form_broken, form_not_begun, form_cut}
+use Rattle.pickle_script.proofs.FormTexts.{form_whole, form_broken, form_cut}
 use Rattle.pickle_script.proofs.form_text.write_form.Goals as goal
 
 pub returns-in_err-first-clause-err : goal.returns-in_err-first-clause-err
-returns-in_err-first-clause-err g c = form_cut _ _ _ stop.Memory _ c.from_residual.ensures.1 (form_not_begun c.args.bytes.now _ (λ i. omega (arith, c.type_inv.bytes i)))
+returns-in_err-first-clause-err g c = form_cut _ _ _ stop.Memory _ c.from_residual.ensures.1 refl
 
 pub returns-in_err-write_first-clause-err : goal.returns-in_err-write_first-clause-err
 returns-in_err-write_first-clause-err g c =

@@ -1,6 +1,6 @@
 use Rattle.std.proofs.Common.{refl}
 use Rattle.pickle_io.proofs.Devices.{Wrote-none}
-use Rattle.picklestep.proofs.AtDevice.{answers_text, report_unwritten}
+use Rattle.picklestep.proofs.AtDevice.{answers_text, last_unwritten}
 use Rattle.picklestep.proofs.answers.answer_text.Goals as goal
 
 pub returns-clause-answers : goal.returns-clause-answers
@@ -9,10 +9,10 @@ returns-clause-answers g c =
     answers_text _ _ _ _ _ _ _ _ _ _ _ _ _ _ _ _ _ c.in_ok-bytes.ensures.whole (c.in_ok-bytes.ensures.calm (λ e. absurd cc)) c.as_slice.ensures.value c.write_text-written.ensures
     h.passed h.calm h.untouched h.failed refl refl c.requires.handed h.handed
 
-pub returns-in_err-bytes-clause-report : goal.returns-in_err-bytes-clause-report
-returns-in_err-bytes-clause-report g c = λ is memory. Wrote-none _
+pub returns-in_err-bytes-clause-last : goal.returns-in_err-bytes-clause-last
+returns-in_err-bytes-clause-last g c = λ last memory. Wrote-none _
 
-pub returns-clause-report : goal.returns-clause-report
-returns-clause-report g c =
+pub returns-clause-last : goal.returns-clause-last
+returns-clause-last g c =
     let h = c.write_out.ensures in
-    report_unwritten _ _ _ _ _ _ _ c.write_out.new.sink _ _ _ _ _ _ c.write_text-written.ensures h.passed h.calm refl refl c.requires.handed h.handed
+    last_unwritten _ _ _ _ _ _ _ c.write_out.new.sink _ _ _ _ _ _ c.write_text-written.ensures h.passed h.calm refl refl c.requires.handed h.handed
