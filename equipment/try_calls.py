@@ -3,9 +3,10 @@
 
     try_calls.py [--crates FOLDER] PROGRAM FOLDER [PICKLE..]
 
-The definitions of crates/*/specs, evaluated by antt.py, say which event each item has, in each reading that is in a text: of the rows of calls.txt,
-of the pickles that try_lines.py has, and of those that are given. The program's lines, cut and in full, have to be what `event_line` makes
-of these events, and what the package reads of a line has to be the event that it was made of. What is printed is as of try_lines.py.
+The definitions of crates/*/specs, evaluated by antt.py, say which event each item has, in each reading that is in a text: of the rows of
+calls.txt, of the pickles that try_lines.py has, and of those that are given. The program's lines, cut and in full, have to be what
+`event_line` makes of these events, and what the package reads of a line has to be the event that it was made of. Whether a text has what
+loaders that buffer frames read is taken from how the program ends its lines. What is printed is as of try_lines.py.
 """
 
 from __future__ import annotations
@@ -216,7 +217,8 @@ class Events:
         return found if is_shown else None
 
     def of_text(self, pickles: str, is_open: bool, data: bytes) -> Part:
-        """The lines of a text, and of what loaders that buffer frames read: where the lines end otherwise than by STOP, or one unpickler reads on."""
+        """The lines of a text, and of what loaders that buffer frames read, where the lines end otherwise than by STOP or one unpickler
+        reads on."""
         is_one = pickles == "OneMemo"
         parts = [self.of_reading(pickles, "Ignored", data)]
         parts += [self.of_reading(pickles, "Buffered", data)] if is_open or is_one else []

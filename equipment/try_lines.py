@@ -13,6 +13,7 @@ from __future__ import annotations
 
 import argparse
 import functools
+import hashlib
 import json
 import pathlib
 import struct
@@ -63,7 +64,7 @@ SEED = 1
 ALONE = tuple(fuzz.spelled(name, Random(SEED)) for name in fuzz.OPCODES)
 HOW = {"Append": "append", "Add": "add", "Build": "state"}
 SCRIPT = "run\nstack\nmemo\n"
-# How many differences are shown, and how much of a pickle: no row has more.
+# How many differences are shown, and how much of a pickle.
 MOST_SHOWN = 3
 MOST_BYTES = 1000
 
@@ -199,6 +200,13 @@ class Lines:
         return lines, state
 
 
+def named(data: bytes) -> str:
+    """A pickle as a difference has it: a long one by its sum."""
+    if len(data) <= MOST_BYTES:
+        return data.hex()
+    return f"{data[:MOST_BYTES].hex()}.. ({len(data)} bytes, SHA-256 {hashlib.sha256(data).hexdigest()})"
+
+
 @dataclass
 class Tally:
     """How many lines were compared, what differs, and what no line shows."""
@@ -208,13 +216,13 @@ class Tally:
     lacks: list[str] = field(default_factory=list)
 
     def compare(self, data: bytes, found: Sequence[str], meant: Sequence[Line]) -> None:
-        begins = data[:MOST_BYTES].hex()
+        pickle = named(data)
         if len(found) != len(meant):
-            self.different.append(f"{len(found)} lines and not {len(meant)}: {begins}")
+            self.different.append(f"{len(found)} lines and not {len(meant)}: {pickle}")
         for text, line in zip(found, meant):
             self.lines += 1
             if f"{text}\n" != line.text:
-                self.different.append(f"'{text}' and not '{line.text}': {begins}")
+                self.different.append(f"'{text}' and not '{line.text}': {pickle}")
             elif line.reading(text) != repr(line.of):
                 self.different.append(f"of '{text}' is read {line.reading(text)} and not {line.of}")
 

@@ -26,6 +26,11 @@ class Unknown(Exception):
     """A name that is neither a trial's nor a group's."""
 
 
+def broken(group: AnyGroup, fault: Exception) -> Verdict:
+    """What lists the trials of a group has failed."""
+    return Verdict(group.name, group.name, f"{type(fault).__name__}: {fault}"[:600])
+
+
 class Aside:
     """A group that runs in a process of its own, together with the others."""
 
@@ -40,7 +45,13 @@ class Aside:
     def send(self, sender: Connection, wanted: Optional[Set[str]]) -> None:
         if callable(self.group.aside):
             self.group.aside()
-        sender.send(list(self.group.verdicts(wanted)))
+        found: list[Verdict] = []
+        try:
+            for verdict in self.group.verdicts(wanted):
+                found.append(verdict)
+        except Exception as fault:
+            found.append(broken(self.group, fault))
+        sender.send(found)
 
     def verdicts(self) -> Iterator[Verdict]:
         try:
@@ -79,8 +90,8 @@ def run_groups(chosen: Chosen, report: Report) -> None:
         try:
             for verdict in found:
                 report.take(verdict)
-        except Exception as fault:  # (what lists the trials of a group has failed, and the next group still runs)
-            report.take(Verdict(group.name, group.name, f"{type(fault).__name__}: {fault}"[:600]))
+        except Exception as fault:  # (the next group still runs)
+            report.take(broken(group, fault))
 
 
 def alone(name: str) -> str:

@@ -14,8 +14,8 @@ __all__ = ['written_whole']
 
 @contextlib.contextmanager
 def written_whole(path: Path, encoding: Optional[str] = None) -> Iterator[IO[Any]]:
-    """A file, of text where it has an encoding, that gets its name when it is whole. A device or a pipe is written as it is, since it cannot
-    be replaced.
+    """A file, of text where it has an encoding, that gets its name when it is whole. A device or a pipe is written as it is, since it
+    cannot be replaced.
 
     >>> import tempfile
     >>> with tempfile.TemporaryDirectory() as folder:
@@ -31,6 +31,9 @@ def written_whole(path: Path, encoding: Optional[str] = None) -> Iterator[IO[Any
             yield file
         return
     path = Path(os.path.realpath(path))
+    if path.exists():
+        # (one that may not be written is not replaced)
+        open(path, 'r+b').close()
     beside = path.with_name(f'picklestep-save-{secrets.token_hex(4)}.unfinished')
     file = open(beside, f'x{kind}', encoding=encoding, opener=_private if path.exists() else None)
     try:

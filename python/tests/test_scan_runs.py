@@ -250,7 +250,7 @@ class Runs(RunCase):
     def test_what_is_done_without_end(self) -> None:
         """Until Ctrl-C, at which other files are written; what is not done is refused."""
         url = 'redis://127.0.0.1:1/0'
-        for words in (['--brief'], ['--jobs', '2'], ['--cluster', 'tcp://127.0.0.1:1'], ['--resume', 'log'], ['--sample', '3']):
+        for words in (['--brief'], ['--jobs', '2'], ['--cluster', 'tcp://127.0.0.1:1'], ['--resume', 'log'], ['--sample', '3'], ['--null']):
             run = self.scan('--follow', url, *words)
             self.assertEqual((run.returncode, run.stdout, run.stderr), (2, '', f'picklestep: --follow takes no {words[0]}\n'))
 
@@ -265,6 +265,17 @@ class Runs(RunCase):
         self.assertIn('! posix.system: once', summary.getvalue())
         self.assertIn('posix.system', names.read_text())
         self.assertTrue(json.loads(sarif.read_text())['runs'][0]['results'])
+
+    def test_a_reader_that_leaves_ends_what_has_no_end(self) -> None:
+        def follow(*_: object) -> Iterator[Result]:
+            while True:
+                yield look_at_bytes('key', HOSTILE)
+
+        sarif = self.folder / 'a.sarif'
+        left = unittest.mock.patch.object(command.Report, 'write', side_effect=BrokenPipeError)
+        with unittest.mock.patch.object(command, 'follow', follow), unittest.mock.patch.object(command, '_leave'), left:
+            self.assertEqual(command.main(['--follow', 'redis://127.0.0.1:1/0', '--sarif', str(sarif)]), 141)
+        self.assertEqual(len(json.loads(sarif.read_text())['runs'][0]['results']), 1)
 
     def test_progress_on_a_terminal(self) -> None:
         self.fill(5)

@@ -17,6 +17,7 @@ from unittest import mock
 
 import picklestep
 from picklestep import Change, End, Item, Mark, Object, Ran, Ref, Refused, Session, Shown, Where
+from picklestep import saving
 from picklestep.arguments import encoded
 from picklestep.program import find_program
 from pickles import LIST, known_opcodes, real_pickles
@@ -274,6 +275,29 @@ class Edits(unittest.TestCase):
                 session.replace(0, 'NEWTRUE')
                 self.assertRaisesRegex(picklestep.ProgramError, 'cannot write: No space', session.save, path)
             self.assertEqual((path.read_bytes(), sorted(os.listdir(os.fsencode(folder)))), (b'N.', [b'x', b'\xff']))
+
+    def test_a_new_file_is_private_until_it_has_the_mode_of_the_old_one(self) -> None:
+        modes = []
+
+        def take_after(path: Path, beside: Path) -> None:
+            modes.append(beside.stat().st_mode & 0o777)
+            take_after_it(path, beside)
+        take_after_it = saving._take_after
+        with tempfile.TemporaryDirectory() as folder, Session(b'N.') as session, mock.patch.object(saving, '_take_after', take_after):
+            path = Path(folder, os.fsdecode(b'\xff'))
+            path.write_bytes(b'old')
+            path.chmod(0o644)
+            session.save(path)
+            self.assertEqual((modes, path.stat().st_mode & 0o777, path.read_bytes()), ([0o600], 0o644, b'N.'))
+
+    def test_a_file_that_may_not_be_written_is_not_replaced(self) -> None:
+        with tempfile.TemporaryDirectory() as folder, Session(b'N.') as session:
+            path = Path(folder, os.fsdecode(b'\xff'))
+            path.write_bytes(b'old')
+            opened = mock.patch.object(saving, 'open', create=True, side_effect=PermissionError(errno.EACCES, os.strerror(errno.EACCES)))
+            with opened as asked:
+                self.assertRaisesRegex(picklestep.ProgramError, 'cannot write: Permission denied', session.save, path)
+            self.assertEqual((asked.call_args[0][0], path.read_bytes()), (path, b'old'))
 
     def test_many_edits(self) -> None:
         with Session(b'N.') as session:

@@ -1,4 +1,4 @@
-//! What shows that a document was written. Only a writer that took all its bytes makes it, so no way through a save can leave them out.
+//! What shows that some writer took all bytes of a document. A save answers it, so none that wrote them nowhere is answered Ok.
 
 ghost use Rattle.std.specs.Prelude.{◌≡◌, IfOk, IfErr, IsTrue};
 ghost use Rattle.std.specs.Io.KnownBytes.{Appends};

@@ -8,7 +8,7 @@ import json
 import os
 import re
 import sys
-from contextlib import closing
+from contextlib import closing, suppress
 from itertools import chain
 from typing import Dict, Generator, Iterable, List, Optional, TextIO, Union
 
@@ -36,7 +36,7 @@ __all__ = ['main']
 _OF_NO_READER = 128 + 13
 _UNITS = {'': 1, 'K': 1 << 10, 'M': 1 << 20, 'G': 1 << 30}
 # What is not done with --follow, which looks at one value after another without end.
-_NOT_FOLLOWED = ('brief', 'jobs', 'cluster', 'resume', 'sample')
+_NOT_FOLLOWED = ('brief', 'jobs', 'cluster', 'resume', 'sample', 'null')
 
 
 def _bytes(text: str) -> int:
@@ -227,20 +227,21 @@ def _in_a_row(first: Iterable[Result], results: Generator[Result, None, None], o
 
 
 def _follow(words: argparse.Namespace) -> int:
-    """Looks at new values until Ctrl-C, which is the end that this run has: other files are written then."""
+    """Looks at new values until Ctrl-C, or until its reader has left: other files are written then, since this run has no other end."""
     if len(words.paths) != 1 or not is_server(words.paths[0]):
         raise NoServer('--follow wants one server')
-    options = _parser()
+    parser = _parser()
     for name in _NOT_FOLLOWED:
-        if getattr(words, name) != options.get_default(name):
+        if getattr(words, name) != parser.get_default(name):
             raise NoServer(f'--follow takes no --{name}')
     words.json = True
     output = _Output(words)
-    try:
+    with suppress(KeyboardInterrupt):
         for result in follow(Address(words.paths[0]), _options(words), Wanted(words.match)):
             output.add(result)
-    except KeyboardInterrupt:
-        output.end(is_whole=True)
+            if output.is_left:
+                break
+    output.end(is_whole=True)
     return 130
 
 
