@@ -22,7 +22,7 @@ from typing import Any, Optional, Union
 import try_lines
 from antt_words import NONE, Made, Value, some
 from definition import program_of, short
-from try_lines import OPS, SHOW, Line, Program, Tally, float_of, kinds_of, pickles_of, text_of, words_of
+from try_lines import OPS, SHOW, Line, Program, Tally, float_of, kinds_of, text_of, words_of
 
 from picklestep.reaches import reach_of
 from picklestep.records import Brief, Briefs, Extension, Global, Name, Reach, Ref
@@ -235,18 +235,10 @@ def try_pickle(events: Events, program: Program, tally: Tally, data: bytes) -> N
             tally.compare(data, list(filter(begins_with_offset, text)), meant[detail])
 
 
-def try_all(crates: pathlib.Path, program: Program, given: Sequence[bytes]) -> Tally:
-    tally, events = Tally(), Events(crates)
-    for data in pickles_of(PAGES, given):
-        try_pickle(events, program, tally, data)
-    tally.lacks = events.lacks()
-    return tally
-
-
 def trials(program: pathlib.Path, folder: pathlib.Path, pickles: pathlib.Path) -> list[Trial]:
     run = functools.partial(try_lines.run, __file__, program, folder, sorted(pickles.glob("*.pickle")))
     return [Trial("lines of calls beside their definition", run)]
 
 
 if __name__ == "__main__":
-    try_lines.main(try_all)
+    try_lines.main(Events, try_pickle, PAGES)

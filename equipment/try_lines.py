@@ -23,7 +23,7 @@ from collections.abc import Callable, Iterator, Sequence
 from dataclasses import dataclass, field
 from random import Random
 from types import SimpleNamespace
-from typing import Any, Union
+from typing import Any, Protocol, TypeVar, Union
 
 import antt
 from antt_words import NONE, Made, Value, some
@@ -260,14 +260,6 @@ def rows(pages: Sequence[str]) -> Iterator[bytes]:
             yield block.pickle
 
 
-def try_all(crates: pathlib.Path, program: Program, given: Sequence[bytes]) -> Tally:
-    tally, lines = Tally(), Lines(crates)
-    for data in pickles_of(PAGES, given):
-        try_pickle(lines, program, tally, data)
-    tally.lacks = lines.lacks()
-    return tally
-
-
 def run(script: str, program: pathlib.Path, folder: pathlib.Path, pickles: Sequence[pathlib.Path]) -> Noted:
     """Runs this script, or the other that compares lines, in a process of its own."""
     folder.mkdir(parents=True, exist_ok=True)
@@ -285,7 +277,15 @@ def trials(program: pathlib.Path, folder: pathlib.Path, pickles: pathlib.Path) -
     return [Trial("lines beside their definitions", functools.partial(run, __file__, program, folder, sorted(pickles.glob("*.pickle"))))]
 
 
-def main(tried: Callable[[pathlib.Path, Program, Sequence[bytes]], Tally]) -> None:
+class Shows(Protocol):
+    def lacks(self) -> list[str]: ...
+
+
+Of = TypeVar("Of", bound=Shows)
+
+
+def main(read: Callable[[pathlib.Path], Of], try_one: Callable[[Of, Program, Tally, bytes], None], pages: Sequence[str]) -> None:
+    """Reads the definitions, and tries each pickle by them: of these pages, those that are made, and those that are given."""
     parser = argparse.ArgumentParser()
     parser.add_argument("--crates", type=pathlib.Path, default=ROOT / "crates")
     parser.add_argument("program")
@@ -294,9 +294,17 @@ def main(tried: Callable[[pathlib.Path, Program, Sequence[bytes]], Tally]) -> No
     words = parser.parse_args()
     given = [path.read_bytes() for path in words.pickles]
     program = Program(words.program, words.folder / "tried.pickle")
-    found = with_deep_stack(lambda: tried(words.crates, program, given))
+
+    def tried() -> Tally:
+        tally, definitions = Tally(), read(words.crates)
+        for data in pickles_of(pages, given):
+            try_one(definitions, program, tally, data)
+        tally.lacks = definitions.lacks()
+        return tally
+
+    found = with_deep_stack(tried)
     print(json.dumps({**vars(found), "different": sorted(found.different, key=len)}))
 
 
 if __name__ == "__main__":
-    main(try_all)
+    main(Lines, try_pickle, PAGES)
