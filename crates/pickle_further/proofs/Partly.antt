@@ -13,14 +13,11 @@ use Rattle.pickle_further.specs.declared.way.Way.{Way}
 use Rattle.pickle_further.specs.declared.way.Spot.{Spot}
 use Rattle.pickle_further.specs.declared.seek.Sought.TheVariants as sought
 use Rattle.pickle_further.specs.declared.seek.Visited.{Visited}
-use Rattle.pickle_show.specs.declared.naming.Detail.{Detail}
-use Rattle.pickle_show.specs.declared.naming.Naming.{Naming}
-use Rattle.pickle_show.specs.Naming.{begin}
 use Rattle.pickle_further.specs.declared.engine.TaleEnd.{TaleEnd}
 use Rattle.pickle_further.specs.Going.{Standing, going, Tale, search_from}
 use Rattle.pickle_further.specs.Parts.{part_end, header, tale_text, part_text, text_from, found_text}
 use Rattle.pickle_further.specs.CallsText.{CutsText, PutsText}
-use Rattle.pickle_further.specs.Inside.{standing, standing_of, Goes, tale_here, WroteTale, Finds}
+use Rattle.pickle_further.specs.Inside.{standing_of, Goes, tale_here, WroteTale, Finds}
 use Rattle.pickle_further.proofs.Pieces.{pieces, cut_before}
 use Rattle.pickle_further.proofs.Tales.{next_tale}
 
@@ -82,14 +79,9 @@ no_event_puts holes w p x t a is f =
     none_puts w (part_text holes w) (search_from sought.Event w p) t a refl (subst (λ (y : Option Visited). Finds w (search_from sought.Event w p) y t) is f)
 
 -- the first item whose reading loses bytes
-pub lost_puts : {A : Type 0} (holes : List Hole) (how : Detail) (w : Way) (s : State) (bytes : List ℕ) (at : Spot) (m : Naming) (v : Visited) (x : Option Visited) (t : State) (a b : Told) (r : Result A TextStop)
-    → m ≡ begin how 0 → x ≡ Some v → Finds w (search_from sought.Lost w (standing s bytes at m)) x t
-    → ((u : State) → Goes (going w (standing_of u v)) v.gone t → PutsText a b (text_from holes w (standing_of u v)) r)
-    → PutsText a b (found_text holes w (search_from sought.Lost w (standing s bytes at (begin how 0)))) r
-lost_puts holes how w s bytes at m v x t a b r same is f puts =
-    let here : Finds w (search_from sought.Lost w (standing s bytes at (begin how 0))) x t = subst (λ (n : Naming). Finds w (search_from sought.Lost w (standing s bytes at n)) x t) same f in
-    found_puts w (found_text holes w) (search_from sought.Lost w (standing s bytes at (begin how 0))) v t a b r
-    (subst (λ (y : Option Visited). Finds w (search_from sought.Lost w (standing s bytes at (begin how 0))) y t) is here) puts
+pub lost_puts : {A : Type 0} (holes : List Hole) (w : Way) (p : Option Standing) (v : Visited) (x : Option Visited) (t : State) (a b : Told) (r : Result A TextStop) → x ≡ Some v → Finds w p x t
+    → ((s : State) → Goes (going w (standing_of s v)) v.gone t → PutsText a b (text_from holes w (standing_of s v)) r) → PutsText a b (found_text holes w p) r
+lost_puts holes w p v x t a b r is f puts = found_puts w (found_text holes w) p v t a b r (subst (λ (y : Option Visited). Finds w p y t) is f) puts
 
 -- where it is
 offset_by : (w : Way) (p : Option Standing) (v : Visited) (t : State) → Finds w p (Some v) t → Some v.at.offset ≡ option_map (λ (q : Standing). q.at.offset) p
@@ -100,14 +92,8 @@ none_by : (w : Way) (p : Option Standing) (t : State) → Finds w p None t → N
 none_by w (Some p) t f = absurd f
 none_by w None t f = refl
 
-pub found_offset : (how : Detail) (w : Way) (s : State) (bytes : List ℕ) (at : Spot) (m : Naming) (v : Visited) (x : Option Visited) (t : State) → m ≡ begin how 0 → x ≡ Some v → Finds w (search_from sought.Lost w (standing s bytes at m)) x t
-    → Some v.at.offset ≡ option_map (λ (q : Standing). q.at.offset) (search_from sought.Lost w (standing s bytes at (begin how 0)))
-found_offset how w s bytes at m v x t same is f =
-    let here = subst (λ (n : Naming). Finds w (search_from sought.Lost w (standing s bytes at n)) x t) same f in
-    offset_by w (search_from sought.Lost w (standing s bytes at (begin how 0))) v t (subst (λ (y : Option Visited). Finds w (search_from sought.Lost w (standing s bytes at (begin how 0))) y t) is here)
+pub found_offset : (w : Way) (p : Option Standing) (v : Visited) (x : Option Visited) (t : State) → x ≡ Some v → Finds w p x t → Some v.at.offset ≡ option_map (λ (q : Standing). q.at.offset) p
+found_offset w p v x t is f = offset_by w p v t (subst (λ (y : Option Visited). Finds w p y t) is f)
 
-pub no_offset : (how : Detail) (w : Way) (s : State) (bytes : List ℕ) (at : Spot) (m : Naming) (x : Option Visited) (t : State) → m ≡ begin how 0 → x ≡ None → Finds w (search_from sought.Lost w (standing s bytes at m)) x t
-    → None ≡ option_map (λ (q : Standing). q.at.offset) (search_from sought.Lost w (standing s bytes at (begin how 0)))
-no_offset how w s bytes at m x t same is f =
-    let here = subst (λ (n : Naming). Finds w (search_from sought.Lost w (standing s bytes at n)) x t) same f in
-    none_by w (search_from sought.Lost w (standing s bytes at (begin how 0))) t (subst (λ (y : Option Visited). Finds w (search_from sought.Lost w (standing s bytes at (begin how 0))) y t) is here)
+pub no_offset : (w : Way) (p : Option Standing) (x : Option Visited) (t : State) → x ≡ None → Finds w p x t → None ≡ option_map (λ (q : Standing). q.at.offset) p
+no_offset w p x t is f = none_by w p t (subst (λ (y : Option Visited). Finds w p y t) is f)

@@ -8,7 +8,7 @@ ghost use Rattle.pickle_further.specs.Going.{search_from};
 ghost use Rattle.pickle_further.specs.Parts.{stop_words, stop_line, ends_line, part_end, ignored_words, buffered_words, held_words, header_words, header, tale_text, part_text, text_from, found_text};
 ghost use Rattle.pickle_machine.specs.State.{State};
 ghost use Rattle.pickle_show.specs.Naming.{begin};
-ghost use Rattle.pickle_further.specs.Inside.{standing, standing_begun, standing_of, loss_from, tale_at, IsGoneOver, HasRoom};
+ghost use Rattle.pickle_further.specs.Inside.{standing, standing_begun, standing_of, loss_from, tale_at, IsGoneOver, HasRoom, Finds, FindsRoom};
 
 use crate::engine::write_items;
 use crate::going::go;
@@ -202,6 +202,36 @@ pub fn write_from<S: Page>(
     write_visited(alloc, holes, way, item, machine, page)
 }
 
+/// The first item whose reading loses bytes, if there is one. The machine has done nothing yet.
+fn first_lost<'a>(
+    alloc: Global,
+    detail: Detail,
+    way: Way,
+    bytes: &'a [u8],
+    machine: &mut LoaderMachine,
+) -> Result<Option<Visited<'a>>, TextStop>
+    requires few { length bytes.now ≤ 2 ^ 30 }
+    requires heap { length machine.old.state.heap ≤ 2 ^ 30 }
+    ensures finds { IfOk result (λ found. Finds way (search_from Sought.Lost way (standing_begun machine.old.state bytes.now detail)) found machine.new.state) }
+    ensures room { IfOk result (FindsRoom machine.new.state) }
+    ensures err { IfErr result (λ e. e ≡ TextStop.Memory) }
+{
+    let at = Spot {
+        offset: 0,
+        place: 0,
+        left: 0,
+    };
+    let naming = Naming::begin(detail, 0);
+    let gone = go(alloc, way, bytes, at, machine)?;
+    let first = Visited {
+        rest: bytes,
+        at,
+        naming,
+        gone,
+    };
+    seek(alloc, way, Sought::Lost, first, machine)
+}
+
 /// Writes what loaders may do from the first item on whose reading loses bytes, where it or one behind it has an event. The machine has
 /// done nothing yet.
 pub fn write_found<S: Page>(
@@ -218,20 +248,7 @@ pub fn write_found<S: Page>(
     ensures { PutsText (S.told page.old) (S.told page.new)
         (found_text holes.now way (search_from Sought.Lost way (standing_begun machine.old.state bytes.now detail))) result }
 {
-    let at = Spot {
-        offset: 0,
-        place: 0,
-        left: 0,
-    };
-    let naming = Naming::begin(detail, 0);
-    let gone = go(alloc, way, bytes, at, machine)?;
-    let first = Visited {
-        rest: bytes,
-        at,
-        naming,
-        gone,
-    };
-    match seek(alloc, way, Sought::Lost, first, machine)? {
+    match first_lost(alloc, detail, way, bytes, machine)? {
         Some(found) => write_visited(alloc, holes, way, found, machine, page),
         None => Ok(()),
     }
@@ -250,20 +267,7 @@ pub fn find_loss(
     ensures ok { IfOk result (λ x. x ≡ loss_from way (standing_begun machine.old.state bytes.now detail)) }
     ensures err { IfErr result (λ e. e ≡ TextStop.Memory) }
 {
-    let at = Spot {
-        offset: 0,
-        place: 0,
-        left: 0,
-    };
-    let naming = Naming::begin(detail, 0);
-    let gone = go(alloc, way, bytes, at, machine)?;
-    let first = Visited {
-        rest: bytes,
-        at,
-        naming,
-        gone,
-    };
-    match seek(alloc, way, Sought::Lost, first, machine)? {
+    match first_lost(alloc, detail, way, bytes, machine)? {
         Some(found) => Ok(Some(found.at.offset)),
         None => Ok(None),
     }
