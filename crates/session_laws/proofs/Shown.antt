@@ -195,6 +195,7 @@ show_same k d e one m a offsets = record {
   alike = λ i o h f. items_alike d e i o (a i h) f;
   offsets = offsets;
   listed = λ i h same. listed k i d e h m a offsets same;
+  reached = λ i h. same_state d e k i h m a;
   objects = λ i h. ap (option_map (λ (s : State). objects_text s.heap)) (same_state d e k i h m a);
   called = λ how i h. called how k i d e h m a offsets;
 }

@@ -29,6 +29,8 @@ pub record ShowSame (k : ℕ) (d e : Contents) : Type 0 where
   pub offsets : (i : ℕ) → i ≤ k → offset_of e i ≡ offset_of d i
   -- `list`: the line of each item that is the same
   pub listed : (i : ℕ) → i < k → item_at e i ≡ item_at d i → line_at e i ≡ line_at d i
+  -- the run comes to the same state: so to the same marks, of the FRAME's line too, and to the same objects that a STOP leaves
+  pub reached : (i : ℕ) → i ≤ k → state_at e i ≡ state_at d i
   -- `objects`, where the run has come to a place
   pub objects : (i : ℕ) → i ≤ k → objects_at e i ≡ objects_at d i
   -- `calls`: what each item comes to
