@@ -3,6 +3,7 @@
 from __future__ import annotations
 
 import functools
+import itertools
 import os
 import pathlib
 import resource
@@ -155,6 +156,20 @@ def keeps_the_owner(saves: Saves) -> str:
     return why or ("" if (about.st_uid, about.st_gid) == (65534, 65533) else f"it belongs to {about.st_uid}, {about.st_gid}")
 
 
+def keeps_the_group(saves: Saves) -> str:
+    """The owner cannot be given, and the group can, since the run is in it."""
+    if os.geteuid() != 0:
+        return ""
+    saves.begin()
+    (saves.room / "out").write_bytes(OLD)
+    os.chown(saves.room / "out", 65534, 65533)
+    (saves.room / "out").chmod(0o664)
+    why = saves.stored(saves.save("out", before=[*unprivileged(), "--groups=65533"]), "out")
+    about = (saves.room / "out").stat()
+    found = (about.st_uid, about.st_gid, saves.mode_of("out"))
+    return why or ("" if found == (0, 65533, 0o664) else f"it belongs to {found[0]}, {found[1]}, and the mode is {found[2]:o}")
+
+
 def follows_links(saves: Saves) -> str:
     for is_there in (True, False):
         for absolute in (False, True):
@@ -196,6 +211,22 @@ def goes_round(saves: Saves) -> str:
     saves.begin()
     (saves.room / "link").symlink_to("link")
     return saves.refused(saves.save("link"), "link", None)
+
+
+def refuses_links_that_are_no_text(saves: Saves) -> str:
+    """The text of a link is not UTF-8. What it leads to is neither written nor made, and the link stays."""
+    for is_there in (True, False):
+        saves.begin()
+        (saves.room / "link").symlink_to("\udcff")
+        if is_there:
+            (saves.room / "\udcff").write_bytes(OLD)
+        before = sorted(os.listdir(saves.room))
+        why = saves.refused(saves.save("link"), "link", OLD if is_there else None)
+        if not why and not ((saves.room / "link").is_symlink() and sorted(os.listdir(saves.room)) == before):
+            why = f"the link was replaced, or there is {sorted(os.listdir(saves.room))}"
+        if why:
+            return f"{'a file' if is_there else 'no file'}: {why}"
+    return ""
 
 
 def link_many(saves: Saves, count: int) -> str:
@@ -279,17 +310,24 @@ def writes_devices(saves: Saves) -> str:
 
 
 def writes_standard_output(saves: Saves) -> str:
-    """Standard output is a file, or one that was removed while it is open and had more bytes."""
+    """Standard output is a file, or one that was removed while it is open and had more bytes. Linux names that one `out (deleted)`, and
+    a file that has this name stays as it is."""
     saves.begin()
     why = saves.stored(saves.save("/dev/stdout", before=["bash", "-c", 'exec "$@" >out', "bash"]), "out")
     if why:
         return why
-    saves.begin()
-    (saves.room / "out").write_bytes(LONGER)
     shell = ["bash", "-c", 'exec 1<>out; rm out; "$@"; status=$?; cat /proc/$$/fd/1 >&2; exit $status', "bash"]
-    run = saves.save("/dev/stdout", before=shell)
-    if (run.status, run.errors) != (0, NEW) or os.listdir(saves.room) != ["new"]:
-        return f"removed: {run}, and there are {os.listdir(saves.room)}"
+    for others in ([], ["out (deleted)"]):
+        saves.begin()
+        (saves.room / "out").write_bytes(LONGER)
+        for name in others:
+            (saves.room / name).write_bytes(OLD)
+        run = saves.save("/dev/stdout", before=shell)
+        if (run.status, run.errors) != (0, NEW) or sorted(os.listdir(saves.room)) != ["new", *others]:
+            return f"removed: {run}, and there are {os.listdir(saves.room)}"
+        for name in others:
+            if (saves.room / name).read_bytes() != OLD:
+                return f"removed: {name} has other bytes"
     return ""
 
 
@@ -454,29 +492,43 @@ def order_of(saves: Saves, out: str, **environment: str) -> tuple[Run, list[str]
     return run, [line for number, line in enumerate(lines) if number == 0 or lines[number - 1] != line]
 
 
+# Where a file is saved, and the mode of its folder, which is the current one or another.
+PLACES = (("out", 0o755), ("below/out", 0o711))
+
+
+def begin_places(saves: Saves) -> None:
+    """The same with these folders, of these modes."""
+    saves.begin()
+    (saves.room / "below").mkdir()
+    for name, mode in PLACES:
+        (saves.room / name).parent.chmod(mode)
+
+
 def stores_before_it_renames(saves: Saves) -> str:
     """A new file is private until it has the mode of the old one, which is before its first byte; it is stored before it gets the name of
     the old one, which is closed then, as Windows wants it, and the folder after that."""
-    for mode in (0o600, 0o640, 0o644):
-        saves.begin()
-        saves.room.chmod(0o755)
-        (saves.room / "out").write_bytes(OLD)
-        (saves.room / "out").chmod(mode)
-        run, order = order_of(saves, "out", WRITE_MOST="1")
-        wanted = ["fchown file 600", "fchmod file 600", f"write file {mode:o}", f"fsync file {mode:o}", "rename", "fsync folder 755"]
-        why = saves.stored(run, "out") or ("" if order == wanted else f"the order is {order}")
+    for mode, (out, folder) in itertools.product((0o600, 0o640, 0o644), PLACES):
+        begin_places(saves)
+        (saves.room / out).write_bytes(OLD)
+        (saves.room / out).chmod(mode)
+        run, order = order_of(saves, out, WRITE_MOST="1")
+        wanted = ["fchown file 600", "fchmod file 600", f"write file {mode:o}", f"fsync file {mode:o}", "rename", f"fsync folder {folder:o}"]
+        why = saves.stored(run, out) or ("" if order == wanted else f"the order is {order}")
         if why:
-            return f"mode {mode:o}: {why}"
+            return f"{out}, mode {mode:o}: {why}"
     return ""
 
 
 def stores_a_new_file(saves: Saves) -> str:
-    saves.begin()
-    saves.room.chmod(0o755)
-    run, order = order_of(saves, "out", WRITE_MOST="1")
-    mode = saves.mode_of("out")
-    wanted = [f"write file {mode:o}", f"fsync file {mode:o}", "rename", "fsync folder 755"]
-    return saves.stored(run, "out") or ("" if order == wanted else f"the order is {order}")
+    for out, folder in PLACES:
+        begin_places(saves)
+        run, order = order_of(saves, out, WRITE_MOST="1")
+        mode = saves.mode_of(out)
+        wanted = [f"write file {mode:o}", f"fsync file {mode:o}", "rename", f"fsync folder {folder:o}"]
+        why = saves.stored(run, out) or ("" if order == wanted else f"the order is {order}")
+        if why:
+            return f"{out}: {why}"
+    return ""
 
 
 # --- Runs that are killed, and runs side by side ---
@@ -539,11 +591,13 @@ TRIED: list[tuple[str, Callable[[Saves], str]]] = [
     ("a file saved over keeps its mode", keeps_modes),
     ("a new file has the mode that the mask leaves", obeys_the_mask),
     ("a file saved over keeps its owner", keeps_the_owner),
+    ("a file saved over keeps its group where its owner cannot be given", keeps_the_group),
     ("owners that cannot be given are no fault", fails_without_owner),
     ("symbolic links are followed, and stay", follows_links),
     ("as many symbolic links as there may be", follows_many_links),
     ("the folder above what a symbolic link leads to", goes_up_from_links),
     ("a link to itself", goes_round),
+    ("a link whose text is not UTF-8", refuses_links_that_are_no_text),
     ("a file with two names", keeps_other_names),
     ("the longest name", takes_the_longest_name),
     ("names in other folders", takes_other_folders),
