@@ -180,30 +180,26 @@ fn debug_command<'a>(alloc: Global) -> Result<Command<'a>, AllocError>
 pub fn command_line<'a>(alloc: Global) -> Result<Command<'a>, AllocError>
     ensures { IfOk result (λ c. app_of c ≡ program) }
 {
-    let listing = with_frames(
-        alloc,
-        "list",
-        "Lists the opcodes of FILE with their offsets and arguments",
-    )?;
-    let reporting = with_frames(
-        alloc,
-        "objects",
-        "Prints the objects that the opcodes of FILE make, and which of them is the result",
-    )?;
-    let calling = calls_command(alloc)?;
-    let debugging = debug_command(alloc)?;
-    let forming = on_file(
-        alloc,
-        "form",
-        "Says whether FILE is a pickle in the form that picklers write, else where it is not and why",
-        MANY_OF_FORM,
-    )?;
+    // Each command is given over as soon as it is made: one that waits for the others is one more to be dropped where memory runs out.
     Command::new(alloc, "picklestep")
         .about("Shows what a Python pickle would import, call and build, and runs nothing of it")
         .subcommand_required(true)
-        .subcommand(listing)?
-        .subcommand(reporting)?
-        .subcommand(calling)?
-        .subcommand(debugging)?
-        .subcommand(forming)
+        .subcommand(with_frames(
+            alloc,
+            "list",
+            "Lists the opcodes of FILE with their offsets and arguments",
+        )?)?
+        .subcommand(with_frames(
+            alloc,
+            "objects",
+            "Prints the objects that the opcodes of FILE make, and which of them is the result",
+        )?)?
+        .subcommand(calls_command(alloc)?)?
+        .subcommand(debug_command(alloc)?)?
+        .subcommand(on_file(
+            alloc,
+            "form",
+            "Says whether FILE is a pickle in the form that picklers write, else where it is not and why",
+            MANY_OF_FORM,
+        )?)
 }

@@ -7,11 +7,11 @@ use Rattle.picklestep.proofs.command_line.command_line.Goals as goal
 
 pub returns : goal.returns
 returns c =
-    let listing : app_of c.in_ok-listing.listing ≡ frames_app (codes "list") = c.in_ok-listing.ensures in
-    let reporting : app_of c.in_ok-reporting.reporting ≡ frames_app (codes "objects") = c.in_ok-reporting.ensures in
-    let calling : app_of c.in_ok-calling.calling ≡ calls_app = c.in_ok-calling.ensures in
-    let debugging : app_of c.in_ok-debugging.debugging ≡ debug_app = c.in_ok-debugging.ensures in
-    let forming : app_of c.in_ok-forming.forming ≡ on_file (codes "form") = c.in_ok-forming.ensures in
+    let listing : app_of c.in_ok-with_frames.field-0 ≡ frames_app (codes "list") = c.in_ok-with_frames.ensures in
+    let reporting : app_of c.in_ok-with_frames-2.field-0 ≡ frames_app (codes "objects") = c.in_ok-with_frames-2.ensures in
+    let calling : app_of c.in_ok-calls_command.field-0 ≡ calls_app = c.in_ok-calls_command.ensures in
+    let debugging : app_of c.in_ok-debug_command.field-0 ≡ debug_app = c.in_ok-debug_command.ensures in
+    let forming : app_of c.in_ok-on_file.field-0 ≡ on_file (codes "form") = c.in_ok-on_file.ensures in
     let start : app_of c.subcommand_required.result ≡ wants_subcommand (new_app (codes "picklestep")) = search rules in
     let one = c.in_ok-subcommand.ensures.shape (third _ _ _ _ (ap (λ (a : App). a.top.is_plain) listing)) ∙ ap₂ with_subcommand start (ap (λ (a : App). a.top) listing) in
     let two = c.in_ok-subcommand-2.ensures.shape (third _ _ _ _ (ap (λ (a : App). a.top.is_plain) reporting)) ∙ ap₂ with_subcommand one (ap (λ (a : App). a.top) reporting) in
