@@ -1,8 +1,8 @@
 //! The definition of the command line.
 
-ghost use Rattle.std.specs.Prelude.{◌≡◌, IfOk, false};
-ghost use Rattle.clap.specs.Words.{rule_of, app_of};
-ghost use Rattle.picklestep.specs.CommandLine.{file_rule, many_rule, unframed_rule, first_rule, memo_rule, full_rule, skip_rule, window_rule, save_rule, on_file, frames_app, calls_app, debug_app, program};
+ghost use Rattle.std.specs.Prelude.{◌≡◌, IfOk, false, codes};
+ghost use Rattle.clap.specs.Words.{rule_of, app_of, new_app};
+ghost use Rattle.picklestep.specs.CommandLine.{file_rule, many_rule, unframed_rule, first_rule, memo_rule, full_rule, skip_rule, window_rule, save_rule, on_file, frames_app, calls_app, debug_app, wants_subcommand, program};
 
 use clap::{Arg, ArgAction, Command};
 use std::alloc::{AllocError, Global};
@@ -176,14 +176,21 @@ fn debug_command<'a>(alloc: Global) -> Result<Command<'a>, AllocError>
     .arg(save_argument(alloc))
 }
 
+/// The program's command line, which has no commands yet.
+fn without_commands<'a>(alloc: Global) -> Command<'a>
+    ensures { app_of result ≡ wants_subcommand (new_app (codes "picklestep")) }
+{
+    Command::new(alloc, "picklestep")
+        .about("Shows what a Python pickle would import, call and build, and runs nothing of it")
+        .subcommand_required(true)
+}
+
 /// What the program takes on its command line. It fails only where memory runs out.
 pub fn command_line<'a>(alloc: Global) -> Result<Command<'a>, AllocError>
     ensures { IfOk result (λ c. app_of c ≡ program) }
 {
     // Each command is given over as soon as it is made: one that waits for the others is one more to be dropped where memory runs out.
-    Command::new(alloc, "picklestep")
-        .about("Shows what a Python pickle would import, call and build, and runs nothing of it")
-        .subcommand_required(true)
+    without_commands(alloc)
         .subcommand(with_frames(
             alloc,
             "list",

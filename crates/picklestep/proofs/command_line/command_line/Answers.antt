@@ -1,4 +1,4 @@
-use Rattle.std.proofs.Common.{◌≡◌, ◌∙◌, ap, ap₂, rules, codes}
+use Rattle.std.proofs.Common.{◌≡◌, ◌∙◌, ap, ap₂, codes}
 use Rattle.std.proofs.lemmas.Result.{IfOk-weaker}
 use Rattle.clap.specs.Words.{App, app_of, new_app, with_subcommand}
 use Rattle.picklestep.specs.CommandLine.{on_file, frames_app, calls_app, debug_app, wants_subcommand}
@@ -12,7 +12,7 @@ returns c =
     let calling : app_of c.in_ok-calls_command.field-0 ≡ calls_app = c.in_ok-calls_command.ensures in
     let debugging : app_of c.in_ok-debug_command.field-0 ≡ debug_app = c.in_ok-debug_command.ensures in
     let forming : app_of c.in_ok-on_file.field-0 ≡ on_file (codes "form") = c.in_ok-on_file.ensures in
-    let start : app_of c.subcommand_required.result ≡ wants_subcommand (new_app (codes "picklestep")) = search rules in
+    let start : app_of c.without_commands.result ≡ wants_subcommand (new_app (codes "picklestep")) = c.without_commands.ensures in
     let one = c.in_ok-subcommand.ensures.shape (third _ _ _ _ (ap (λ (a : App). a.top.is_plain) listing)) ∙ ap₂ with_subcommand start (ap (λ (a : App). a.top) listing) in
     let two = c.in_ok-subcommand-2.ensures.shape (third _ _ _ _ (ap (λ (a : App). a.top.is_plain) reporting)) ∙ ap₂ with_subcommand one (ap (λ (a : App). a.top) reporting) in
     let three = c.in_ok-subcommand-3.ensures.shape (third _ _ _ _ (ap (λ (a : App). a.top.is_plain) calling)) ∙ ap₂ with_subcommand two (ap (λ (a : App). a.top) calling) in
