@@ -408,7 +408,7 @@ def _kept(function: Callable[[Value], Value]) -> Callable[[Value], Value]:
     answers: dict[Value, Value] = {}
 
     def run(value: Value) -> Value:
-        key = value.name if type(value) is Made and not value.parts else value if type(value) is int else None
+        key = value if type(value) is int else value.name if type(value) is Made and not value.parts else None
         if key is None:
             return function(value)
         if key not in answers:
@@ -424,6 +424,8 @@ class Program:
         self.crates = crates
         self.modules: dict[str, Module] = {}
         self.codes: dict[tuple[str, str], Code] = {}
+        # (names of definitions of plain values, whose answers are kept: who asks them of the same values again and again says so)
+        self.kept: set[str] = set()
         self.space: dict[str, Any] = {"Made": Made, "Function": Function, "apply": apply, "Unknown": Unknown, "made": {}}
         self.space.update({f"w_{name}": word.run for name, word in antt_words.WORDS.items()})
         self.space.update({f"W_{name}": word for name, word in antt_words.WORDS.items()})
@@ -494,11 +496,10 @@ class Program:
         """A definition. It may be its own part, so that its name is there before its body."""
         key = (module.path, name)
         if key not in self.codes:
-            texts = module.clauses[name]
-            arity = self._arity(module, texts[0])
+            arity = self._arity(module, module.clauses[name][0])
             python = f"d{len(self.codes)}_{name if name.isascii() and name.isidentifier() else ''}"
             self.codes[key] = Code(python.upper() if arity else f"{python}()", python if arity else "", arity)
-            self._compile(module, texts, python, arity)
+            self._compile(module, name, python, arity)
         return self.codes[key]
 
     def _arity(self, module: Module, text: str) -> int:
@@ -511,14 +512,16 @@ class Program:
             count += 1
         return count
 
-    def _compile(self, module: Module, texts: Sequence[str], python: str, arity: int) -> None:
-        clauses = [Parser(self, module, text).clause() for text in texts]
+    def _compile(self, module: Module, name: str, python: str, arity: int) -> None:
+        clauses = [Parser(self, module, text).clause() for text in module.clauses[name]]
         if any(len(clause.patterns) != arity for clause in clauses):
             raise Unknown(f"{module.path}: the clauses of {python} have not one number of patterns")
         lines = _table(python, clauses) if len(clauses) > FEW else None
         exec("\n".join(lines or _function(python, clauses)), self.space)
         if arity < 2:
             self.space[python] = functools.cache(self.space[python]) if not arity else _kept(self.space[python])
+        elif name in self.kept:
+            self.space[python] = functools.cache(self.space[python])
         self.space[python.upper()] = Function(arity, self.space[python])
 
     def value(self, path: str, name: str) -> Any:

@@ -5,6 +5,8 @@ A list is a tuple, a number an int, a truth value a bool, a record a dictionary,
 
 from __future__ import annotations
 
+import functools
+import itertools
 from collections.abc import Callable, Mapping
 from dataclasses import dataclass
 from typing import Any
@@ -47,15 +49,14 @@ def some(value: Value) -> Made:
     return Made("Some", (value,))
 
 
-def _fold(step: Value, value: Value, items: Value) -> Value:
-    for item in items:
-        value = apply(step, value, item)
-    return value
+def _run(function: Value, arity: int = 1) -> Callable[..., Value]:
+    """A function of so many values, to be called for each of many items."""
+    return function.run if isinstance(function, Function) and function.arity == arity else functools.partial(apply, function)
 
 
 def _place(test: Value, items: Value) -> int:
     """The place of the first item that passes; their number, if none does."""
-    return next((at for at, item in enumerate(items) if apply(test, item)), len(items))
+    return next((at for at, found in enumerate(map(_run(test), items)) if found), len(items))
 
 
 def _position(test: Value, items: Value) -> Value:
@@ -74,11 +75,14 @@ def _compare(left: int, right: int) -> int:
 
 def _insert_entry(compare: Value, entries: Value, key: Value, value: Value) -> Value:
     """Entries by rising key: an equal key stays and takes the value, a new one goes to its place."""
-    for at, entry in enumerate(entries):
-        order = apply(compare, key, entry.parts[0])
-        if order <= 0:
-            return (*entries[:at], Made(",", (entry.parts[0] if order == 0 else key, value)), *entries[at + (order == 0):])
-    return (*entries, Made(",", (key, value)))
+    low, high = 0, len(entries)
+    while low < high:
+        middle = (low + high) // 2
+        order = apply(compare, key, entries[middle].parts[0])
+        if order == 0:
+            return (*entries[:middle], Made(",", (entries[middle].parts[0], value)), *entries[middle + 1:])
+        low, high = (low, middle) if order < 0 else (middle + 1, high)
+    return (*entries[:low], Made(",", (key, value)), *entries[low:])
 
 
 def _lookup(test: Value, entries: Value) -> Value:
@@ -129,15 +133,15 @@ WORDS: Mapping[str, Function] = {
     "slice_range": Function(3, lambda items, begin, end: items[begin:end]),
     "slice_set": Function(3, lambda items, at, value: (*items[:at], value, *items[at + 1:])),
     "replicate": Function(2, lambda count, value: (value,) * count),
-    "map": Function(2, lambda function, items: tuple([apply(function, item) for item in items])),
-    "flat_map": Function(2, lambda function, items: tuple([part for item in items for part in apply(function, item)])),
-    "fold": Function(3, _fold),
+    "map": Function(2, lambda function, items: tuple(map(_run(function), items))),
+    "flat_map": Function(2, lambda function, items: tuple(itertools.chain.from_iterable(map(_run(function), items)))),
+    "fold": Function(3, lambda step, value, items: functools.reduce(_run(step, 2), items, value)),
     "find": Function(2, _find),
     "position": Function(2, _position),
     "before_first": Function(2, lambda test, items: items[:_place(test, items)]),
     "after_first": Function(2, lambda test, items: items[_place(test, items) + 1:]),
     "list_any": Function(2, lambda test, items: _place(test, items) < len(items)),
-    "list_all": Function(2, lambda test, items: all([apply(test, item) for item in items])),
+    "list_all": Function(2, lambda test, items: all(map(_run(test), items))),
     "bytes_eq": Function(2, lambda left, right: left == right),
     "codes": Function(1, lambda text: tuple(map(ord, text))),
     "decimal": Function(1, _decimal),
@@ -148,6 +152,7 @@ WORDS: Mapping[str, Function] = {
     "nat_lt": Function(2, lambda left, right: left < right),
     "int_lt": Function(2, lambda left, right: left < right),
     "pos": Function(1, lambda number: number),
+    "max": Function(2, max),
     "nat_cmp": Function(2, _compare),
     "is_at": Function(2, lambda compare, key: apply(compare, key) == 0),
     "insert_entry": Function(4, _insert_entry),

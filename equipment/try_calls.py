@@ -41,6 +41,8 @@ WORDS = (
     (f"{FURTHER}.Going", ("going", "stands_after")),
     (f"{FURTHER}.Parts", ("standing_first",)),
 )
+# What is asked of the same names again and again.
+KEPT = ("decode_all", "renamed")
 PAGES = ("calls.txt", *try_lines.PAGES)
 # The options that ask for a reading, and for how much of an argument is shown.
 READINGS: dict[str, tuple[str, ...]] = {"All": (), "First": ("--first",), "OneMemo": ("--memo", "kept")}
@@ -185,6 +187,7 @@ class Events:
 
     def __init__(self, crates: pathlib.Path) -> None:
         program = program_of(crates)
+        program.kept.update(KEPT)
         self.words = words_of(program, WORDS)
         values = (f"a value of {kind}" for kind in kinds_of(program, "Brief", "kind_brief"))
         self.kinds = {*kinds_of(program, "CallsLine", "made_words"), *values, "State", "Append", "SetItem", "Add"}

@@ -3,10 +3,12 @@
 
     try_lines.py [--crates FOLDER] PROGRAM FOLDER [PICKLE..]
 
-The definitions of crates/*/specs, evaluated by antt.py, say what the opcodes of a pickle are and what each comes to: of the rows of texts.txt and
-conversations.txt, of each opcode alone and a few that are made, and of the pickles that are given. The program's lines have to be what `item_line`, `object_line`,
-`stack_text` and `memo_text` make of that, and what the package reads of a line has to be what the line was made of. FOLDER is for the file that the
-program is asked about. What is printed is JSON: how many lines there were, which opcodes and kinds of objects no line shows, and what differs.
+The definitions of crates/*/specs, evaluated by antt.py, say what the opcodes of a pickle are, what each comes to, and where they end: of the
+rows of texts.txt and conversations.txt, of each opcode alone and a few that are made, and of the pickles that are given. The program's listings
+and reports have to be what `item_line`, `object_line` and the definitions of closing lines make of that, line by line, the stack and the memo
+what `stack_text` and `memo_text` do, and what the package reads of a line has to be what the line was made of. FOLDER is for the file that the
+program is asked about. What is printed is JSON: how many lines there were, which opcodes, kinds of objects and closing lines there are none of,
+and what differs.
 """
 
 from __future__ import annotations
@@ -14,8 +16,10 @@ from __future__ import annotations
 import argparse
 import functools
 import hashlib
+import itertools
 import json
 import pathlib
+import re
 import struct
 import subprocess
 import sys
@@ -23,7 +27,7 @@ from collections.abc import Callable, Iterator, Sequence
 from dataclasses import dataclass, field
 from random import Random
 from types import SimpleNamespace
-from typing import Any, Protocol, TypeVar, Union
+from typing import Any, NamedTuple, Optional, Protocol, TypeVar, Union
 
 import antt
 from antt_words import NONE, Made, Value, some
@@ -33,12 +37,13 @@ sys.path.append(str(ROOT / "python"))
 
 import conversations  # noqa: E402
 import fuzz  # noqa: E402
-from picklestep.records import Change, Mark, Object, Opcode, Ref  # noqa: E402
+from picklestep.records import Change, End, Mark, Object, Opcode, Ref  # noqa: E402
 from picklestep.replies import memo_of, stack_of  # noqa: E402
-from picklestep.texts import object_of, opcode_of  # noqa: E402
+from picklestep.texts import Closing, closing_of, left_in, object_of, opcode_of, results_in  # noqa: E402
 from trials.trial import Noted, Trial  # noqa: E402
 
 OPS = "Rattle.pickle_ops.specs"
+DOC = "Rattle.pickle_doc.specs"
 MACHINE = "Rattle.pickle_machine.specs"
 SHOW = "Rattle.pickle_show.specs"
 PAGES = ("texts.txt", "conversations.txt")
@@ -46,13 +51,16 @@ PAGES = ("texts.txt", "conversations.txt")
 WORDS = (
     (f"{OPS}.Front", ("front_of",)),
     (f"{OPS}.Table", ("code_of", "name_of", "form_of")),
-    (f"{OPS}.Spelling", ("size_of",)),
     (f"{OPS}.Text", ("is_long",)),
     (f"{OPS}.Argument", ("has_number", "number_of", "has_integer", "integer_of", "has_payload", "payload", "long_of", "texts_of")),
-    (f"{MACHINE}.State", ("start",)),
-    (f"{MACHINE}.Move", ("fresh", "refusal_at", "move")),
+    (f"{DOC}.Tail", ("tail_fault",)),
+    (f"{DOC}.Fitting", ("left_behind",)),
+    (f"{MACHINE}.State", ("start", "stack_size")),
+    (f"{MACHINE}.Move", ("fresh", "move")),
     (f"{SHOW}.Listing", ("note_with", "note_unless")),
-    (f"{SHOW}.Line", ("item_line", "note_text")),
+    (f"{SHOW}.Line", ("item_line", "note_text", "refused_line", "left_line", "kept_line", "protocol_line", "highest_protocol")),
+    (f"{SHOW}.ReportLine", ("refusal_text", "fault_at", "fault_line")),
+    (f"{SHOW}.Report", ("result_line", "refused_item_line")),
     (f"{SHOW}.ObjectText", ("object_line", "kind_text")),
     (f"{SHOW}.StackText", ("stack_text",)),
     (f"{SHOW}.MemoText", ("memo_text",)),
@@ -62,6 +70,8 @@ SPECIAL = (b"\x8a\x11" + bytes(16) + b"\x80.", b"G\xff\xf8\0\0\0\0\0\1.", b"B\0\
 # Each opcode alone.
 SEED = 1
 ALONE = tuple(fuzz.spelled(name, Random(SEED)) for name in fuzz.OPCODES)
+# The closing lines.
+CLOSINGS = ("refused_line", "refused_item_line", "fault_line", "left_line", "kept_line", "protocol_line", "result_line")
 HOW = {"Append": "append", "Add": "add", "Build": "state"}
 SCRIPT = "run\nstack\nmemo\n"
 # How many differences are shown, and how much of a pickle.
@@ -105,6 +115,19 @@ def kinds_of(program: antt.Program, file: str, name: str) -> list[str]:
     return [f"Kind.{clause.split('kind.')[1].split()[0].rstrip(')')}" for clause in clauses if "kind." in clause]
 
 
+def codes_in(program: antt.Program, name: str) -> list[str]:
+    """The codes of the refusals, or of the faults, that a definition has words for. (Memory is refused nowhere here.)"""
+    return re.findall(r'codes "([A-Z][0-9]+) ', "".join(program.modules[f"{SHOW}.ReportLine"].clauses[name]))
+
+
+def operation_of(front: Made) -> dict[str, Value]:
+    return {"opcode": front.parts[0], "arg": front.parts[1]}
+
+
+def closing_in(line: str) -> Closing:
+    return Closing(closing_of([line]))
+
+
 def two_of(texts: dict[str, Value]) -> tuple[bytes, bytes]:
     return bytes(texts["first"]), bytes(texts["second"])
 
@@ -116,18 +139,36 @@ def change_of(change: Made) -> Change:
     return Change(HOW[short(change)], *change.parts)
 
 
+class Closings(NamedTuple):
+    """How a listing and a report say why they end."""
+
+    listed: list[Line]
+    reported: list[Line]
+
+
+@dataclass
+class Texts:
+    """The lines of a listing and of a report, those of a listing of the first pickle alone where there is one, and the state behind them."""
+
+    state: dict[str, Value]
+    listing: list[Line] = field(default_factory=list)
+    first: list[Line] = field(default_factory=list)
+    report: list[Line] = field(default_factory=list)
+
+
 class Lines:
-    """The lines of pickles. `shown` has the opcodes and the kinds of objects that had one."""
+    """The lines of pickles. `shown` has the opcodes, the kinds of objects, the closing lines and the codes in them that had one."""
 
     def __init__(self, crates: pathlib.Path) -> None:
         program = program_of(crates)
         self.words = words_of(program, WORDS)
         self.opcodes = [text_of(self.words.name_of(opcode)) for opcode in program.value(f"{OPS}.declared.opcode.TheConstants", "ALL")]
         self.kinds = kinds_of(program, "ObjectText", "kind_text")
+        self.ends = [*codes_in(program, "refusal_words"), *codes_in(program, "tail_words")]
         self.shown: set[str] = set()
 
     def lacks(self) -> list[str]:
-        return sorted({*self.opcodes, *self.kinds} - self.shown)
+        return sorted({*self.opcodes, *self.kinds, *self.ends, *CLOSINGS} - self.shown)
 
     def argument(self, operation: dict[str, Value]) -> Union[None, int, float, bytes, tuple[bytes, bytes]]:
         form, arg = self.words.form_of(operation["opcode"]), operation["arg"]
@@ -142,11 +183,11 @@ class Lines:
         is_float = text_of(self.words.name_of(operation["opcode"])) == "BINFLOAT"
         return float_of(arg) if is_float else bytes(self.words.payload(form, arg))
 
-    def of_opcode(self, operation: dict[str, Value], state: dict[str, Value], offsets: Sequence[int]) -> Line:
+    def of_opcode(self, operation: dict[str, Value], state: dict[str, Value], offsets: Sequence[int], refusal: Made) -> Line:
         """The line of an opcode on the state before it. `offsets` are its own and those before it."""
         opcode, marked = operation["opcode"], state["marked"]
         top = some(offsets[marked[0]["place"]]) if marked else NONE
-        note = self.words.note_unless(self.words.refusal_at(operation, state), self.words.note_with(operation, state, top))
+        note = self.words.note_unless(refusal, self.words.note_with(operation, state, top))
         said = text_of(self.words.note_text(note.parts[0]))[1:-1] if note.parts else ""
         name = text_of(self.words.name_of(opcode))
         self.shown.add(name)
@@ -180,24 +221,88 @@ class Lines:
     def of_memo(self, state: dict[str, Value]) -> Line:
         return Line(text_of(self.words.memo_text(state["memo"])), dict(entry.parts for entry in state["memo"]), memo_of)
 
-    def follow(self, data: bytes, count: int) -> tuple[list[Line], dict[str, Value]]:
-        """The lines of so many opcodes, or up to one that is refused or none, and the state behind them."""
-        lines: list[Line] = []
-        offsets: list[int] = []
-        state, rest = self.words.start(True), tuple(data)
-        while len(lines) < count:
+    # --- Closing lines ---
+
+    def closing(self, name: str, of: Any, read: Callable[[str], Any], *values: Value) -> list[Line]:
+        """The line that this definition makes of values, if it makes one."""
+        text = text_of(getattr(self.words, name)(*values))
+        self.shown.update([name] if text else [])
+        return [Line(text, of, read)] if text else []
+
+    def end(self, how: str, text: str, offset: int, item: Optional[int] = None) -> End:
+        code = text.split()[0]
+        self.shown.add(code)
+        return End(how, code, text, offset, item)
+
+    def of_refusal(self, refusal: Made, offset: int, place: int) -> Closings:
+        """How a listing and a report close where this opcode is refused."""
+        end = self.end("refused", text_of(self.words.refusal_text(refusal)), offset, place)
+        listed = self.closing("refused_line", end, lambda line: closing_in(line).end_of_listing(lambda: (offset, place)), refusal)
+        return Closings(listed, self.closing("refused_item_line", end, lambda line: closing_in(line).end(offset), place, refusal))
+
+    def of_fault(self, fault: Made, offset: int) -> Closings:
+        """The same where the bytes cannot be read on."""
+        end = self.end("fault", text_of(self.words.fault_at(fault, offset)), offset)
+        listed = self.closing("fault_line", end, lambda line: closing_in(line).end_of_listing(lambda: (offset, 0)), fault, offset)
+        return Closings(listed, self.closing("fault_line", end, lambda line: closing_in(line).end(None), fault, offset))
+
+    def of_stop(self, state: dict[str, Value]) -> list[Line]:
+        """What STOP left, behind its line."""
+        left = self.words.stack_size(state), len(state["marked"])
+        return self.closing("left_line", [left], left_in, *left)
+
+    def of_kept(self, count: int) -> list[Line]:
+        """The bytes behind STOP, where one pickle is read."""
+        return self.closing("kept_line", count, lambda line: closing_in(line).kept, count)
+
+    def of_protocol(self, operations: Sequence[dict[str, Value]]) -> list[Line]:
+        highest = self.words.highest_protocol(tuple(operations))
+        of = highest.parts[0] if highest.parts else None
+        return self.closing("protocol_line", of, lambda line: closing_in(line).protocol, highest)
+
+    def of_results(self, state: dict[str, Value]) -> list[Line]:
+        return [line for number in state["results"] for line in self.closing("result_line", (number,), lambda line: results_in(line, 0), number)]
+
+    # --- Texts ---
+
+    def fronts(self, data: bytes) -> Iterator[tuple[int, Made, Made]]:
+        """What is at the front of the bytes, with its offset, and then of those that are left: opcodes, up to a fault."""
+        rest, left, fault = tuple(data), 0, NONE
+        while not fault.parts:
             front = self.words.front_of(rest)
-            if short(front) != "Whole":
+            fault = self.words.tail_fault(False, left, front)
+            yield len(data) - len(rest), front, fault
+            if not fault.parts:
+                rest, left = front.parts[2], self.words.left_behind(False, left, operation_of(front))
+
+    def follow(self, data: bytes) -> Texts:
+        """The texts of these bytes, up to an opcode that is refused or a fault."""
+        texts, closing = Texts(self.words.start(True)), Closings([], [])
+        operations: list[dict[str, Value]] = []
+        offsets: list[int] = []
+        for offset, front, fault in self.fronts(data):
+            if fault.parts:
+                # (behind STOP the bytes may end)
+                if short(front) != "Ended" or not texts.state["stopped"]:
+                    closing = self.of_fault(*fault.parts, offset)
                 break
-            operation = {"opcode": front.parts[0], "arg": front.parts[1]}
-            rest = front.parts[2]
-            offsets.append(len(data) - len(rest) - self.words.size_of(operation))
-            lines.append(self.of_opcode(operation, self.words.fresh(state), offsets))
-            moved = self.words.move(operation, len(offsets) - 1, state)
-            if short(moved) == "Err":
+            operations.append(operation_of(front))
+            offsets.append(offset)
+            moved = self.words.move(operations[-1], len(offsets) - 1, texts.state)
+            refusal = some(*moved.parts) if short(moved) == "Err" else NONE
+            texts.listing.append(self.of_opcode(operations[-1], self.words.fresh(texts.state), offsets, refusal))
+            if refusal.parts:
+                closing = self.of_refusal(*refusal.parts, offset, len(offsets) - 1)
                 break
-            state, = moved.parts
-        return lines, state
+            texts.state, = moved.parts
+            if texts.state["stopped"]:
+                texts.listing += self.of_stop(texts.state)
+                kept = self.of_kept(len(front.parts[2]))
+                if kept and not texts.first:
+                    texts.first = [*texts.listing, *kept, *self.of_protocol(operations)]
+        texts.listing += [*closing.listed, *self.of_protocol(operations)]
+        texts.report = [*itertools.starmap(self.of_object, enumerate(texts.state["heap"])), *self.of_results(texts.state), *closing.reported]
+        return texts
 
 
 def named(data: bytes) -> str:
@@ -241,12 +346,12 @@ class Program:
 
 def try_pickle(lines: Lines, program: Program, tally: Tally, data: bytes) -> None:
     program.file.write_bytes(data)
-    # (lines of opcodes and of objects alone begin with no letter)
-    opcodes, objects = ([line for line in program.lines(task, "--many") if not line[0].isalpha()] for task in ("list", "objects"))
-    meant, state = lines.follow(data, len(opcodes))
-    tally.compare(data, opcodes, meant)
-    tally.compare(data, objects, [lines.of_object(number, made) for number, made in enumerate(state["heap"])])
-    tally.compare(data, program.lines("debug", "--many", script=SCRIPT)[1:], [lines.of_stack(state), lines.of_memo(state)])
+    texts = lines.follow(data)
+    tally.compare(data, program.lines("list", "--many"), texts.listing)
+    tally.compare(data, program.lines("objects", "--many"), texts.report)
+    if texts.first:
+        tally.compare(data, program.lines("list"), texts.first)
+    tally.compare(data, program.lines("debug", "--many", script=SCRIPT)[1:], [lines.of_stack(texts.state), lines.of_memo(texts.state)])
 
 
 def pickles_of(pages: Sequence[str], given: Sequence[bytes]) -> Iterator[bytes]:
