@@ -55,7 +55,7 @@ def compare(old: Source, new: Source, *, many: bool = False, unframed: bool = Fa
     ['a'][1]: 2 -> 5
     ['a'][2]: added 6
     """
-    return list(Comparison(old, new, many, unframed, timeout, memory).of_results())
+    return list(Comparison(*(values(source, many, unframed, timeout, memory) for source in (old, new))).of_results())
 
 
 # A path: the path before it, and its last step. (A text for each place would cost as much as the place is deep.)
@@ -85,11 +85,10 @@ class _Words(str):
 class Comparison:
     """Two pickles. What was compared already is not compared again: no difference is given twice."""
 
-    def __init__(self, old: Source, new: Source, many: bool = False, unframed: bool = False, timeout: Optional[float] = None,
-                 memory: Optional[int] = None) -> None:
-        """Raises NoResult where one of them cannot be read to its STOP."""
-        self._old, self._old_result = values(old, many, unframed, timeout, memory)
-        self._new, self._new_result = values(new, many, unframed, timeout, memory)
+    def __init__(self, old: Tuple[Values, Any], new: Tuple[Values, Any]) -> None:
+        """Each of them is what `values` answers of a pickle."""
+        self._old, self._old_result = old
+        self._new, self._new_result = new
         self._labels = Labels()
         self._compared = Compared(_MANY * (len(self._old) + len(self._new)))
 

@@ -7,17 +7,19 @@ import os
 import sys
 from collections import Counter
 from itertools import chain
-from typing import Iterator, List, Optional, Tuple
+from typing import Any, Iterator, List, Optional, Tuple
 
 from .alike import paired
 from .answers import Calls
 from .comparing import Comparison, Difference, shown_value
-from .errors import PicklestepError, reason
+from .errors import NoResult, PicklestepError, reason
 from .python_source.command import print_text
 from .records import Reach
-from .sources import Source
+from .sources import Source, kept
 from .tasks import calls, frames
 from .texts import unnumbered
+from .trees import Values, values
+from .wording import shown
 
 __all__ = ['main', 'of_reaches']
 
@@ -34,8 +36,8 @@ def main(arguments: List[str]) -> int:
     parser.add_argument('--unframed', action='store_true', help='take FRAME for an opcode like others, whose length nobody checks')
     options = parser.parse_args(arguments)
     try:
-        old, new = _source(options.old), _source(options.new)
-        comparison = Comparison(old, new, options.many, options.unframed)
+        old, new = kept(options.old), kept(options.new)
+        comparison = Comparison(_values(options.old, old, options), _values(options.new, new, options))
         lines = [*map(str, comparison.of_results()), *of_reaches(old, new, options.unframed, comparison)]
         lines += [] if options.many else _of_what_is_behind(old, new, options.unframed)
     except (OSError, PicklestepError) as error:
@@ -45,12 +47,12 @@ def main(arguments: List[str]) -> int:
     return 1 if lines else 0
 
 
-def _source(path: str) -> Source:
-    """A file, or what a pipe or device has, which can be read once."""
-    if os.path.isfile(path) or not os.path.exists(path):
-        return path
-    with open(path, 'rb') as file:
-        return file.read()
+def _values(name: str, pickle: Source, options: argparse.Namespace) -> Tuple[Values, Any]:
+    """What is compared of a pickle. Where there is no result, it is said of which."""
+    try:
+        return values(pickle, options.many, options.unframed, None, None)
+    except NoResult as error:
+        raise PicklestepError(f'{shown(name)}: {reason(error)}') from error
 
 
 def of_reaches(old: Source, new: Source, unframed: bool = False, comparison: Optional[Comparison] = None) -> Iterator[str]:

@@ -10,8 +10,14 @@ from .wording import shown
 __all__ = ['NoResult', 'NotAllowed', 'OutOfMemory', 'PicklestepError', 'ProgramError', 'Refused', 'TimedOut', 'TooLarge']
 
 
+# What reads on where reading ended at a frame: in Python, and on the command line.
+_READS_ON = ' (unframed=True reads that frame)', ' (--unframed reads that frame)'
+
+
 def reason(error: Exception) -> str:
     """What is wrong, in the words of the command line: of a file that cannot be read, which and why."""
+    if isinstance(error, NoResult):
+        return error.text + (_READS_ON[1] if error.is_of_frame else '')
     if isinstance(error, OSError) and error.filename is not None:
         return f'cannot read {shown(str(error.filename))}: {error.strerror}'
     if isinstance(error, BrokenPipeError):  # (the reader of standard output has left)
@@ -42,7 +48,7 @@ class Refused(PicklestepError):
 
 
 class NoResult(PicklestepError):
-    """Reading ended before the pickle's STOP, so that there is no result.
+    """Reading ended before the pickle's STOP, so that there is no result. `text` says how; `is_of_frame` is set where it was at a frame.
 
     >>> import picklestep
     >>> try:
@@ -51,6 +57,11 @@ class NoResult(PicklestepError):
     ...     print(error)
     F1 ended at 1
     """
+
+    def __init__(self, text: str, is_of_frame: bool = False) -> None:
+        super().__init__(text + (_READS_ON[0] if is_of_frame else ''))
+        self.text = text
+        self.is_of_frame = is_of_frame
 
 
 class ProgramError(PicklestepError):

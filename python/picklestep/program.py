@@ -36,7 +36,11 @@ try:
 except ImportError:  # (nor this)
     resource = None  # type: ignore[assignment]
 
-__all__ = ['Process', 'count_ended', 'count_seconds', 'find_program', 'run_program', 'seconds_of_programs', 'time_to_wait']
+__all__ = ['MOST_SECONDS', 'Process', 'check_timeout', 'count_ended', 'count_seconds', 'find_program', 'run_program', 'seconds_of_programs',
+           'time_to_wait']
+
+# A program is waited for at most so long: poll counts milliseconds in 31 bits.
+MOST_SECONDS = (2**31 - 1) // 1000
 
 _BLOCK = 1 << 20  # (also of a pipe where the system lets it be so large: fewer turns between the program and its reader)
 _HAS_MASKS = hasattr(signal, 'pthread_sigmask')  # (Windows has none)
@@ -247,10 +251,21 @@ def _counted_by_the_clock() -> Iterator[None]:
             count_seconds(time.monotonic() - begin)
 
 
+def check_timeout(timeout: Optional[float]) -> None:
+    """Raises ValueError where a program cannot be waited for so long.
+
+    >>> check_timeout(-3)
+    Traceback (most recent call last):
+    ValueError: timeout is in seconds, from 0 to 2,147,483: -3 is not
+    """
+    if timeout is not None and not 0 <= timeout <= MOST_SECONDS:  # (nor is a NaN)
+        raise ValueError(f'timeout is in seconds, from 0 to {MOST_SECONDS:,}: {timeout} is not')
+
+
 def time_to_wait(seconds: float) -> float:
     """How long a program is waited for that may take so many seconds of processor time: the clock may run longer, where other processes have the
     processor. Where the system does not end a program after that time, it ends by the clock, which also runs while it starts."""
-    return max(0.5, seconds) * _WAITING if _HAS_LIMITS else max(0.0, seconds) + _STARTING
+    return min(MOST_SECONDS, max(0.5, seconds) * _WAITING if _HAS_LIMITS else max(0.0, seconds) + _STARTING)
 
 
 def seconds_of_programs() -> float:

@@ -16,10 +16,10 @@ from . import library, replies
 from .answers import Calls, Heap, Items, Listing, ShownObjects
 from .arguments import ArgumentValue, encoded
 from .errors import ProgramError, Refused, TimedOut
-from .program import Process, run_program
+from .program import Process, check_timeout, run_program
 from .records import Mark, Ran, Ref, Where
 from .saving import written_whole
-from .sources import Input, OwnFile, Source, is_word
+from .sources import Input, OwnFile, Source, is_opened, is_word
 from .tasks import AskedOfEdits, calls_of, frames_of, listing_of, modes
 
 __all__ = ['SHIFTS', 'Session']
@@ -163,6 +163,7 @@ class Session(contextlib.AbstractContextManager['Session']):
 
     def __init__(self, source: Source, window: Optional[int] = None, many: bool = False, *, unframed: bool = False,
                  timeout: Optional[float] = None, memory: Optional[int] = None) -> None:
+        check_timeout(timeout)
         self._limits = (timeout, memory)
         self._input = Input(source, own=True)
         self._many, self._unframed = many, unframed
@@ -462,7 +463,7 @@ class Session(contextlib.AbstractContextManager['Session']):
         (0, None, b'K\\x05.')
         """
         name = os.path.join(os.getcwd(), os.fsdecode(path))
-        if is_word(name):
+        if is_word(name) and not is_opened(name, to_write=True):
             self._save(name, [], self._talk.edits())
         else:
             content = self.bytes()

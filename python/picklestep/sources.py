@@ -3,6 +3,7 @@
 from __future__ import annotations
 
 import os
+import re
 import stat
 import tempfile
 from typing import Any, Iterator, Optional, Protocol, Sequence, Union
@@ -10,7 +11,8 @@ from typing import Any, Iterator, Optional, Protocol, Sequence, Union
 from .errors import ProgramError
 from .place import find_program, is_module
 
-__all__ = ['LIMIT', 'Input', 'OwnFile', 'Source', 'content_of', 'is_word', 'opens_descriptors', 'small_content']
+__all__ = ['LIMIT', 'Input', 'OwnFile', 'Source', 'content_of', 'is_opened', 'is_read_once', 'is_word', 'kept', 'opens_descriptors',
+           'small_content']
 
 class Readable(Protocol):
     """A binary file object, as far as it is needed."""
@@ -28,11 +30,16 @@ LIMIT = 1 << 30
 
 _BLOCK = 1 << 20
 
+_OPENED = re.compile(r'/dev/(stdin|fd/[0-9]+)|/proc/self/fd/[0-9]+')
+_OPENED_TO_WRITE = re.compile(rf'/dev/std(out|err)|{_OPENED.pattern}')
+_MOST_LINKS = 40  # as Linux follows
+
 
 class Input:
     """An input of the program, which stays open until it is closed.
 
-    Bytes and what a file object gives lie in a file of our own. With `own`, a file is copied so too: then nobody else can change it.
+    Bytes, what a file object gives, and what only this process has open lie in a file of our own. With `own`, a file is copied so too: then
+    nobody else can change it.
     Raises what `open` raises where a path cannot be opened.
     """
 
@@ -50,7 +57,7 @@ class Input:
         if isinstance(source, (str, os.PathLike)):
             _try(source)
             path = os.path.join(os.getcwd(), os.fsdecode(source))
-            if own or not is_word(path):
+            if own or not is_word(path) or is_opened(path):
                 self._keep_file(path)
             else:
                 self.path = path
@@ -123,6 +130,45 @@ def content_of(source: Source) -> bytes:
             return file.read(LIMIT + 1)
     content: Any = source
     return b''.join(_blocks(content)) if hasattr(content, 'read') else memoryview(content).tobytes()
+
+
+def is_opened(path: str, to_write: bool = False) -> bool:
+    """Whether a path is what this process was given open, to read or `to_write`, such as a pipe of the shell. No other process has it under
+    this name.
+
+    >>> is_opened('/dev/stdin'), is_opened('/dev/fd/63'), is_opened('/dev/null'), is_opened('/dev/stdout', to_write=True)
+    (True, True, False, True)
+    """
+    opened = _OPENED_TO_WRITE if to_write else _OPENED
+    for _ in range(_MOST_LINKS):
+        path = os.path.abspath(path)
+        if opened.fullmatch(path):
+            return True
+        if not os.path.islink(path):
+            return False
+        path = os.path.join(os.path.dirname(path), os.readlink(path))
+    return False
+
+
+def is_read_once(source: Source) -> bool:
+    """Whether a source gives its bytes only once: a file object, a pipe, a device.
+
+    >>> is_read_once(b'N.'), is_read_once('/dev/stdin')
+    (False, True)
+    """
+    if isinstance(source, (str, os.PathLike)):
+        return is_opened(os.fsdecode(source)) or os.path.exists(source) and not os.path.isfile(source)
+    return hasattr(source, 'read')
+
+
+def kept(source: Source) -> Source:
+    """A source that can be read again and again: itself, or the bytes of one that is read once. Raises what `open` raises.
+
+    >>> import io
+    >>> kept(io.BytesIO(b'N.')), kept('a.pickle')
+    (b'N.', 'a.pickle')
+    """
+    return content_of(source) if is_read_once(source) else source
 
 
 def _try(path: 'Union[str, os.PathLike[str]]') -> None:

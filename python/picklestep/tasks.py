@@ -13,10 +13,10 @@ from . import library
 from .answers import Calls, Listing, Objects
 from .errors import ProgramError
 from .listed import TooDeep, bounded
-from .program import Process, run_program
+from .program import Process, check_timeout, run_program
 from .records import OtherForm
 from .replies import other_form, where_of
-from .sources import Input, Source, small_content
+from .sources import Input, Source, is_read_once, small_content
 from .texts import MOST_OFFSET, OFFSET_IN_BYTES, frames_in
 
 __all__ = ['AskedOfEdits', 'calls', 'calls_of', 'form', 'frames', 'frames_of', 'left_out', 'listing', 'listing_of', 'modes', 'objects']
@@ -33,7 +33,8 @@ def listing(source: Source, *, many: bool = False, unframed: bool = False, timeo
 
     With `unframed` a FRAME is an opcode like others, whose length nobody checks: a pickle that was cut off is then listed up to the cut.
 
-    `timeout` is in seconds, and `memory` in bytes: how long the program may run, and how much address space it may take.
+    `timeout` is in seconds, and `memory` in bytes: how long the program may run, and how much address space it may take. What a file object or
+    /dev/stdin takes to give its bytes is not counted. Raises ValueError where `timeout` is below 0 or above 2,147,483.
 
     >>> for opcode in listing(b'K\\x01K\\x02\\x86.'):
     ...     print(opcode.offset, opcode.name, opcode.argument)
@@ -156,6 +157,7 @@ class _Asked:
     """A source that is asked about: a small one in this process, another as an input of the program, from when that is needed."""
 
     def __init__(self, source: Source, timeout: Optional[float], memory: Optional[int]) -> None:
+        check_timeout(timeout)
         self._memory = memory
         self._timeout = timeout
         self._begun = 0.0
@@ -206,7 +208,8 @@ class _Asked:
         return self._input
 
     def _opened(self) -> Input:
-        return Input(self._source)
+        # (A FIFO is read once, and a second question would wait for ever. With a timeout it is the program that waits for its writer.)
+        return Input(self._source, own=self._timeout is None and is_read_once(self._source))
 
     def __enter__(self) -> _Asked:
         return self

@@ -574,6 +574,7 @@ VALUES_CUT = re.compile(r', \+([0-9]+)')
 # What is under these headings the strict reading does not reach. Each has the words of the second, and hardly any other line.
 _HEADING = re.compile(r'^(a loader(?: that buffers frames| that keeps its buffer)? may go on):$', re.MULTILINE)
 _IN_HEADINGS = ' may go on:\n'
+_HOLE_REFUSED = 'refused: hole '
 _COUNTS = re.compile(r'^([0-9]+) imports, ([0-9]+) calls$', re.MULTILINE)
 _PERSISTENT = re.compile(r'^ *[0-9]+: persistent (.*)$', re.MULTILINE)
 # A persistent id as torch writes it, where nothing of it is cut.
@@ -620,15 +621,18 @@ def before_headings(text: str) -> str:
 
 
 def counts_in(text: str, start: int, end: int) -> Tuple[int, int]:
-    """How many imports and calls a part of a text counts. Raises LinesError where it does not say so.
+    """How many imports and calls a part of a text counts. Where bytes cannot be left out nothing is read, so there are none. Raises LinesError
+    where it does not say so.
 
-    >>> counts_in('3 imports, 1 calls\\n', 0, 19)
-    (3, 1)
+    >>> counts_in('3 imports, 1 calls\\n', 0, 19), counts_in('refused: hole 9:1 ends behind the last of 2 bytes\\n', 0, 50)
+    ((3, 1), (0, 0))
     """
     match = _COUNTS.search(text, start, end)
-    if match is None:
-        raise LinesError(text[start:end])
-    return int(match[1]), int(match[2])
+    if match is not None:
+        return int(match[1]), int(match[2])
+    if text.startswith(_HOLE_REFUSED, start):
+        return 0, 0
+    raise LinesError(text[start:end])
 
 
 def persistent_lines(text: str) -> Iterator[str]:

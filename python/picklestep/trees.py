@@ -11,7 +11,7 @@ from _compat_pickle import IMPORT_MAPPING, NAME_MAPPING
 from .changes import changed
 from .errors import NoResult
 from .records import Extension, Global, Name, Object, Ref
-from .sources import Source, content_of
+from .sources import Source, kept
 from .tasks import calls, frames, objects
 from .values import PLAIN_KINDS, Argument, Unread, kind_value
 
@@ -183,12 +183,10 @@ def tree(pickle: Source, *, many: bool = False, unframed: bool = False, timeout:
 
 def values(pickle: Source, many: bool, unframed: bool, timeout: Optional[float], memory: Optional[int]) -> Tuple[Values, Any]:
     """The values of all objects, and what `tree` answers."""
-    if hasattr(pickle, 'read'):
-        pickle = content_of(pickle)
+    pickle = kept(pickle)
     answer = objects(pickle, many=many, unframed=unframed, timeout=timeout, memory=memory)
     if not answer.end.is_stopped or not answer.results:
-        is_frame = answer.end.code in ('F6', 'F7', 'F8')
-        raise NoResult(answer.end.text + (' (unframed=True reads that frame)' if is_frame else ''))
+        raise NoResult(answer.end.text, answer.end.code in ('F6', 'F7', 'F8'))
     heap = list(answer)
     names: Dict[int, Name] = {}
     if any(_is_renamed(made, heap) for made in heap):  # (it depends on the protocol there)

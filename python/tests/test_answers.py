@@ -132,7 +132,11 @@ class RealPickles(unittest.TestCase):
                 self.assertEqual(answer.end.code, told.end.code)
 
     def test_bytes_that_cannot_be_left_out(self) -> None:
-        self.assertEqual(picklestep.calls(LIST, skip=[(0, len(LIST) + 1)]).end.how, 'refused')
+        answer = picklestep.calls(LIST, skip=[(0, len(LIST) + 1)])
+        self.assertEqual((answer.end.how, answer.imports, answer.calls, list(answer), answer.kept), ('refused', 0, 0, [], 0))
+        said = f'hole 0:{len(LIST) + 1} ends behind the last of {len(LIST)} bytes'
+        self.assertEqual((answer.text, repr(answer)), (f'refused: {said}\n', f'<Calls: 0 imports, 0 calls, {said}>'))
+        self.assertIn(f'<p>0 imports, 0 calls, {said}</p>', answer._repr_html_())
         for skip in ([(2, 1), (1, 1)], [(0, 2), (1, 1)]):
             with self.assertRaisesRegex(picklestep.ProgramError, 'is no OFFSET:LENGTH'):
                 picklestep.calls(LIST, skip=skip)

@@ -246,7 +246,7 @@ class Compare(unittest.TestCase):
                 with contextlib.redirect_stdout(io.StringIO()) as out:
                     self.assertEqual(main([paths[place] for place in pair]), status)
                 self.assertEqual(out.getvalue(), said)
-            self.assertIn('F3 truncated', errors.getvalue())
+            self.assertEqual(errors.getvalue(), f'picklestep: {paths[2]}: F3 truncated at 0\n')
 
     def test_keys_and_members_that_are_made_by_calls(self) -> None:
         """There is a difference where Python's own comparison of the values finds one, in whatever order they were written."""
@@ -319,12 +319,13 @@ class Compare(unittest.TestCase):
         old, new = (crooked({'a': datetime.date(year, 1, 1)}, 1 << 40) for year in (2020, 2021))
         self.assertEqual([str(each) for each in picklestep.compare(old, new, unframed=True)],
                          [r"['a'].arguments[0]: b'\x07\xe4\x01\x01' -> b'\x07\xe5\x01\x01'"])
-        with tempfile.TemporaryDirectory() as folder, contextlib.redirect_stderr(io.StringIO()):
+        with tempfile.TemporaryDirectory() as folder, contextlib.redirect_stderr(io.StringIO()) as errors:
             paths = [os.path.join(folder, name) for name in 'ab']
             for path, data in zip(paths, (old, new + b'N')):
                 with open(path, 'wb') as file:
                     file.write(data)
             self.assertEqual(main(paths), 2)
+            self.assertRegex(errors.getvalue(), rf'^picklestep: {paths[0]}: F[78] frame .* \(--unframed reads that frame\)\n$')
             with contextlib.redirect_stdout(io.StringIO()) as out:
                 self.assertEqual(main(['--unframed', *paths]), 1)
             self.assertEqual([line.partition(' (')[0] for line in out.getvalue().splitlines()[1:]], [

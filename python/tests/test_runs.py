@@ -9,11 +9,13 @@ import io
 import mmap
 import os
 import resource
+import shlex
 import signal
 import stat
 import subprocess
 import sys
 import tempfile
+import threading
 import time
 import unittest
 import warnings
@@ -27,7 +29,7 @@ from picklestep import place
 from picklestep import program as running
 from picklestep.program import Process, find_program, seconds_of_programs, time_to_wait
 from picklestep.sources import Input, OwnFile
-from pickles import LIST, chosen
+from pickles import HOSTILE, LIST, chosen
 
 PACKAGE = Path(picklestep.__file__).resolve().parent.parent
 MB = 1 << 20
@@ -66,6 +68,38 @@ def program(script: str) -> Iterator[None]:
         path.chmod(path.stat().st_mode | stat.S_IXUSR)
         with mock.patch.dict(os.environ, PICKLESTEP_PROGRAM=str(path)):
             yield
+
+
+@contextlib.contextmanager
+def pipe(data: bytes) -> Iterator[str]:
+    """The path of a pipe that gives these bytes, and which only this process has open."""
+    read, write = os.pipe()
+    os.write(write, data)
+    os.close(write)
+    try:
+        yield f'/dev/fd/{read}'
+    finally:
+        os.close(read)
+
+
+@contextlib.contextmanager
+def fifo(data: bytes) -> Iterator[str]:
+    """The path of a FIFO that gives these bytes once."""
+    with tempfile.TemporaryDirectory() as folder:
+        path = Path(folder, 'fifo')
+        os.mkfifo(path)
+        writer = threading.Thread(target=path.write_bytes, args=(data,), daemon=True)
+        writer.start()
+        yield str(path)
+        writer.join()
+
+
+def shell(folder: str, way: str, *words: str) -> str:
+    """What Python prints on these words where a line of the shell starts it."""
+    line = way.format(shlex.join([sys.executable, *words]))
+    run = subprocess.run(['bash', '-c', line], cwd=folder, env={**os.environ, 'PYTHONPATH': str(PACKAGE)}, stdout=subprocess.PIPE, text=True,
+                         timeout=300, check=True)
+    return run.stdout
 
 
 class LeavesNothing(unittest.TestCase):
@@ -156,6 +190,48 @@ class Sources(LeavesNothing):
         endless = Endless()
         with mock.patch('picklestep.sources.LIMIT', 4 * MB), Input(endless) as given:
             self.assertEqual(os.stat(given.path).st_size, 4 * MB + 1)
+
+
+class Opened(LeavesNothing):
+    """Paths of what this process was given open, which no other process has, and of what gives its bytes once."""
+
+    ASKED = (("calls({})[1].text", "call 'posix' 'system' ('id') as #3"), ("listing({})[4].name", 'REDUCE'), ("objects({})[3].kind", 'call'),
+             ("source({}).text.count('system(')", 1), ("tree({}).how", 'call'), ("Session({}).run().place", 6))
+
+    def test_a_pipe(self) -> None:
+        for more in ('', ', timeout=60'):
+            for asked, wanted in self.ASKED:
+                with self.subTest(asked + more), pipe(HOSTILE) as path:
+                    self.assertEqual(eval(f'picklestep.{asked.format(repr(path) + more)}'), wanted)
+
+    def test_standard_input(self) -> None:
+        """By a pipe and as a file, also behind a link."""
+        ways = [(path, way) for path in ('/dev/stdin', '/dev/fd/0', 'link') for way in ('cat a.pickle | {}', '{} < a.pickle')]
+        with tempfile.TemporaryDirectory() as folder:
+            Path(folder, 'a.pickle').write_bytes(HOSTILE)
+            Path(folder, 'link').symlink_to('/dev/stdin')
+            for number, ((path, way), (asked, wanted)) in enumerate(zip(ways, self.ASKED)):
+                asked = asked.format(f'{path!r}, timeout={60 if number % 3 else None}')
+                self.assertEqual(shell(folder, way, '-c', f'import picklestep; print(picklestep.{asked})'), f'{wanted}\n', (way, asked))
+                said = shell(folder, way, '-m', 'picklestep', 'source', path).splitlines()
+                self.assertEqual(said[1:], ['from posix import system  # 0', "_3 = system('id')  # 23", 'result = _3'], (way, path))
+
+    def test_a_large_one(self) -> None:
+        """It is not asked about in this process."""
+        data = b'N' * (2 * library.MOST_BYTES) + b'.'
+        with tempfile.TemporaryDirectory() as folder:
+            Path(folder, 'a.pickle').write_bytes(data)
+            for way in ('cat a.pickle | {}', '{} < a.pickle'):
+                self.assertEqual(shell(folder, way, '-m', 'picklestep', 'diff', 'a.pickle', '/dev/stdin'), '', way)
+                self.assertEqual(shell(folder, way, '-c', 'import picklestep; print(len(picklestep.listing("/dev/stdin")))'), f'{len(data)}\n', way)
+
+    def test_what_is_asked_several_times(self) -> None:
+        """Names of Python 2, and where an opcode is refused."""
+        for opened in (pipe, fifo):
+            with opened(b'c__builtin__\nlen\n.') as path:
+                self.assertEqual(picklestep.tree(path), picklestep.Global(b'builtins', b'len'))
+            with opened(b'N0.') as path:
+                self.assertEqual(picklestep.calls(path).end.offset, 2)
 
 
 class Errors(LeavesNothing):
@@ -271,6 +347,17 @@ class Errors(LeavesNothing):
             with self.assertRaises(TimeoutError):
                 Session(b'N.', timeout=0.2)
             self.assertLess(time.monotonic() - start, 5)
+
+    def test_timeouts_that_are_none(self) -> None:
+        with program('exec sleep 60\n'):
+            for timeout in (-3, -0.001, float('nan'), float('inf'), 1e12, 2_147_484):
+                for ask in (picklestep.calls, picklestep.listing, picklestep.objects, picklestep.form, picklestep.source, picklestep.tree, Session,
+                            lambda source, timeout: picklestep.compare(source, source, timeout=timeout)):
+                    with self.assertRaisesRegex(ValueError, f'timeout is in seconds, from 0 to 2,147,483: {timeout} is not'):
+                        ask(b'N.', timeout=timeout)
+            self.assertRaises(TimedOut, picklestep.calls, b'N.', timeout=0)
+        self.assertEqual(picklestep.listing(b'N.', timeout=2_147_483).end.how, 'stopped')
+        self.assertTrue(Session(b'N.', timeout=2_147_483).run().place)
 
     def test_a_listing_that_does_not_end(self) -> None:
         """The offset of a refused opcode is looked for within the time that is left."""

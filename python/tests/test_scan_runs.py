@@ -85,6 +85,7 @@ class Opened(RunCase):
         for line, place in (('cat a.pkl | $scan --allow plain /dev/stdin', '/dev/stdin'), ('cat a.pkl | $scan --jobs 2 -- b.pkl /dev/stdin', '/dev/stdin'),
                             ('$scan --jobs 2 /dev/stdin b.pkl <a.pkl', '/dev/stdin'), ('$scan --jobs 3 b.pkl /dev/fd/7 b.pkl 7<a.pkl', '/dev/fd/7'),
                             ('cat a.pkl | $scan /proc/self/fd/0', '/proc/self/fd/0'), ('cat a.pkl | (cd /dev; $scan stdin)', 'stdin'),
+                            ('ln -s /dev/stdin in; cat a.pkl | $scan in', 'in'), ('$scan --jobs 2 in b.pkl <a.pkl', 'in'),
                             ('tar c a.pkl b.pkl | $scan /dev/stdin', '/dev/stdin > a.pkl'), ('gzip -nc a.pkl | $scan /dev/stdin', '/dev/stdin > (gzip)')):
             self.assertIn(f'! {place}: import posix.system once, first at 0', self.shell(line), line)
         self.assertRegex(self.shell('$scan <(cat b.pkl) <(cat a.pkl)'), r'! /dev/fd/[0-9]+: import posix.system once')
@@ -106,6 +107,12 @@ class Runs(RunCase):
         one, four = self.scan('files', '--json'), self.scan('files', '--json', '--jobs', '4')
         self.assertEqual(sorted(one.stdout.splitlines()), sorted(four.stdout.splitlines()))
         self.assertEqual((one.returncode, one.stderr), (four.returncode, four.stderr))
+
+    def test_seconds_that_no_clock_counts(self) -> None:
+        (self.files / 'a.pkl').write_bytes(b'N' * (1 << 17) + b'.')
+        runs = [self.scan('files', '--json', '--max-seconds', str(seconds)) for seconds in (60, 10**7, 10**30)]
+        self.assertEqual([(run.returncode, run.stdout) for run in runs], [(runs[0].returncode, runs[0].stdout)] * 3)
+        self.assertNotIn('cannot be read', runs[0].stdout)
 
     def test_a_worker_that_dies_costs_a_second_try(self) -> None:
         names = self.fill(8)

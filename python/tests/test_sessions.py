@@ -260,6 +260,19 @@ class Edits(unittest.TestCase):
                 session.where()
                 self.assertEqual(sorted(os.listdir(os.fsencode(folder))), [b'a pickle', b'\xff'])
 
+    def test_saving_into_what_is_open(self) -> None:
+        """No other process has it under this path."""
+        read, write = os.pipe()
+        with tempfile.TemporaryDirectory() as folder, Session(b'N.') as session, open(read, 'rb') as pipe, open(write, 'wb') as end:
+            link, file = Path(folder, 'link'), Path(folder, 'file')
+            link.symlink_to(f'/dev/fd/{end.fileno()}')
+            for path in (f'/dev/fd/{end.fileno()}', link):
+                session.save(path)
+                self.assertEqual(os.read(pipe.fileno(), 10), b'N.', path)
+            with open(file, 'wb') as opened:
+                session.save(f'/dev/fd/{opened.fileno()}')
+            self.assertEqual(file.read_bytes(), b'N.')
+
     def test_saving_replaces_a_file_when_all_is_stored(self) -> None:
         """Also one whose name is not UTF-8, which the program is not given."""
         with tempfile.TemporaryDirectory() as folder, Session(b'N.') as session:

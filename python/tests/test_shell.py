@@ -552,6 +552,9 @@ class Words(unittest.TestCase):
         data = b'\x80\x04cold\nA\n\x95\x40\0\0\0\0\0\0\0cold\nB\n'
         with self.assertRaisesRegex(picklestep.NoResult, 'F7 .*unframed=True'):
             picklestep.tree(data)
+        with Shell(data, '') as shell:
+            shell.obey('insert 0 POP')
+            self.assertRegex(shell.obey('diff'), r'the results cannot be compared: F7 .* \(--unframed reads that frame\)')
         with Shell(data, '', unframed=True) as shell:
             self.assertIn('the end: F1 ended at 25', shell.obey('run'))
             self.assertIn('(Reading ends early', shell.obey('rename old new'))

@@ -9,6 +9,7 @@ from typing import Iterator, List, Optional
 
 from ..answers import Answer
 from ..listed import Listed
+from ..program import check_timeout
 from ..records import End
 from ..sources import Input, Source
 from ..tasks import modes
@@ -64,6 +65,7 @@ def source(pickle: Source, *, full: bool = True, many: bool = False, unframed: b
     result = _3
     <BLANKLINE>
     """
+    check_timeout(timeout)
     with _without_collector(), Input(pickle) as given:
         return _source(given, full, modes(many, unframed), timeout, memory)
 

@@ -13,7 +13,7 @@ from itertools import chain
 from typing import Dict, Generator, Iterable, List, Optional, TextIO, Union
 
 from ..errors import ProgramError
-from ..program import find_program
+from ..program import MOST_SECONDS, find_program
 from ..wording import shown
 from .allow import SETS, Used, read_names
 from .blobs import Limits
@@ -149,7 +149,7 @@ def _is_same(path: str, earlier: Result) -> bool:
 
 
 def _options(words: argparse.Namespace) -> Options:
-    limits = Limits(words.max_bytes, words.max_members, words.max_depth, words.max_seconds, words.max_memory, words.max_lines)
+    limits = Limits(words.max_bytes, words.max_members, words.max_depth, min(words.max_seconds, MOST_SECONDS), words.max_memory, words.max_lines)
     return Options(limits, words.lines, words.everywhere, words.full)
 
 

@@ -8,7 +8,8 @@ import sys
 from importlib import import_module
 from typing import BinaryIO, Iterable, Iterator, List
 
-from .looking import is_opened, is_url, left_out
+from ..sources import is_opened
+from .looking import is_url, left_out
 from .results import Note, Result
 
 __all__ = ['Found', 'NoNames', 'find_files', 'read_names']

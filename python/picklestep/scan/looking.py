@@ -20,7 +20,7 @@ from io import FileIO
 from operator import or_
 from typing import BinaryIO, Callable, Iterator, List, Optional, Tuple, cast
 
-from ..sources import LIMIT
+from ..sources import LIMIT, is_opened
 from . import stores, zips
 from .begins import HEAD, is_pickle_name, is_storage_name, may_be_pickle
 from .blobs import CHUNK, Blob, Budget, BytesBlob, FileBlob, JoinedBlob, LimitMet, Limits, OpenedBlob, PartMet, spooled
@@ -39,7 +39,6 @@ from .unread import kind_by_end
 __all__ = ['Looker', 'Options', 'Reads', 'Unpacked', 'look', 'look_at_bytes']
 
 _URL = re.compile(r'[A-Za-z][A-Za-z0-9+.-]*(::|://)')
-_OPENED = re.compile(r'/dev/(stdin|fd/[0-9]+)|/proc/self/fd/[0-9]+')
 # The program ends at a frame in a frame, and at an opcode that crosses the end of one. Raw numbers do not get there, and CPython goes on.
 _FRAME_FAULTS = ('F6', 'F8')
 # The bytes by which a member is known to be a container: its first ones, and where the record is that closes a zip archive.
@@ -426,15 +425,6 @@ def _look_at_pipe(looker: Looker, file: FileIO, path: str) -> Result:
             looker.note((), f'it gives more than the {copy.size:,} bytes that may be held at once: the first of them are looked at', missed=True)
         looker.budget.held += copy.size
         return _gone_through(looker, copy, path)
-
-
-def is_opened(path: str) -> bool:
-    """Whether a path is what this process was given open, such as a pipe of the shell. No other process has it under this name.
-
-    >>> is_opened('/dev/stdin'), is_opened('/dev/fd/63'), is_opened('/dev/null')
-    (True, True, False)
-    """
-    return _OPENED.fullmatch(os.path.abspath(path)) is not None
 
 
 def left_out(path: str, mode: int, is_named: bool) -> Result:

@@ -11,7 +11,7 @@ from typing import Callable, Dict, List, Optional, Sequence, Tuple
 
 from ..comparing import compare, shown_value
 from ..diff import of_reaches
-from ..errors import NoResult, PicklestepError, Refused
+from ..errors import NoResult, PicklestepError, Refused, reason
 from ..records import Ref
 from ..python_source import source
 from ..replies import entry_of, is_mark, last_words, number_in_word, stored_under, words_of
@@ -619,7 +619,7 @@ class Shell:
         try:
             differences = [*map(str, compare(self._original, self.pickle.content(), **self._modes))]
         except NoResult as error:
-            rows.append(f'the results cannot be compared: {error}')
+            rows.append(f'the results cannot be compared: {reason(error)}')
             differences = list(of_reaches(self._original, self.pickle.content(), self._modes['unframed']))
         more = [f'.. {len(differences) - _MOST_LINES} more'] if len(differences) > _MOST_LINES else []
         return '\n'.join([*rows, *differences[:_MOST_LINES], *more, *self.pickle.kept])
