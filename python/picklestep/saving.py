@@ -3,13 +3,56 @@
 from __future__ import annotations
 
 import contextlib
+import errno
 import os
 import secrets
 import shutil
 from pathlib import Path
-from typing import IO, Any, Iterator, Optional
+from typing import IO, Any, Iterator, Optional, Union
 
-__all__ = ['written_whole']
+from .errors import PicklestepError
+from .wording import shown
+
+__all__ = ['check_writable', 'naming', 'written_whole']
+
+
+@contextlib.contextmanager
+def naming(path: Union[str, Path]) -> Iterator[None]:
+    """Within it a file is written. Where that fails, the PicklestepError has the name that the user gave, and not that of a file of ours.
+
+    >>> with naming('list'):
+    ...     raise OSError(28, 'No space left on device')
+    Traceback (most recent call last):
+    picklestep.errors.PicklestepError: cannot write list: No space left on device
+    """
+    try:
+        yield
+    except PicklestepError:  # (one of these is an OSError too, and not of this file)
+        raise
+    except OSError as error:
+        raise PicklestepError(f'cannot write {shown(str(path))}: {error.strerror or error}') from error
+
+
+def check_writable(path: str) -> None:
+    """Raises OSError where a file could not be written now. It stays as it is, and where there was none there is none.
+
+    >>> import tempfile
+    >>> with tempfile.TemporaryDirectory() as folder:
+    ...     check_writable(os.path.join(folder, 'new'))
+    ...     os.listdir(folder)
+    []
+    """
+    if os.path.isfile(path) or os.path.isdir(path):
+        os.close(os.open(path, os.O_WRONLY))
+    elif os.path.exists(path):
+        # (a pipe is not opened: its reader would take the end of this for the end of all)
+        if not os.access(path, os.W_OK):
+            raise PermissionError(errno.EACCES, os.strerror(errno.EACCES), path)
+    else:
+        # Only making it shows that the system takes this name there. (What a link leads to is made, as it will be.)
+        target = os.path.realpath(path) if os.path.islink(path) else path
+        os.close(os.open(target, os.O_WRONLY | os.O_CREAT | os.O_EXCL, 0o600))
+        os.unlink(target)
 
 
 @contextlib.contextmanager

@@ -3,6 +3,7 @@
 from __future__ import annotations
 
 import os
+import re
 import subprocess
 import sys
 import tempfile
@@ -92,6 +93,17 @@ class Words(EntranceCase):
             run = self.start(entrance)
             self.assertEqual((run.returncode, run.stdout, run.stderr), (2, '', whole))
 
+    def test_statuses(self) -> None:
+        """The help of a word has the statuses that its manual explains."""
+        for word in sorted(WORDS):
+            name = f'picklestep-{word}' if word in ('scan', 'view') else 'picklestep'
+            page = (ROOT / 'share' / 'man' / 'man1' / f'{name}.1').read_text().partition('.Sh EXIT STATUS')[2].partition('.Sh')[0]
+            explained = set(re.findall(r'(?m)^(?:\.It )?([0-9]+)\b|; ([0-9]+) ', page))
+            said = self.start([*ways()['-m'], word, '--help']).stdout.partition('\nStatus: ')[2]
+            found = set(re.findall(r'\b(0|1|2|1[0-9]{2})\b', said))
+            self.assertLessEqual({'0', '2'}, found, word)
+            self.assertLessEqual(found, {number for pair in explained for number in pair}, word)
+
     def test_version(self) -> None:
         for entrance in ways().values():
             run = self.start([*entrance, '--version'])
@@ -160,7 +172,8 @@ class Streams(EntranceCase):
     def test_closed_descriptors(self) -> None:
         for way in chosen(ways(), 1):
             with self.subTest(way):
-                self.assertEqual(self.in_shell(way, 'shell a.pkl <&-'), (2, '', 'picklestep: cannot read standard input: Bad file descriptor\n'))
+                for words in ('shell a.pkl <&-', 'scan - <&-'):
+                    self.assertEqual(self.in_shell(way, words), (2, '', 'picklestep: cannot read standard input: Bad file descriptor\n'))
                 self.assertEqual(self.in_shell(way, 'shell a.pkl <script >&- 2>&-'), (2, '', ''))
                 self.assertEqual(self.in_shell(way, 'mend cut.pkl <&- >&- 2>&-'), (2, '', ''))
                 self.assertEqual(self.in_shell(way, 'source none <&- 2>&-'), (2, '', ''))

@@ -299,6 +299,12 @@ class Bombs(ScanCase):
         self.assertRegex(notes_of(result), r'! : the program had no more memory \(it may take [0-9]{2},[0-9,]+ bytes\)')
         self.assertEqual(names_of(self.look('b.pkl', HOSTILE, limits)), ['posix.system'])
 
+    def test_the_limit_of_memory_that_was_given_is_named(self) -> None:
+        budget = Budget(Limits(memory=2_000))
+        with mock.patch.object(blobs, '_own_size', lambda: 1 << 50), mock.patch.object(blobs, '_used', blobs._Used()):
+            with self.assertRaisesRegex(blobs.LimitMet, '2,000 bytes of memory'):
+                budget.spend()
+
     def test_an_answer_of_many_lines(self) -> None:
         many = b'cos\ngetcwd\nq\x000' + b'h\x00)R0' * 5000 + b'N.'
         result = self.look('a.pkl', many, Options(Limits(lines=1000)))

@@ -2,6 +2,7 @@
 
 from __future__ import annotations
 
+import errno
 import io
 import json
 import os
@@ -284,6 +285,57 @@ class Runs(RunCase):
             self.assertEqual(command.main(['--follow', 'redis://127.0.0.1:1/0', '--sarif', str(sarif)]), 141)
         self.assertEqual(len(json.loads(sarif.read_text())['runs'][0]['results']), 1)
 
+    def test_other_files_that_cannot_be_written(self) -> None:
+        """The run says so before the first file. What was there stays as it was, and what was not there is not there."""
+        self.fill(1)
+        kept = self.file('kept', b'mine')
+        before = kept.stat()
+        for option in ('--sarif', '--write-allow'):
+            other = '--sarif' if option == '--write-allow' else '--write-allow'
+            for name, why in (('none/list', errno.ENOENT), ('files', errno.EISDIR), ('n' * 300, errno.ENAMETOOLONG)):
+                for beside in ('kept', 'new'):
+                    run = self.scan('files', option, name, other, beside)
+                    self.assertEqual((run.returncode, run.stdout, run.stderr), (2, '', f'picklestep: cannot write {name}: {os.strerror(why)}\n'))
+        self.assertEqual((kept.read_bytes(), kept.stat().st_mtime_ns), (b'mine', before.st_mtime_ns))
+        self.assertEqual(sorted(os.listdir(self.folder)), ['files', 'kept'])
+
+    @unittest.skipUnless(os.path.exists('/dev/full'), 'there is no /dev/full')
+    def test_a_full_disk_loses_no_summary(self) -> None:
+        self.fill(1)
+        for words in (['--sarif', '/dev/full', '--write-allow', 'other'], ['--write-allow', '/dev/full', '--sarif', 'other']):
+            run = self.scan('files', '--brief', *words)
+            self.assertEqual((run.returncode, run.stderr), (2, 'picklestep: cannot write /dev/full: No space left on device\n'))
+            self.assertIn('1 file, 1 pickle in 1 of them, 1 import to look at\n! posix.system: once', run.stdout)
+            other = self.folder / 'other'
+            self.assertIn('posix.system', other.read_text())
+            other.unlink()
+
+    @unittest.skipUnless(hasattr(os, 'mkfifo'), 'the system has no FIFOs')
+    def test_other_files_at_the_end_of_links_and_pipes(self) -> None:
+        self.fill(1)
+        (self.folder / 'link').symlink_to('new')
+        os.mkfifo(self.folder / 'pipe')
+        with subprocess.Popen(['cat', 'pipe'], cwd=self.folder, stdout=subprocess.PIPE, text=True) as reader:
+            self.assertEqual(self.scan('files', '--sarif', 'link', '--write-allow', 'pipe').stderr, '')
+            assert reader.stdout is not None
+            self.assertIn('posix.system', reader.stdout.read())
+        self.assertTrue((self.folder / 'link').is_symlink() and json.loads((self.folder / 'new').read_text())['runs'])
+
+    def test_words_that_do_nothing_are_refused(self) -> None:
+        self.fill(1)
+        for words, wanted in ((['--match', 'a*'], 'a server'), (['--sample', '3'], 'a server'), (['--null'], '-, which')):
+            run = self.scan('files', *words)
+            self.assertEqual((run.returncode, run.stdout), (2, ''))
+            self.assertRegex(run.stderr, f'^picklestep: {words[0]} wants {wanted}')
+
+    def test_numbers_that_are_none(self) -> None:
+        for option in ('--jobs', '--sample', '--max-members', '--max-depth', '--max-seconds', '--max-lines'):
+            for number in ('x', '0', '-1', '0.5', 'nan', ''):
+                with self.subTest((option, number)), redirect_stderr(io.StringIO()) as told, self.assertRaises(SystemExit) as end:
+                    command.main(['files', f'{option}={number}'])
+                self.assertEqual(end.exception.code, 2)
+                self.assertTrue(told.getvalue().endswith(f'error: argument {option}: {number!r} is no whole number above 0\n'), told.getvalue())
+
     def test_progress_on_a_terminal(self) -> None:
         self.fill(5)
         for python in (python_with('rich'), sys.executable):
@@ -360,6 +412,16 @@ class Cluster(RunCase):
         run = self.scan('files', '--cluster', 'tcp://127.0.0.1:1', python=self.python)
         self.assertEqual(run.returncode, 2)
         self.assertRegex(run.stderr, '(?m)^picklestep: no cluster answers at tcp://127.0.0.1:1')
+
+    def test_no_address(self) -> None:
+        """It is refused at once, and nothing that was half made says more at the end of Python."""
+        self.fill(1)
+        for address in ('foo', 'foo://127.0.0.1:1', 'tcp://127.0.0.1:x', 'tls://127.0.0.1:1'):
+            begun = time.monotonic()
+            run = self.scan('files', '--cluster', address, python=self.python)
+            self.assertLess(time.monotonic() - begun, 20, address)
+            self.assertEqual((run.returncode, run.stdout), (2, ''))
+            self.assertRegex(run.stderr, rf'\Apicklestep: (no cluster answers at )?{address}(: TLS| is no address of a cluster).*\n\Z')
 
 
 class AFewWorkers(ScanCase):

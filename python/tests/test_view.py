@@ -3,6 +3,7 @@
 from __future__ import annotations
 
 import contextlib
+import errno
 import http.client
 import io
 import json
@@ -486,6 +487,24 @@ class Running(unittest.TestCase):
             self.assertEqual(main([str(self.folder / 'absent'), '--no-browser']), 2)
             self.assertEqual(main([]), 2)
         self.assertIn('picklestep: cannot read', told.getvalue())
+
+    def test_how_long_it_waits(self) -> None:
+        for number in ('-1', '0', 'nan', 'inf', 'x', ''):
+            with self.subTest(number), contextlib.redirect_stderr(io.StringIO()) as told:
+                self.assertEqual(main([str(self.file), f'--idle={number}']), 2)
+                self.assertTrue(told.getvalue().endswith(f'error: argument --idle: {number!r} is no number of seconds above 0\n'), told.getvalue())
+
+    def test_an_export_that_cannot_be_written_is_named_as_it_was_given(self) -> None:
+        places = [(self.folder / 'none' / 'out.html', errno.ENOENT), (self.folder, errno.EISDIR)]
+        places += [(Path('/dev/full'), errno.ENOSPC)] if os.path.exists('/dev/full') else []
+        for place, why in places:
+            with self.subTest(place), contextlib.redirect_stderr(io.StringIO()) as told:
+                self.assertEqual(main([str(self.file), '--export', str(place)]), 2)
+                self.assertEqual(told.getvalue(), f'picklestep: cannot write {place}: {os.strerror(why)}\n')
+        late = mock.patch('picklestep.view.command.write_report', side_effect=picklestep.TimedOut('it takes too long'))
+        with late, contextlib.redirect_stderr(io.StringIO()) as told:
+            self.assertEqual(main([str(self.file), '--export', str(self.folder / 'out.html')]), 2)
+        self.assertEqual(told.getvalue(), 'picklestep: it takes too long\n')
 
     def test_export(self) -> None:
         out = self.folder / 'out.html'

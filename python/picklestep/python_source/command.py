@@ -13,7 +13,9 @@ __all__ = ['main']
 
 
 def _parser() -> argparse.ArgumentParser:
-    parser = argparse.ArgumentParser(prog='picklestep source', description='Shows a pickle as Python source; nothing of it is run.')
+    parser = argparse.ArgumentParser(
+        prog='picklestep source', description='Shows a pickle as Python source; nothing of it is run.',
+        epilog='Status: 0 if it was read to its STOP, 1 if reading ended before, 2 if there is no source.')
     parser.add_argument('file', metavar='FILE', help='the pickle')
     parser.add_argument('--many', action='store_true', help='FILE holds several pickles one after another')
     parser.add_argument('--unframed', action='store_true', help='take FRAME for an opcode like others, as a pickle needs that was cut off')

@@ -99,7 +99,8 @@ class Budget:
         if self._parts and (seconds <= self._parts[-1] or grown > self.limits.memory // 4):
             raise PartMet('reading it strictly would take more time or memory than there is')
         if grown > self.limits.memory // 2:
-            raise LimitMet(f'it takes more than {self.limits.memory // 2:,} bytes of memory: the rest of the file is not looked at')
+            raise LimitMet(f'it takes more than half of the {self.limits.memory:,} bytes of memory that it may: the rest of the file is not '
+                           'looked at')
         return seconds
 
     def count(self, steps: int) -> None:

@@ -6,8 +6,10 @@ package, the program, and the files under the same paths (a shared folder, or UR
 
 from __future__ import annotations
 
+from contextlib import suppress
 from typing import Any, Generator, Iterable, Iterator, List, Union
 
+from ..wording import shown
 from .looking import Options
 from .results import Result
 from .stores.server import Task, work_on
@@ -19,7 +21,7 @@ AHEAD = 2_000
 
 
 class NoCluster(Exception):
-    """Dask is not installed, or no cluster answers at the address."""
+    """Dask is not installed, the address is none, or no cluster answers there."""
 
 
 def look_on_cluster(paths: Iterable[Union[str, Task]], options: Options, address: str) -> Generator[Result, None, None]:
@@ -29,11 +31,24 @@ def look_on_cluster(paths: Iterable[Union[str, Task]], options: Options, address
     except ImportError:
         raise NoCluster("a cluster needs dask.distributed: pip install distributed") from None
     try:
-        client = distributed.Client(address, timeout='20s', set_as_default=False)
-    except (OSError, ValueError) as error:
-        raise NoCluster(f'no cluster answers at {address}: {error}') from None
-    with client:
+        distributed.comm.get_address_host_port(address)
+    except ValueError:
+        raise NoCluster(f'{shown(address)} is no address of a cluster, as tcp://scheduler:8786 is') from None
+    with _connected(distributed, address) as client:
         yield from _results(distributed, client, paths, options)
+
+
+def _connected(distributed: Any, address: str) -> Any:
+    """A client of the cluster. One that failed is closed here: at the end of Python its threads are gone, and it would wait for them."""
+    # (Its constructor connects. So it is called apart, and there is something to close.)
+    client = distributed.Client.__new__(distributed.Client)
+    try:
+        client.__init__(address, timeout='20s', set_as_default=False)
+    except Exception as error:  # also TypeError where TLS has no certificate, ImportError where versions do not go together
+        with suppress(Exception):
+            client.close()
+        raise NoCluster(shown(f'no cluster answers at {address}: {error}')) from None
+    return client
 
 
 def _results(distributed: Any, client: Any, paths: Iterable[Union[str, Task]], options: Options) -> Iterator[Result]:

@@ -8,12 +8,13 @@ import json
 import os
 import re
 import sys
-from contextlib import closing, suppress
+from contextlib import ExitStack, closing, suppress
 from itertools import chain
 from typing import Dict, Generator, Iterable, List, Optional, TextIO, Union
 
-from ..errors import ProgramError
+from ..errors import PicklestepError
 from ..program import MOST_SECONDS, find_program
+from ..saving import check_writable, naming
 from ..wording import shown
 from .allow import SETS, Used, read_names
 from .blobs import Limits
@@ -37,6 +38,8 @@ _OF_NO_READER = 128 + 13
 _UNITS = {'': 1, 'K': 1 << 10, 'M': 1 << 20, 'G': 1 << 30}
 # What is not done with --follow, which looks at one value after another without end.
 _NOT_FOLLOWED = ('brief', 'jobs', 'cluster', 'resume', 'sample', 'null')
+# What says something of the keys of a server alone.
+_OF_SERVERS = ('match', 'sample')
 
 
 def _bytes(text: str) -> int:
@@ -48,9 +51,12 @@ def _bytes(text: str) -> int:
 
 
 def _positive(text: str) -> int:
-    number = int(text)
+    try:
+        number = int(text)
+    except ValueError:
+        number = 0
     if number < 1:
-        raise argparse.ArgumentTypeError(f'{text!r} is not at least 1')
+        raise argparse.ArgumentTypeError(f'{text!r} is no whole number above 0')
     return number
 
 
@@ -58,7 +64,7 @@ def _parser(fewest: str = '+') -> argparse.ArgumentParser:
     """The options and names. `fewest` is how many names there are to be, as argparse has it."""
     parser = argparse.ArgumentParser(
         prog='picklestep scan', description='Shows what the pickles in files import and call. Nothing of them is run or loaded.',
-        epilog='Status: 0; 1 if there is a line to look at first (it begins with !); 2 if the command could not begin; 130 after Ctrl-C; '
+        epilog='Status: 0; 1 if there is a line to look at first (it begins with !); 2 if it could not begin or write; 130 after Ctrl-C; '
                '141 if its reader left. Neither ! nor its absence is a verdict.')
     parser.add_argument('paths', metavar='PATH', nargs=fewest,
                         help='a file, a folder, a server (redis://, memcached://, postgresql://, mysql://), a URL for fsspec, or - for names on '
@@ -168,6 +174,11 @@ class _Output:
     """All that a run writes: the report, and files of other forms that are written at its end."""
 
     def __init__(self, words: argparse.Namespace) -> None:
+        """Raises PicklestepError where a file that is wanted cannot be written: at the end the work would be lost."""
+        for path in (words.sarif, words.write_allow):
+            if path is not None:
+                with naming(path):
+                    check_writable(path)
         self.report = Report(sys.stdout, _judge(words), words.json, words.brief)
         self.summary = sys.stderr if words.json else sys.stdout
         self._words = words
@@ -193,19 +204,20 @@ class _Output:
             self._used.add(result)
 
     def end(self, is_whole: bool) -> None:
-        """Writes the other files where the run came to its end, and the summary, whose reader may have left.
+        """Writes the summary, and the other files where the run came to its end: each of them, also where another cannot be written.
 
-        Raises BrokenPipeError where the reader of standard output has.
+        Raises BrokenPipeError where the reader of standard output has left, and PicklestepError where a file cannot be written.
         """
-        if is_whole and self._words.sarif is not None:
-            _write(self._words.sarif, json.dumps(self._sarif.object(), indent=1) + '\n')
-        if is_whole and self._words.write_allow is not None:
-            _write(self._words.write_allow, ''.join(f'{line}\n' for line in self._used.lines()))
-        if self.is_left:
-            raise BrokenPipeError
-        for line in self.report.summary():
-            print(line, file=self.summary)
-        self.summary.flush()
+        with ExitStack() as files:
+            if is_whole and self._words.sarif is not None:
+                files.callback(lambda: _write(self._words.sarif, json.dumps(self._sarif.object(), indent=1) + '\n'))
+            if is_whole and self._words.write_allow is not None:
+                files.callback(lambda: _write(self._words.write_allow, ''.join(f'{line}\n' for line in self._used.lines())))
+            if self.is_left:
+                raise BrokenPipeError
+            for line in self.report.summary():
+                print(line, file=self.summary)
+            self.summary.flush()
 
 
 def _leave() -> None:
@@ -214,7 +226,7 @@ def _leave() -> None:
 
 
 def _write(path: str, text: str) -> None:
-    with open(path, 'w', encoding='utf-8', errors='backslashreplace') as file:
+    with naming(path), open(path, 'w', encoding='utf-8', errors='backslashreplace') as file:
         file.write(text)
 
 
@@ -245,7 +257,18 @@ def _follow(words: argparse.Namespace) -> int:
     return 130
 
 
+def _refuse_useless(words: argparse.Namespace) -> None:
+    """Refuses options that would do nothing with these paths."""
+    if not any(map(is_server, words.paths)):
+        for name in _OF_SERVERS:
+            if getattr(words, name) is not None:
+                raise NoServer(f'--{name} wants a server')
+    if words.null and '-' not in words.paths:
+        raise NoNames('--null wants -, which stands for names on standard input')
+
+
 def _scan(words: argparse.Namespace) -> int:
+    _refuse_useless(words)
     output = _Output(words)
     earlier = _earlier(words.resume)
     if words.resume is not None and words.json:
@@ -295,8 +318,8 @@ def main(words: Optional[List[str]] = None) -> int:
         _leave()
         return _OF_NO_READER
     except OSError as error:
-        words_of = f'cannot open {shown(str(error.filename))}: {error.strerror}' if error.filename is not None else str(error)
-        print(f'picklestep: {words_of}', file=sys.stderr)
-    except (ProgramError, NoCluster, NoNames, NoServer, UnicodeDecodeError) as error:
+        why = error.strerror or str(error)
+        print(f'picklestep: {why if error.filename is None else f"cannot open {shown(str(error.filename))}: {why}"}', file=sys.stderr)
+    except (PicklestepError, NoCluster, NoNames, NoServer, UnicodeDecodeError) as error:
         print(f'picklestep: {error}', file=sys.stderr)
     return 2

@@ -16,7 +16,7 @@ __all__ = ['Found', 'NoNames', 'find_files', 'read_names']
 
 
 class NoNames(Exception):
-    """What standard input has are no names of files, each up to a newline."""
+    """Standard input has no names of files, each up to a newline; or it cannot be read, or is not among the paths."""
 
 
 class Found:
@@ -80,8 +80,12 @@ def _urls(url: str) -> List[str]:
 
 
 def read_names(source: BinaryIO, separator: bytes) -> Iterator[str]:
-    """The paths that an input names, each up to a newline or a NUL byte. Raises NoNames where one has a NUL byte in it."""
-    text = source.read()
+    """The paths that an input names, each up to a newline or a NUL byte. Raises NoNames where one has a NUL byte in it, and where the input cannot
+    be read."""
+    try:
+        text = source.read()
+    except OSError as error:
+        raise NoNames(f'cannot read standard input: {error.strerror}') from error
     if separator != b'\0' and b'\0' in text:
         raise NoNames('standard input has a NUL byte, which is in no name: --null is for names that end in one')
     return (os.fsdecode(name) for name in text.split(separator) if name)

@@ -17,7 +17,9 @@ __all__ = ['main']
 
 
 def _parser() -> argparse.ArgumentParser:
-    parser = argparse.ArgumentParser(prog='picklestep shell', description='Steps through a pickle, looks at it and edits it; nothing of it is run.')
+    parser = argparse.ArgumentParser(
+        prog='picklestep shell', description='Steps through a pickle, looks at it and edits it; nothing of it is run.',
+        epilog='Status: 0; 1 if a line of a script was refused; 2 if FILE or a script could not be read; 130 after Ctrl-C.')
     parser.add_argument('file', metavar='FILE', help='the pickle')
     parser.add_argument('--many', action='store_true', help='FILE holds several pickles one after another')
     parser.add_argument('--unframed', action='store_true', help='take FRAME for an opcode like others, as a pickle needs that was cut off')

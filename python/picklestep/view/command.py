@@ -4,6 +4,7 @@ from __future__ import annotations
 
 import argparse
 import contextlib
+import math
 import signal
 import sys
 import tempfile
@@ -12,7 +13,7 @@ from pathlib import Path
 from typing import Iterator, List, Optional
 
 from ..errors import PicklestepError, reason
-from ..saving import written_whole
+from ..saving import naming, written_whole
 from ..wording import shown
 from .document import Document
 from .export import MOST, write_report
@@ -21,22 +22,34 @@ from .server import IDLE, Viewer
 __all__ = ['main']
 
 
+def _seconds(text: str) -> float:
+    try:
+        seconds = float(text)
+    except ValueError:
+        seconds = math.nan
+    if not 0 < seconds < math.inf:
+        raise argparse.ArgumentTypeError(f'{text!r} is no number of seconds above 0')
+    return seconds
+
+
 def _parser() -> argparse.ArgumentParser:
-    parser = argparse.ArgumentParser(prog='picklestep view', description='Shows a pickle in a browser; nothing of it is run.')
+    parser = argparse.ArgumentParser(
+        prog='picklestep view', description='Shows a pickle in a browser; nothing of it is run.',
+        epilog='Status: 0; 2 if FILE could not be read or OUT.html not written; 130 after Ctrl-C while it opens or exports.')
     parser.add_argument('file', metavar='FILE', help='the pickle')
     parser.add_argument('--many', action='store_true', help='FILE holds several pickles one after another')
     parser.add_argument('--export', metavar='OUT.html', type=Path, help='write a report as a page of its own, and end')
     parser.add_argument('--force', action='store_true', help='let --export write over a file that is there')
     parser.add_argument('--no-browser', action='store_true', help='print the address, and open no browser')
-    parser.add_argument('--idle', metavar='SECONDS', type=float, default=IDLE, help='end when no page was open for so long (%(default)g)')
+    parser.add_argument('--idle', metavar='SECONDS', type=_seconds, default=IDLE, help='end when no page was open for so long (%(default)g)')
     return parser
 
 
 def _export(document: Document, path: Path) -> int:
-    with written_whole(path, 'utf-8') as file:
-        shown, all_lines = write_report(document, file)
-    if shown < all_lines:
-        print(f'picklestep: {path} has the first {MOST:,} of {all_lines:,} opcodes', file=sys.stderr)
+    with naming(path), written_whole(path, 'utf-8') as file:
+        count, all_lines = write_report(document, file)
+    if count < all_lines:
+        print(f'picklestep: {shown(str(path))} has the first {MOST:,} of {all_lines:,} opcodes', file=sys.stderr)
     return 0
 
 
@@ -90,7 +103,7 @@ def _opened(options: argparse.Namespace) -> Document:
 
 def _do(options: argparse.Namespace) -> int:
     if options.export is not None and options.export.is_file() and not options.force:
-        raise FileExistsError(f'{options.export} is there; with --force it is written over')
+        raise PicklestepError(f'{shown(str(options.export))} is there; with --force it is written over')
     with contextlib.closing(_opened(options)) as document:
         if options.export is not None:
             return _export(document, options.export)
