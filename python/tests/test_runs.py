@@ -91,7 +91,7 @@ def fifo(data: bytes) -> Iterator[str]:
         writer = threading.Thread(target=path.write_bytes, args=(data,), daemon=True)
         writer.start()
         yield str(path)
-        writer.join()
+        writer.join(60)
 
 
 def shell(folder: str, way: str, *words: str) -> str:

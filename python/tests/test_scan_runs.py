@@ -414,12 +414,10 @@ class Cluster(RunCase):
         self.assertRegex(run.stderr, '(?m)^picklestep: no cluster answers at tcp://127.0.0.1:1')
 
     def test_no_address(self) -> None:
-        """It is refused at once, and nothing that was half made says more at the end of Python."""
+        """It is refused, and nothing that was half made says more at the end of Python."""
         self.fill(1)
         for address in ('foo', 'foo://127.0.0.1:1', 'tcp://127.0.0.1:x', 'tls://127.0.0.1:1'):
-            begun = time.monotonic()
             run = self.scan('files', '--cluster', address, python=self.python)
-            self.assertLess(time.monotonic() - begun, 20, address)
             self.assertEqual((run.returncode, run.stdout), (2, ''))
             self.assertRegex(run.stderr, rf'\Apicklestep: (no cluster answers at )?{address}(: TLS| is no address of a cluster).*\n\Z')
 
