@@ -15,7 +15,7 @@ from .comparing import Comparison, Difference, shown_value
 from .errors import NoResult, PicklestepError, reason
 from .python_source.command import print_text
 from .records import Reach
-from .sources import Source, kept
+from .sources import Source, rereadable
 from .tasks import calls, frames
 from .texts import unnumbered
 from .trees import Values, values
@@ -37,7 +37,7 @@ def main(arguments: List[str]) -> int:
     parser.add_argument('--unframed', action='store_true', help='take FRAME for an opcode like others, whose length nobody checks')
     options = parser.parse_args(arguments)
     try:
-        old, new = kept(options.old), kept(options.new)
+        old, new = rereadable(options.old), rereadable(options.new)
         comparison = Comparison(_values(options.old, old, options), _values(options.new, new, options))
         lines = [*map(str, comparison.of_results()), *of_reaches(old, new, options.unframed, comparison)]
         lines += [] if options.many else _of_what_is_behind(old, new, options.unframed)

@@ -11,9 +11,10 @@ from pathlib import Path
 from typing import IO, Any, Iterator, Optional, Union
 
 from .errors import PicklestepError
+from .sources import is_opened, opened_descriptor
 from .wording import shown
 
-__all__ = ['check_writable', 'naming', 'written_whole']
+__all__ = ['check_writable', 'naming', 'open_text', 'written_whole']
 
 
 @contextlib.contextmanager
@@ -51,14 +52,18 @@ def check_writable(path: str) -> None:
     else:
         # Only making it shows that the system takes this name there. (What a link leads to is made, as it will be.)
         target = os.path.realpath(path) if os.path.islink(path) else path
-        os.close(os.open(target, os.O_WRONLY | os.O_CREAT | os.O_EXCL, 0o600))
-        os.unlink(target)
+        try:
+            os.close(os.open(target, os.O_WRONLY | os.O_CREAT | os.O_EXCL, 0o600))
+        except FileExistsError:  # (somebody has made it meanwhile, or a link leads to itself)
+            os.close(os.open(path, os.O_WRONLY))
+        else:
+            os.unlink(target)
 
 
 @contextlib.contextmanager
 def written_whole(path: Path, encoding: Optional[str] = None) -> Iterator[IO[Any]]:
-    """A file, of text where it has an encoding, that gets its name when it is whole. A device or a pipe is written as it is, since it
-    cannot be replaced.
+    """A file, of text where it has an encoding, that gets its name when it is whole. What cannot be replaced is written as it is: a device, a
+    pipe, or what this process has open and has no name, or no longer one.
 
     >>> import tempfile
     >>> with tempfile.TemporaryDirectory() as folder:
@@ -69,11 +74,12 @@ def written_whole(path: Path, encoding: Optional[str] = None) -> Iterator[IO[Any
     (b'N.', 1)
     """
     kind = 'b' if encoding is None else ''
-    if path.exists() and not path.is_file():
+    target = Path(os.path.realpath(path))
+    if path.exists() and not _is_file_at(path, target):
         with open(path, f'w{kind}', encoding=encoding) as file:
             yield file
         return
-    path = Path(os.path.realpath(path))
+    path = target
     if path.exists():
         # (one that may not be written is not replaced)
         open(path, 'r+b').close()
@@ -90,6 +96,18 @@ def written_whole(path: Path, encoding: Optional[str] = None) -> Iterator[IO[Any
     except BaseException:
         beside.unlink()
         raise
+
+
+def _is_file_at(path: Path, target: Path) -> bool:
+    """Whether a path leads to a file of this name."""
+    return path.is_file() and target.exists() and target.samefile(path) and not is_opened(str(target), to_write=True)
+
+
+def open_text(path: str) -> IO[str]:
+    """Opens a file to write text into it. What this process has open is written from where it is: opened anew, it would be emptied."""
+    descriptor = opened_descriptor(path, to_write=True)
+    opened: Union[str, int] = path if descriptor is None else os.dup(descriptor)
+    return open(opened, 'w', encoding='utf-8', errors='backslashreplace')
 
 
 def _private(path: str, flags: int) -> int:

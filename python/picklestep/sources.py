@@ -2,6 +2,7 @@
 
 from __future__ import annotations
 
+import io
 import os
 import re
 import stat
@@ -11,8 +12,8 @@ from typing import Any, Iterator, Optional, Protocol, Sequence, Union
 from .errors import ProgramError
 from .place import find_program, is_module
 
-__all__ = ['LIMIT', 'Input', 'OwnFile', 'Source', 'content_of', 'is_opened', 'is_read_once', 'is_word', 'kept', 'opens_descriptors',
-           'small_content']
+__all__ = ['LIMIT', 'Input', 'OwnFile', 'Source', 'content_of', 'is_fifo', 'is_opened', 'is_read_once', 'is_word',
+           'opened_descriptor', 'opens_descriptors', 'rereadable', 'small_content']
 
 class Readable(Protocol):
     """A binary file object, as far as it is needed."""
@@ -30,8 +31,8 @@ LIMIT = 1 << 30
 
 _BLOCK = 1 << 20
 
-_OPENED = re.compile(r'/dev/(stdin|fd/[0-9]+)|/proc/self/fd/[0-9]+')
-_OPENED_TO_WRITE = re.compile(rf'/dev/std(out|err)|{_OPENED.pattern}')
+_STREAMS = {'/dev/stdin': 0, '/dev/stdout': 1, '/dev/stderr': 2}
+_OPENED = re.compile(r'(?:/dev|/proc/(?:self|thread-self|([0-9]+)(?:/task/[0-9]+)?))/fd/([0-9]+)')
 _MOST_LINKS = 40  # as Linux follows
 
 
@@ -69,7 +70,7 @@ class Input:
             _write_all(self._make(), memoryview(content))
 
     def _keep_file(self, path: str) -> None:
-        with open(path, 'rb', buffering=0) as file:
+        with _open(path) as file:
             _copy(file, self._make())
 
     def _make(self) -> int:
@@ -126,8 +127,8 @@ def content_of(source: Source) -> bytes:
     b'N.'
     """
     if isinstance(source, (str, os.PathLike)):
-        with open(source, 'rb') as file:
-            return file.read(LIMIT + 1)
+        with _open(os.fsdecode(source)) as file:
+            return b''.join(_blocks(file))
     content: Any = source
     return b''.join(_blocks(content)) if hasattr(content, 'read') else memoryview(content).tobytes()
 
@@ -139,15 +140,34 @@ def is_opened(path: str, to_write: bool = False) -> bool:
     >>> is_opened('/dev/stdin'), is_opened('/dev/fd/63'), is_opened('/dev/null'), is_opened('/dev/stdout', to_write=True)
     (True, True, False, True)
     """
-    opened = _OPENED_TO_WRITE if to_write else _OPENED
+    return opened_descriptor(path, to_write) is not None
+
+
+def opened_descriptor(path: str, to_write: bool = False) -> Optional[int]:
+    """The descriptor that such a path names, if it does.
+
+    >>> opened_descriptor('/dev/fd/63'), opened_descriptor('/dev/stdout'), opened_descriptor('/dev/stdout', to_write=True)
+    (63, None, 1)
+    """
     for _ in range(_MOST_LINKS):
         path = os.path.abspath(path)
-        if opened.fullmatch(path):
-            return True
+        stream = _STREAMS.get(path)
+        if stream is not None:
+            return stream if to_write or stream == 0 else None
+        folder, name = os.path.split(path)
+        # (a link may lead to the folder of them)
+        opened = _OPENED.fullmatch(path) or _OPENED.fullmatch(os.path.join(os.path.realpath(folder), name))
+        if opened and opened[1] in (None, str(os.getpid())):
+            return int(opened[2])
         if not os.path.islink(path):
-            return False
-        path = os.path.join(os.path.dirname(path), os.readlink(path))
-    return False
+            return None
+        path = os.path.join(folder, os.readlink(path))
+    return None
+
+
+def is_fifo(source: Source) -> bool:
+    """Whether a source is the path of a FIFO, which has to be opened to wait for its writer. Raises what `stat` raises."""
+    return isinstance(source, (str, os.PathLike)) and not is_opened(os.fsdecode(source)) and stat.S_ISFIFO(os.stat(source).st_mode)
 
 
 def is_read_once(source: Source) -> bool:
@@ -161,14 +181,25 @@ def is_read_once(source: Source) -> bool:
     return hasattr(source, 'read')
 
 
-def kept(source: Source) -> Source:
+def rereadable(source: Source) -> Source:
     """A source that can be read again and again: itself, or the bytes of one that is read once. Raises what `open` raises.
 
     >>> import io
-    >>> kept(io.BytesIO(b'N.')), kept('a.pickle')
+    >>> rereadable(io.BytesIO(b'N.')), rereadable('a.pickle')
     (b'N.', 'a.pickle')
     """
     return content_of(source) if is_read_once(source) else source
+
+
+def _open(path: str) -> 'io.FileIO':
+    """Opens a file. Of what this process was given closed there may be a descriptor in its place, which cannot be read."""
+    descriptor = opened_descriptor(path)
+    if descriptor is not None:
+        try:
+            os.read(descriptor, 0)
+        except OSError as error:
+            raise OSError(error.errno, error.strerror, path) from None
+    return open(path, 'rb', buffering=0)
 
 
 def _try(path: 'Union[str, os.PathLike[str]]') -> None:

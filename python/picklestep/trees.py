@@ -10,8 +10,9 @@ from _compat_pickle import IMPORT_MAPPING, NAME_MAPPING
 
 from .changes import changed
 from .errors import NoResult
+from .program import check_timeout
 from .records import Extension, Global, Name, Object, Ref
-from .sources import Source, kept
+from .sources import Source, is_fifo, rereadable
 from .tasks import calls, frames, objects
 from .values import PLAIN_KINDS, Argument, Unread, kind_value
 
@@ -183,7 +184,9 @@ def tree(pickle: Source, *, many: bool = False, unframed: bool = False, timeout:
 
 def values(pickle: Source, many: bool, unframed: bool, timeout: Optional[float], memory: Optional[int]) -> Tuple[Values, Any]:
     """The values of all objects, and what `tree` answers."""
-    pickle = kept(pickle)
+    check_timeout(timeout)
+    if timeout is None or not is_fifo(pickle):  # (with a timeout it is the program that waits for the writer of a FIFO)
+        pickle = rereadable(pickle)
     answer = objects(pickle, many=many, unframed=unframed, timeout=timeout, memory=memory)
     if not answer.end.is_stopped or not answer.results:
         raise NoResult(answer.end.text, answer.end.code in ('F6', 'F7', 'F8'))

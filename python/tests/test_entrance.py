@@ -178,6 +178,9 @@ class Streams(EntranceCase):
                 self.assertEqual(self.in_shell(way, 'mend cut.pkl <&- >&- 2>&-'), (2, '', ''))
                 self.assertEqual(self.in_shell(way, 'source none <&- 2>&-'), (2, '', ''))
                 self.assertEqual(self.in_shell(way, 'mend a.pkl <&- 2>&-'), (0, 'it is whole\n', ''))
+                for words in ('source /dev/stdin', 'mend /dev/fd/0', 'diff a.pkl /dev/stdin'):
+                    unread = f'picklestep: cannot read {words.split()[-1]}: Bad file descriptor\n'
+                    self.assertEqual(self.in_shell(way, f'{words} <&-'), (2, '', unread), words)
 
 
 class HostileFolders(EntranceCase):

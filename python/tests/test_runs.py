@@ -28,7 +28,7 @@ from picklestep import OutOfMemory, ProgramError, Session, TimedOut, TooLarge, e
 from picklestep import place
 from picklestep import program as running
 from picklestep.program import Process, find_program, seconds_of_programs, time_to_wait
-from picklestep.sources import Input, OwnFile
+from picklestep.sources import Input, OwnFile, is_opened
 from pickles import HOSTILE, LIST, chosen
 
 PACKAGE = Path(picklestep.__file__).resolve().parent.parent
@@ -216,6 +216,14 @@ class Opened(LeavesNothing):
                 said = shell(folder, way, '-m', 'picklestep', 'source', path).splitlines()
                 self.assertEqual(said[1:], ['from posix import system  # 0', "_3 = system('id')  # 23", 'result = _3'], (way, path))
 
+    def test_other_names_of_them(self) -> None:
+        with tempfile.TemporaryDirectory() as folder:
+            Path(folder, 'link').symlink_to('/dev/fd')
+            for path, wanted in ((f'{folder}/link/0', True), ('/proc/self/fd/0', os.path.isdir('/proc/self')), ('/dev/fd/0x', False),
+                                 ('/proc/thread-self/fd/0', os.path.isdir('/proc/self')), (f'/proc/{os.getpid()}/fd/0', True),
+                                 (f'/proc/{os.getppid()}/fd/0', False), (f'{folder}/fd/0', False)):
+                self.assertEqual(is_opened(path), wanted, path)
+
     def test_a_large_one(self) -> None:
         """It is not asked about in this process."""
         data = b'N' * (2 * library.MOST_BYTES) + b'.'
@@ -232,6 +240,14 @@ class Opened(LeavesNothing):
                 self.assertEqual(picklestep.tree(path), picklestep.Global(b'builtins', b'len'))
             with opened(b'N0.') as path:
                 self.assertEqual(picklestep.calls(path).end.offset, 2)
+
+    def test_a_fifo_without_a_writer(self) -> None:
+        with tempfile.TemporaryDirectory() as folder:
+            path = Path(folder, 'fifo')
+            os.mkfifo(path)
+            for ask in (picklestep.tree, picklestep.calls):
+                with self.assertRaises(TimedOut):
+                    ask(path, timeout=0.5)
 
 
 class Errors(LeavesNothing):

@@ -315,11 +315,22 @@ class Runs(RunCase):
         self.fill(1)
         (self.folder / 'link').symlink_to('new')
         os.mkfifo(self.folder / 'pipe')
-        with subprocess.Popen(['cat', 'pipe'], cwd=self.folder, stdout=subprocess.PIPE, text=True) as reader:
+        with subprocess.Popen(['timeout', '300', 'cat', 'pipe'], cwd=self.folder, stdout=subprocess.PIPE, text=True) as reader:
             self.assertEqual(self.scan('files', '--sarif', 'link', '--write-allow', 'pipe').stderr, '')
             assert reader.stdout is not None
             self.assertIn('posix.system', reader.stdout.read())
         self.assertTrue((self.folder / 'link').is_symlink() and json.loads((self.folder / 'new').read_text())['runs'])
+
+    @unittest.skipUnless(os.path.exists('/dev/stdout'), 'standard output has no name')
+    def test_standard_output_has_all(self) -> None:
+        """Opened anew, a file would be emptied."""
+        self.fill(1)
+        with open(self.folder / 'out', 'w') as out:
+            subprocess.run([sys.executable, '-m', 'picklestep', 'scan', 'files', '--brief', '--sarif', '/dev/stdout'], cwd=self.folder,
+                           env=environment(), stdout=out, timeout=300, check=False)
+        report, brace, rest = (self.folder / 'out').read_text().partition('{')
+        self.assertIn('1 import to look at', report)
+        self.assertTrue(json.loads(brace + rest)['runs'])
 
     def test_words_that_do_nothing_are_refused(self) -> None:
         self.fill(1)

@@ -8,6 +8,7 @@ import pickletools
 import random
 import struct
 import subprocess
+import sys
 import tempfile
 import threading
 import unittest
@@ -272,6 +273,23 @@ class Edits(unittest.TestCase):
             with open(file, 'wb') as opened:
                 session.save(f'/dev/fd/{opened.fileno()}')
             self.assertEqual(file.read_bytes(), b'N.')
+
+    @unittest.skipUnless(sys.platform == 'linux', 'the system has no names for files that were removed')
+    def test_saving_into_an_open_file_without_a_name(self) -> None:
+        """Another file may have what the system says in place of its name."""
+        with tempfile.TemporaryDirectory() as folder, Session(b'N.') as session:
+            path, other = Path(folder, 'file'), Path(folder, 'file (deleted)')
+            for rest in (b'', b'old and longer'):
+                with open(path, 'w+b') as removed, tempfile.TemporaryFile() as nameless:
+                    path.unlink()
+                    other.write_bytes(b'other')
+                    for opened in (removed, nameless):
+                        opened.write(rest)
+                        opened.flush()
+                        session.save(f'/dev/fd/{opened.fileno()}')
+                        opened.seek(0)
+                        self.assertEqual(opened.read(), b'N.')
+                self.assertEqual((os.listdir(folder), other.read_bytes()), ([other.name], b'other'))
 
     def test_saving_replaces_a_file_when_all_is_stored(self) -> None:
         """Also one whose name is not UTF-8, which the program is not given."""

@@ -14,7 +14,7 @@ from typing import Dict, Generator, Iterable, List, Optional, TextIO, Union
 
 from ..errors import PicklestepError
 from ..program import MOST_SECONDS, find_program
-from ..saving import check_writable, naming
+from ..saving import check_writable, naming, open_text
 from ..wording import shown
 from .allow import SETS, Used, read_names
 from .blobs import Limits
@@ -218,6 +218,7 @@ class _Output:
             for line in self.report.summary():
                 print(line, file=self.summary)
             self.summary.flush()
+            sys.stdout.flush()  # (one of the files may be standard output)
 
 
 def _leave() -> None:
@@ -226,7 +227,7 @@ def _leave() -> None:
 
 
 def _write(path: str, text: str) -> None:
-    with naming(path), open(path, 'w', encoding='utf-8', errors='backslashreplace') as file:
+    with naming(path), open_text(path) as file:
         file.write(text)
 
 
