@@ -550,9 +550,10 @@ def settles_before_it_renames(tried: saves.Saves) -> str:
 
 
 # What is tried of saves over the module too. (The others cut what Node writes for itself, or break what it calls by another name.)
-SAVED = (saves.keeps_modes, saves.obeys_the_mask, saves.keeps_the_owner, saves.follows_links, saves.follows_many_links, saves.goes_up_from_links,
-         saves.goes_round, saves.keeps_other_names, saves.takes_the_longest_name, saves.takes_other_folders, saves.refuses_names,
-         saves.writes_devices, saves.writes_standard_output, saves.writes_a_fifo, saves.fills_up, saves.may_not_write, saves.breaks_calls,
+SAVED = (saves.keeps_modes, saves.obeys_the_mask, saves.keeps_the_owner, saves.keeps_the_group, saves.follows_links,
+         saves.follows_many_links, saves.goes_up_from_links, saves.goes_round, saves.keeps_other_names, saves.takes_the_longest_name,
+         saves.takes_other_folders, saves.refuses_names, saves.refuses_links_that_are_no_text, saves.writes_devices,
+         saves.writes_standard_output, saves.writes_a_fifo, saves.fills_up, saves.may_not_write, saves.breaks_calls,
          saves.bears_an_unstored_folder, saves.fails_without_owner, saves.run_side_by_side, is_private_meanwhile, settles_before_it_renames)
 
 
