@@ -145,14 +145,21 @@ def obeys_the_mask(saves: Saves) -> str:
     return ""
 
 
+def begin_with_anothers(saves: Saves) -> pathlib.Path:
+    """`out` is there, of another owner and another group."""
+    saves.begin()
+    out = saves.room / "out"
+    out.write_bytes(OLD)
+    os.chown(out, 65534, 65533)
+    return out
+
+
 def keeps_the_owner(saves: Saves) -> str:
     if os.geteuid() != 0:
         return ""
-    saves.begin()
-    (saves.room / "out").write_bytes(OLD)
-    os.chown(saves.room / "out", 65534, 65533)
+    out = begin_with_anothers(saves)
     why = saves.stored(saves.save("out"), "out")
-    about = (saves.room / "out").stat()
+    about = out.stat()
     return why or ("" if (about.st_uid, about.st_gid) == (65534, 65533) else f"it belongs to {about.st_uid}, {about.st_gid}")
 
 
@@ -160,12 +167,10 @@ def keeps_the_group(saves: Saves) -> str:
     """The owner cannot be given, and the group can, since the run is in it."""
     if os.geteuid() != 0:
         return ""
-    saves.begin()
-    (saves.room / "out").write_bytes(OLD)
-    os.chown(saves.room / "out", 65534, 65533)
-    (saves.room / "out").chmod(0o664)
+    out = begin_with_anothers(saves)
+    out.chmod(0o664)
     why = saves.stored(saves.save("out", before=[*unprivileged(), "--groups=65533"]), "out")
-    about = (saves.room / "out").stat()
+    about = out.stat()
     found = (about.st_uid, about.st_gid, saves.mode_of("out"))
     return why or ("" if found == (0, 65533, 0o664) else f"it belongs to {found[0]}, {found[1]}, and the mode is {found[2]:o}")
 

@@ -70,7 +70,7 @@ class Input:
             _write_all(self._make(), memoryview(content))
 
     def _keep_file(self, path: str) -> None:
-        with _open(path) as file:
+        with _open_to_read(path) as file:
             _copy(file, self._make())
 
     def _make(self) -> int:
@@ -127,7 +127,7 @@ def content_of(source: Source) -> bytes:
     b'N.'
     """
     if isinstance(source, (str, os.PathLike)):
-        with _open(os.fsdecode(source)) as file:
+        with _open_to_read(os.fsdecode(source)) as file:
             return b''.join(_blocks(file))
     content: Any = source
     return b''.join(_blocks(content)) if hasattr(content, 'read') else memoryview(content).tobytes()
@@ -191,7 +191,7 @@ def rereadable(source: Source) -> Source:
     return content_of(source) if is_read_once(source) else source
 
 
-def _open(path: str) -> 'io.FileIO':
+def _open_to_read(path: str) -> io.FileIO:
     """Opens a file. Of what this process was given closed there may be a descriptor in its place, which cannot be read."""
     descriptor = opened_descriptor(path)
     if descriptor is not None:
