@@ -134,7 +134,7 @@ class Tables:
 def trials(root: Path) -> list[Trial]:
     tables = Tables(root)
     tried: list[tuple[str, str, Callable[[], str]]] = [
-        *((name, "script_tests/src/rows.rt", functools.partial(tables.fault_of_conversations, name)) for name in ("ONE", "SEVERAL")),
+        *((name, "script_tests/src/rows.rt", functools.partial(tables.fault_of_conversations, name)) for name in ("ONE", "FURTHER", "SEVERAL")),
         *((", ".join(rows.names), rows.file, functools.partial(tables.fault_of_bytes, rows)) for rows in ROWS),
         ("OPCODES", "unit_tests/src/machine/rows.rt", tables.fault_of_opcodes),
     ]

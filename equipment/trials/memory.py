@@ -65,14 +65,20 @@ TESTS = (
     ("unit_tests", "plain::opcodes::refused_memory"),
     ("unit_tests", "plain::lists::refused_memory"),
     ("script_tests", "texts::refused_memory"),
-    ("script_tests", "conversations::refused_memory"),
-    ("script_tests", "conversations::refused_memory_of_many"),
     ("document_tests", "document::refused_memory"),
     ("document_tests", "document::refused_memory_of_many"),
     ("unit_tests", "machine::refused_memory"),
     ("document_tests", "texts::refused_memory"),
 )
-# Real pickles under a script, with what is shown after each line written down before.
+# The same where notes of what is shown after each line are made before, with ample memory. A line to standard output says so.
+NOTED_TESTS = (
+    ("script_tests", "conversations::refused_memory"),
+    ("script_tests", "conversations::refused_memory_of_further"),
+    ("script_tests", "conversations::refused_memory_of_many"),
+    ("script_tests", "conversations::refused_memory_of_one_as_many"),
+    ("script_tests", "conversations::refused_memory_of_further_as_many"),
+)
+# Real pickles under a script, with notes of the same kind.
 SCRIPTS = ("sklearn_tree_protocol_4", "sklearn_pipeline_protocol_4", "sklearn_encoder_protocol_0")
 # Two tests of a crate that ask for memory as often, and so what the second does besides asks for none.
 ALIKE = (
@@ -163,8 +169,8 @@ class Memory:
         self.room.requests += refused
         return Noted(why, f", with {refused} requests refused in turn")
 
-    def of_test(self, crate: str, test: str) -> Noted:
-        return self.each(TEST_ENDS, False, self.room.built(crate, f"{crate}_tests"), test)
+    def of_test(self, crate: str, test: str, is_behind: bool) -> Noted:
+        return self.each(TEST_ENDS, is_behind, self.room.built(crate, f"{crate}_tests"), test)
 
     def of_script(self, pickle: str) -> Noted:
         """Requests before the first text, which open the document, pass."""
@@ -191,7 +197,11 @@ def trials(room: Room) -> list[Trial]:
     memory = Memory(room)
     commands = [Trial(command.name, functools.partial(memory.tried_once, command)) for command in COMMANDS]
     commands.insert(1, Trial("the line of out of memory", memory.line_is_written))
-    tests = [Trial(f"test {crate} {test}", functools.partial(memory.of_test, crate, test)) for crate, test in TESTS]
+    tests = [
+        Trial(f"test {crate} {test}", functools.partial(memory.of_test, crate, test, is_behind))
+        for rows, is_behind in ((TESTS, False), (NOTED_TESTS, True))
+        for crate, test in rows
+    ]
     scripts = [Trial(f"a script over {pickle}", functools.partial(memory.of_script, pickle)) for pickle in SCRIPTS]
     alike = [Trial(name, functools.partial(memory.ask_alike, crate, tests)) for name, crate, tests in ALIKE]
     return commands + tests + scripts + alike

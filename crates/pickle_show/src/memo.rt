@@ -84,6 +84,6 @@ pub fn write_memo<S: Page>(machine: &Machine, page: &mut S) -> Result<(), Failed
     ensures { Writes (S.told page.old) (S.told page.new) result (memo_text machine.now.state.memo) }
 {
     write_all(page, b"memo")?;
-    write_entries(machine.memo_entries(), page)?;
+    write_entries(machine.memo_map(), page)?;
     write_all(page, b"\n")
 }

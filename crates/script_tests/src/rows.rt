@@ -124,3 +124,40 @@ pub const SEVERAL: [(&[u8], &[u8]); 9] = [
         b"goto 3\ninsert 3 NONE\nbreak 2\ngoto 1\ninsert 1 EMPTY_LIST\nrun\nundo\ngoto 1\nundo\nrun\n",
     ),
 ];
+
+/// Further conversations over one pickle, of kinds that those above have not.
+pub const FURTHER: [(&[u8], &[u8]); 14] = [
+    (DUMP, b"run\nstack\nmemo\nwhere\n"),
+    // no byte at all
+    (b"", b"step\nback\n"),
+    // frames that lie
+    (
+        b"\x95\x0b\x00\x00\x00\x00\x00\x00\x00N\x95\x00\x00\x00\x00\x00\x00\x00\x00.",
+        b"unframe 0\n",
+    ),
+    (
+        b"\x95\x02\x00\x00\x00\x00\x00\x00\x00NK\x01.",
+        b"unframe 0\ninsert 2 NONE\n",
+    ),
+    // a call
+    (b"cos\ngetcwd\n)R.", b"run\nshow 2\n"),
+    // a protocol and an extension that there are not
+    (b"\x80\x06N.", b"step\n"),
+    (b"\x82\x00.", b"step\n"),
+    // lines that are malformed
+    (
+        b"N.",
+        b"fly\ngoto\ngoto x\ninsert 0 NOPE\ninsert 0 BININT1 0\nstep 1\ninsert 0 BININT1\n\
+          insert 0 BININT1 0102\ninsert 0 STOP\ninsert 2 NONE\ninsert 3 NONE\nshow 0\n",
+    ),
+    // an opcode that finds too little on the stack, and the way back
+    (b"N00.", b"step\nstep\nstep\nback\nback\nback\n"),
+    // all items
+    (b"K\x01K\x02\x86q\x00.", b"goto 1\nbreak 3\nitems\n"),
+    // an argument of lines
+    (b".", b"insert 0 GLOBAL 6F730a780A\nstep\nitems\n"),
+    // places by their offsets
+    (DUMP, b"goto @11\nwhere\nbreak @13\ngoto @14\ngoto @17\n"),
+    (DUMP, b"replace @13 BININT2 0100\ngoto @15\ngoto @16\n"),
+    (DUMP, b"goto @\nshow @0\nframe @0 @4\n"),
+];

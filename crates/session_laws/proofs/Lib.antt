@@ -12,3 +12,8 @@ pub mod Arguments
 pub mod ObjectLines
 pub mod Says
 pub mod Letters
+pub mod Outlines
+pub mod OneOutline
+pub mod Reachings
+pub mod ShownLines
+pub mod Walked

@@ -40,7 +40,7 @@ use Rattle.session_laws.proofs.Lacks.{lacks, first_holds, second_holds, lacks_jo
 -- ---- a line
 
 -- no byte of a text is a newline
-abbrev Within : List ℕ → Type 0
+abbrev pub Within : List ℕ → Type 0
 Within text = lacks 10 text ≡ true
 
 no_newline : (x : ℕ) → not (x == 10) ≡ true → x ≢ 10
@@ -53,14 +53,14 @@ has_none (x ∷ text) h = (no_newline x (first_holds (not (x == 10)) (lacks 10 t
 same_end : (text : List ℕ) → (text ++ 10 ∷ []) ++ [] ≡ text ++ 10 ∷ []
 same_end text = append_assoc text (10 ∷ []) []
 
-is_line : (text : List ℕ) → Within text → IsOneLine (text ⧺ newline)
+pub is_line : (text : List ℕ) → Within text → IsOneLine (text ⧺ newline)
 unfolding ◌⧺◌
 is_line text h = (text, record { whole = same_end text; lines = (has_none text h, tt); rest = tt })
 
-join : (a b : List ℕ) → Within a → Within b → Within (a ⧺ b)
+pub join : (a b : List ℕ) → Within a → Within b → Within (a ⧺ b)
 join a b p q = lacks_join 10 a b p q
 
-number : (n : ℕ) → Within (decimal n)
+pub number : (n : ℕ) → Within (decimal n)
 number n = lacks_decimal 10 n newline_no_digit
 
 -- ---- refusals and faults
@@ -323,7 +323,7 @@ kind_within (kind.Ext n) = join (codes "ext ") (signed_decimal n) refl (lacks_si
 kind_within (kind.Buffer n) = join (codes "buffer ") (decimal n) refl (number n)
 kind_within kind.ReadOnly = refl
 
-next_within : (id : ℕ) → Within (next_text id)
+pub next_within : (id : ℕ) → Within (next_text id)
 unfolding next_text
 next_within id = join (codes " ") (id_text id) refl (id_within id)
 
@@ -343,7 +343,7 @@ change_within (change.SetItem key value) =
 change_within (change.Add id) = join (codes " &") (id_text id) refl (id_within id)
 change_within (change.Build id) = join (codes " !") (id_text id) refl (id_within id)
 
-object_within : (id : ℕ) (o : Object) → Within (object_text id o)
+pub object_within : (id : ℕ) (o : Object) → Within (object_text id o)
 unfolding object_text
 object_within id o =
     join (id_text id ⧺ codes " " ⧺ kind_text o.kind ⧺ parts_text o.parts) (each change_text o.changes)

@@ -42,7 +42,7 @@ is_line text h = record {
 }
 
 -- a text that is cut into lines, whatever is behind it
-abbrev Cuts : List ℕ → List (List ℕ) → Type 0
+abbrev pub Cuts : List ℕ → List (List ℕ) → Type 0
 Cuts text ls = (rest : List ℕ) → cut_lines (text ++ rest) ≡ ls ++ cut_lines rest
 
 cuts_join : (a b : List ℕ) (ls ms : List (List ℕ)) → Cuts a ls → Cuts b ms → Cuts (a ⧺ b) (ls ++ ms)
@@ -50,7 +50,7 @@ unfolding ◌⧺◌
 cuts_join a b ls ms p q rest =
     ap cut_lines (append_assoc a b rest) ∙ p (b ++ rest) ∙ ap (λ (t : List (List ℕ)). ls ++ t) (q rest) ∙ sym (append_assoc ls ms (cut_lines rest))
 
-cuts_one : (text : List ℕ) → IsOneLine text → Cuts text (text ∷ [])
+pub cuts_one : (text : List ℕ) → IsOneLine text → Cuts text (text ∷ [])
 cuts_one text h rest = cut_line text rest (is_line text h)
 
 cuts_any : (text : List ℕ) → HasLine text → Cuts text (if_any text)
@@ -60,7 +60,7 @@ cut_nothing : cut_lines [] ≡ []
 unfolding cut_lines
 cut_nothing = refl
 
-whole : (text : List ℕ) (ls : List (List ℕ)) → Cuts text ls → cut_lines text ≡ ls
+pub whole : (text : List ℕ) (ls : List (List ℕ)) → Cuts text ls → cut_lines text ≡ ls
 whole text ls p = ap cut_lines (sym (append-nil text)) ∙ p [] ∙ ap (λ (t : List (List ℕ)). ls ++ t) cut_nothing ∙ append-nil ls
 
 -- ---- the items of a listing

@@ -3,3 +3,4 @@ pub mod Transcripts
 pub mod Saved
 pub mod Edits
 pub mod Lines
+pub mod Reached

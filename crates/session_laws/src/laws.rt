@@ -4,6 +4,7 @@ ghost use Rattle.std.specs.Prelude.{◌≡◌, None, OnOk};
 ghost use Rattle.pickle_doc.specs.Edit.{edit_fault, edit_place};
 ghost use Rattle.session_laws.specs.Edits.{ShowSame};
 ghost use Rattle.session_laws.specs.Lines.{PiecesAreLines, TextsAreLines, LinesApart, ItemLineSays, ObjectLineSays};
+ghost use Rattle.session_laws.specs.Reached.{ShowsReached};
 ghost use Rattle.session_laws.specs.Saved.{IsSavedWhole};
 ghost use Rattle.session_laws.specs.Transcripts.{OneTranscript, OneOpening};
 
@@ -66,4 +67,10 @@ pub fn item_line_says()
 /// The line of an object says its number, its kind, its parts and what was done to it.
 pub fn object_line_says()
     ensures { ObjectLineSays }
+{}
+
+/// What `show` prints of an object is its outline, the only one there is: each object that can be reached from it, in full on the first of
+/// its lines, and under that, one deeper, its parts and then what was put into it, in order. The other lines are short, with nothing under them.
+pub fn shows_reached()
+    ensures { ShowsReached }
 {}

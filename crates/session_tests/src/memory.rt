@@ -3,12 +3,11 @@
 
 ghost use Rattle.std.specs.Prelude.{◌≡◌, []};
 
-use crate::runs::{Stop, bytes_at, bytes_of};
-use pickle_doc::Edit;
+use crate::runs::{Stop, bytes_at};
 use pickle_ops::{OpFault, Opcode, op_of};
 use pickle_session::{Command, Fault, Past, Reply, Session, Whole, Window};
 use std::alloc::Global;
-use test_equipment::{paper, shows, taken, write_session};
+use test_equipment::{Note, is_noted};
 
 /// The commands: to the end, half way back, an edit ahead, to the end again, to the start, and the edit undone.
 const COMMANDS: usize = 6;
@@ -17,7 +16,7 @@ const COMMANDS: usize = 6;
 fn command(alloc: Global, k: usize, len: usize) -> Result<Command, OpFault> {
     Ok(match k {
         1 => Command::Goto(len / 2),
-        2 => Command::Edit(Edit::Insert(len / 2, op_of(alloc, Opcode::BinInt2, b"\x01\x00")?)),
+        2 => Command::insert(len / 2, op_of(alloc, Opcode::BinInt2, b"\x01\x00")?),
         4 => Command::Goto(0),
         5 => Command::Undo,
         _ => Command::Run,
@@ -32,50 +31,39 @@ fn insist_on_command(alloc: Global, k: usize, len: usize) -> Result<Command, Sto
     }
 }
 
-/// What is shown after a command, and the reply to it.
+/// The reply to a command, and the note of the session then.
 #[derive(Drop)]
-struct Note {
+struct Told {
     reply: Option<Reply>,
-    shown: Vec<u8>,
-    bytes: Vec<u8>,
-    kept: usize,
+    note: Note,
 }
 
-/// What a session shows.
-fn note_of<P: Past>(
+/// What a session shows, and what it replied.
+fn told_by<P: Past>(
     alloc: Global,
     session: &Session<P>,
     reply: Option<Reply>,
-) -> Result<Note, Stop> {
-    let mut shown = paper(alloc)?;
-    write_session(session, &mut shown)?;
-    Ok(Note {
-        reply,
-        shown: taken(shown)?,
-        bytes: bytes_of(alloc, session)?,
-        kept: session.kept(),
-    })
+) -> Result<Told, Stop> {
+    let note = Note::of(alloc, session).ok_or(Stop::Room)?;
+    Ok(Told { reply, note })
 }
 
 /// What a session shows at first and after each command.
-fn note_down<P: Past>(alloc: Global, session: &mut Session<P>) -> Result<Vec<Note>, Stop> {
+fn note_down<P: Past>(alloc: Global, session: &mut Session<P>) -> Result<Vec<Told>, Stop> {
     let len = session.document().len();
     let mut notes = Vec::new(alloc);
-    notes.push(note_of(alloc, session, None)?)?;
+    notes.push(told_by(alloc, session, None)?)?;
     for k in 0..COMMANDS {
         let command = command(alloc, k, len)?;
         let reply = session.obey(alloc, &command);
-        notes.push(note_of(alloc, session, Some(reply))?)?;
+        notes.push(told_by(alloc, session, Some(reply))?)?;
     }
     Ok(notes)
 }
 
-/// Whether a session shows what a note says. It takes no memory.
-fn is_noted<P: Past>(session: &Session<P>, note: Option<&Note>) -> bool {
-    match note {
-        Some(note) => session.kept() == note.kept && shows(session, &note.shown, &note.bytes),
-        None => false,
-    }
+/// The note of what was told.
+fn noted(told: Option<&Told>) -> Option<&Note> {
+    told.map(|told| &told.note)
 }
 
 /// Whether a command may be answered by out of memory: one that goes forward or edits, and one that goes back further
@@ -97,21 +85,21 @@ fn differs_at(k: usize) -> Stop {
 fn obey_noted<P: Past>(
     alloc: Global,
     session: &mut Session<P>,
-    notes: &[Note],
+    notes: &[Told],
     k: usize,
 ) -> Result<(), Stop> {
     let command = insist_on_command(alloc, k, session.document().len())?;
     let may_lack = may_lack(session, k);
     let mut reply = session.obey(alloc, &command);
     if reply == Reply::Refused(Fault::Memory) {
-        if !may_lack || !is_noted(session, notes.get(k)) {
+        if !may_lack || !is_noted(session, noted(notes.get(k))) {
             return Err(differs_at(k));
         }
         reply = session.obey(alloc, &command);
     }
-    let note = notes.get(k.saturating_add(1));
-    let wanted = note.and_then(|note| note.reply);
-    if wanted == Some(reply) && is_noted(session, note) {
+    let told = notes.get(k.saturating_add(1));
+    let wanted = told.and_then(|told| told.reply);
+    if wanted == Some(reply) && is_noted(session, noted(told)) {
         Ok(())
     } else {
         Err(differs_at(k))
@@ -119,8 +107,8 @@ fn obey_noted<P: Past>(
 }
 
 /// Obeys all commands, and compares what is shown with the notes.
-fn follow<P: Past>(alloc: Global, session: &mut Session<P>, notes: &[Note]) -> Result<(), Stop> {
-    if !is_noted(session, notes.first()) {
+fn follow<P: Past>(alloc: Global, session: &mut Session<P>, notes: &[Told]) -> Result<(), Stop> {
+    if !is_noted(session, noted(notes.first())) {
         return Err(Stop::Differs(0));
     }
     for k in 0..COMMANDS {

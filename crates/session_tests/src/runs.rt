@@ -4,7 +4,7 @@
 ghost use Rattle.std.specs.Prelude.{◌≡◌, []};
 
 use crate::memory::try_memory;
-use pickle_doc::{DocFault, Edit, LIMIT};
+use pickle_doc::{DocFault, LIMIT};
 use pickle_io::{Failed, ToWrite};
 use pickle_machine::Machine;
 use pickle_ops::{Op, OpFault, Opcode, op_of};
@@ -86,9 +86,9 @@ fn plain_command(number: usize, place: usize, ahead: usize, count: usize) -> Com
         3 => Command::Run,
         4 => Command::Break(place),
         5 => Command::Clear(place),
-        6 => Command::Edit(Edit::Delete(place)),
-        7 => Command::Edit(Edit::Frame(place, count)),
-        8 => Command::Edit(Edit::Unframe(ahead)),
+        6 => Command::delete(place),
+        7 => Command::frame(place, count),
+        8 => Command::unframe(ahead),
         9 => Command::Undo,
         10 => Command::Redo,
         _ => Command::Step,
@@ -112,15 +112,15 @@ fn any_command(
     let ahead = cursor.saturating_add(chance.below(4));
     let count = chance.below(5);
     match chance.below(16) {
-        13 => Ok(Command::Edit(Edit::Replace(place, any_op(alloc, chance)?))),
-        14 => Ok(Command::Edit(Edit::Insert(place, any_op(alloc, chance)?))),
-        15 => Ok(Command::Edit(Edit::Insert(ahead, any_op(alloc, chance)?))),
+        13 => Ok(Command::replace(place, any_op(alloc, chance)?)),
+        14 => Ok(Command::insert(place, any_op(alloc, chance)?)),
+        15 => Ok(Command::insert(ahead, any_op(alloc, chance)?)),
         number => Ok(plain_command(number, place, ahead, count)),
     }
 }
 
 /// The bytes of a session's document.
-pub fn bytes_of<P: Past>(alloc: Global, session: &Session<P>) -> Result<Vec<u8>, Stop> {
+fn bytes_of<P: Past>(alloc: Global, session: &Session<P>) -> Result<Vec<u8>, Stop> {
     let mut sink = ToWrite::new(Vec::new(alloc));
     session.document().write_bytes(&mut sink)?;
     Ok(sink.into_inner())

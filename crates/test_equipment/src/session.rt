@@ -1,8 +1,10 @@
-//! What a session shows as a text, by its readers.
+//! What a session shows as a text, by its readers, and notes of it.
 
+use crate::pages::{paper, taken};
 use crate::state::{Comparison, write_state};
-use pickle_io::{Failed, Page, write_all, write_decimal};
+use pickle_io::{Failed, Page, ToWrite, write_all, write_decimal};
 use pickle_session::{Past, Session};
+use std::alloc::Global;
 
 /// Writes a blank and a number.
 fn write_number<S: Page>(number: usize, page: &mut S) -> Result<(), Failed> {
@@ -54,4 +56,35 @@ pub fn shows<P: Past>(session: &Session<P>, shown: &[u8], bytes: &[u8]) -> bool 
         && is_written
         && compared.is_whole()
         && written.is_whole()
+}
+
+/// What a session shows, with its bytes and the number of records that it keeps, written down to be compared with what it shows later.
+#[derive(Drop)]
+pub struct Note {
+    shown: Vec<u8>,
+    bytes: Vec<u8>,
+    kept: usize,
+}
+
+impl Note {
+    /// The note of a session as it is; none where memory runs out.
+    pub fn of<P: Past>(alloc: Global, session: &Session<P>) -> Option<Note> {
+        let mut shown = paper(alloc).ok()?;
+        write_session(session, &mut shown).ok()?;
+        let mut bytes = ToWrite::new(Vec::new(alloc));
+        session.document().write_bytes(&mut bytes).ok()?;
+        Some(Note {
+            shown: taken(shown).ok()?,
+            bytes: bytes.into_inner(),
+            kept: session.kept(),
+        })
+    }
+}
+
+/// Whether a session is as a note says; no session is where there is none. It takes no memory.
+pub fn is_noted<P: Past>(session: &Session<P>, note: Option<&Note>) -> bool {
+    match note {
+        Some(note) => session.kept() == note.kept && shows(session, &note.shown, &note.bytes),
+        None => false,
+    }
 }

@@ -199,7 +199,7 @@ fn write_memo<S: Page>(machine: &Machine, page: &mut S) -> Result<(), Failed> {
     if machine.memo_len() > 0 {
         write_all(page, b"; memo")?;
     }
-    let (slots, map) = machine.memo_entries().parts();
+    let (slots, map) = machine.memo_map().parts();
     for key in 0..slots.len() {
         if let Some(id) = slots[key] {
             write_entry(machine, key as u64, id, page)?;
@@ -234,7 +234,7 @@ fn ends(machine: &Machine) -> bool {
     machine.object(past).is_none()
         && machine.stack_at(machine.stack_len()).is_none()
         && machine.mark(machine.marks_len()).is_none()
-        && machine.memo_entries().len() == machine.memo_len()
+        && machine.memo_map().len() == machine.memo_len()
         && machine.memo(u64::MAX).is_none()
 }
 

@@ -5,7 +5,7 @@ ghost use Rattle.std.specs.Prelude.{◌≡◌, []};
 mod script;
 
 use crate::session::script::{Counts, Given, command, open_whole, open_window};
-use pickle_doc::{Edit, End};
+use pickle_doc::End;
 use pickle_machine::Refusal;
 use pickle_ops::Opcode;
 use pickle_session::{Command, Fault, Past, Reply, Session, Whole, Why};
@@ -329,7 +329,7 @@ fn has_bytes<P: Past>(session: &Session<P>, bytes: &[u8]) -> bool {
 fn undone_and_made_again_a_thousand_times(rt: HostRuntime) -> Result<(), Fail> {
     let less: &[u8] = b"\x80\x04\x95\x05\x00\x00\x00\x00\x00\x00\x00]K\x01a.";
     let mut session = Session::open(rt.alloc(), Whole::new(rt.alloc()), DUMP)?;
-    let reply = session.obey(rt.alloc(), &Command::Edit(Edit::Delete(3)));
+    let reply = session.obey(rt.alloc(), &Command::delete(3));
     assert_eq!(rt; reply, Reply::Edited(3));
     for k in 0..1000 {
         assert!(rt; has_bytes(&session, less), "turn {k}");

@@ -1,6 +1,6 @@
 //! Commands as rows of tables, and sessions that obey them.
 
-use pickle_doc::{DocFault, Edit};
+use pickle_doc::DocFault;
 use pickle_ops::{OpFault, Opcode, op_of};
 use pickle_session::{Command, Reply, Session, Whole, Window};
 use std::alloc::Global;
@@ -30,10 +30,8 @@ pub fn command(alloc: Global, given: Given) -> Result<Command, OpFault> {
         Given::Run => Command::Run,
         Given::Goto(k) => Command::Goto(k),
         Given::Clear(k) => Command::Clear(k),
-        Given::Insert(k, opcode, arg) => {
-            Command::Edit(Edit::Insert(k, op_of(alloc, opcode, arg)?))
-        }
-        Given::Delete(k) => Command::Edit(Edit::Delete(k)),
+        Given::Insert(k, opcode, arg) => Command::insert(k, op_of(alloc, opcode, arg)?),
+        Given::Delete(k) => Command::delete(k),
         Given::Undo => Command::Undo,
         Given::Redo => Command::Redo,
     })

@@ -9,11 +9,11 @@ use Rattle.pickle_session.proofs.way.Walker.back.Goals as goal
 
 pub unstep-requires-clause-possible : goal.unstep-requires-clause-possible
 unstep-requires-clause-possible g c =
-    last_possible _ _ c.loop-self.self.place _ _ _ _ (omega (arith, c.loop-self-test.true)) c.loop-self.invariant.stands.trail c.unwrap-step.ensures c.pop.ensures.records
+    last_possible _ _ c.loop-self.self.place _ _ _ _ (omega (arith, c.loop-self-test.true)) c.loop-self.invariant.stands.trail c.unwrap-step.ensures c.last.ensures.records
 
 pub unstep-requires-clause-fits : goal.unstep-requires-clause-fits
 unstep-requires-clause-fits g c =
-    last_fits _ _ c.loop-self.self.place _ _ _ _ (omega (arith, c.loop-self-test.true)) c.loop-self.invariant.stands.trail c.unwrap-step.ensures c.pop.ensures.records
+    last_fits _ _ c.loop-self.self.place _ _ _ _ (omega (arith, c.loop-self-test.true)) c.loop-self.invariant.stands.trail c.unwrap-step.ensures c.last.ensures.records
 
 some_copied : {A B : Type 0} (f : A → B) (x : Option A) (b : B) → option_map f x ≡ Some b → IsSome x
 some_copied f None b e = absurd cc
@@ -39,8 +39,8 @@ loop-self-preserved g c =
     let i = c.loop-self.invariant in
     let place = c.loop-self.self.place in
     let d = c.args.document.now.contents in
-    let len = last_length _ _ _ _ c.unwrap-step.ensures c.pop.ensures.records in
-    let one : length (option_to_list c.pop.result) ≡ 1 = rw c.unwrap-step.ensures refl in
+    let len = last_length _ _ _ _ c.unwrap-step.ensures c.last.ensures.records in
+    let one : length (option_to_list c.last.result) ≡ 1 = rw c.unwrap-step.ensures refl in
     let there : item_at d (place - 1) ≡ Some c.unwrap.result.now = sym (rw c.unwrap.ensures at c.item.ensures) in
     let next : (place - 1) + 1 ≡ place = omega (arith, h) in
     let more = rw next at (size_more d (place - 1) c.unwrap.result.now there) in
@@ -48,7 +48,7 @@ loop-self-preserved g c =
       low = omega (arith, h);
       high = omega (arith, i.high);
       stands = record {
-        trail = last_back _ _ _ place _ _ _ _ (omega (arith, h)) i.stands.trail c.unwrap-step.ensures c.pop.ensures.records (rw c.unstep.ensures.after refl) (rw c.unstep.ensures.after (record { cells = omega arith; marks = omega arith }));
+        trail = last_back _ _ _ place _ _ _ _ (omega (arith, h)) i.stands.trail c.unwrap-step.ensures c.last.ensures.records (rw c.unstep.ensures.after refl) (rw c.unstep.ensures.after (record { cells = omega arith; marks = omega arith }));
         offset = omega (arith, more, c.size.ensures, i.stands.offset);
       };
       went = record {
@@ -58,6 +58,6 @@ loop-self-preserved g c =
       still = λ e. absurd (omega (arith, e, i.high, h));
       was = λ l. fits_still _ _ _ place c.args.self.now.place i.high i.still i.was c.unstep.ensures.room (rw c.unstep.ensures.after (record { cells = omega arith; marks = omega arith }));
       records = omega (arith, len, i.records, i.high, h);
-      limit = c.pop.ensures.limit ∙ i.limit;
-      room = omega (arith, c.pop.ensures.room, one, i.room, i.high, h);
+      limit = c.last.ensures.limit ∙ i.limit;
+      room = omega (arith, c.last.ensures.room, one, i.room, i.high, h);
     }
