@@ -39,7 +39,6 @@ NAMED = {
     "equipment/fuzz.py": {"STEP", "F1", "F3", "F7"},
     "equipment/count_calls.py": set(),
     "equipment/real_pickles/answers.py": {"F2", "S3"},
-    "python/picklestep/scan/begins.py": {"HEAD", "SURE", "ZF", "MAY_BE_KNOWN"},
     "python/picklestep/scan/canonical/pickles.py": set(),
     "python/picklestep/scan/canonical/wide.py": set(),
     "python/picklestep/scan/stores/walk.py": {"CHECKSUM", "MOST"},

@@ -19,7 +19,7 @@ import sys
 import warnings
 from pathlib import Path
 from types import ModuleType
-from typing import Any, Iterator, Set
+from typing import Any, Iterator, Set, Tuple
 
 import numpy
 import sklearn
@@ -124,11 +124,11 @@ def used(name: str) -> str:
     return ' call' if has_own else ' new'
 
 
-def write(name: str, head: str, names: Set[str], note: str) -> None:
-    """Writes a set."""
+def write(name: str, head: str, needed: Tuple[str, ...], names: Set[str], note: str) -> None:
+    """Writes a set, which includes the sets that it needs."""
     entries = [f'{each}:{used(each)}' for each in sorted(names)]
     width = max(map(len, entries))
-    lines = [f'# {line}' for line in head.splitlines()] + [f'{each:{width}}  # {note}' for each in entries]
+    lines = [f'# {line}' for line in head.splitlines()] + [f'include {each}' for each in needed] + [f'{each:{width}}  # {note}' for each in entries]
     (FOLDER / f'{name}.txt').write_text('\n'.join(lines) + '\n')
     print(f'{name}: {len(names)} names')
 
@@ -137,15 +137,15 @@ def main() -> None:
     warnings.simplefilter('ignore')
     made_by = 'Made by tools/make_allow.py, and read over.'
     write('torch-modules', f'The classes of torch.nn.modules ({torch.__version__}): whole models are pickled with them. Their code runs\n'
-          f'when a model is used. Use it with the set torch. {made_by}',
+          f'when a model is used. {made_by}', ('torch',),
           classes_of(importlib.import_module('torch.nn.modules'), torch.nn.Module) | {f'torch.nn.functional.{name}' for name in FUNCTIONS},
           'layer, or a function that one has')
     kernels = classes_of(sklearn.gaussian_process, sklearn.gaussian_process.kernels.Kernel)
     estimators = classes_of(sklearn, BaseEstimator)
     fitted = fitted_names()
     print('in other sets:', *sorted(name for name in fitted if not name.startswith('sklearn.')))
-    write('sklearn', f'All estimators of scikit-learn ({sklearn.__version__}), and what fitted ones hold. Use it with the sets numpy, scipy and plain.\n'
-          f'{made_by} Other versions may have other names.',
+    write('sklearn', f'All estimators of scikit-learn ({sklearn.__version__}), and what fitted ones hold. joblib dumps many of them.\n'
+          f'{made_by} Other versions may have other names.', ('scipy', 'joblib'),
           kernels | estimators | parts() | {name for name in fitted if name.startswith('sklearn.')}, 'model, or a part of one')
 
 

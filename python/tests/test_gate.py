@@ -157,9 +157,9 @@ class Files(ScanCase):
         fields = dict(re.findall(r'^[- ] (\w+): (.*)$', text, re.MULTILINE))
         self.assertEqual((fields['id'], fields['language']), ('picklestep', 'script'))
         entry, *words = shlex.split(fields['entry']) + re.findall(r"'(.*?)'", fields['args'])
-        pattern = re.compile(shlex.split(fields['files'])[0])
-        for name, fits in (('a.pkl', True), ('models/b.pt', True), ('c.joblib.gz', True), ('d.py', False), ('e.pkl.py', False)):
-            self.assertEqual(pattern.search(name) is not None, fits, name)
+        # (By default pre-commit hands over what `files` and `types` have: all files, since a pickle may have any name.)
+        self.assertNotIn('files', fields)
+        self.assertEqual(fields['types'], '[file]')
         self.file('a.pkl', HARMLESS)
         self.file('b.pkl', HOSTILE)
         self.file('--write-allow=c.pkl', HARMLESS)

@@ -2,20 +2,24 @@
 
 from __future__ import annotations
 
+import base64
 import bz2
 import gzip
 import io
+import json
 import tarfile
 import unittest
 import zipfile
 from typing import Dict, List
 
 import picklestep
-from picklestep.scan import Judge, look
+from picklestep.scan import Judge, Options, look
 from picklestep.scan.known import known_names
 from picklestep.scan.looking import look_at_bytes
 from picklestep.scan.names import Names
 from scan_support import HARMLESS, HOSTILE, MODELS, ScanCase
+
+DATA = MODELS.parent
 
 
 def text(value: str) -> bytes:
@@ -103,6 +107,19 @@ class Hostile(ScanCase):
                 looks = list(Judge().looks(self.look(f'{name}.bin', content)))
                 self.assertTrue([each for each in looks if each.rule in ('known', 'worked-out')], looks)
 
+    def test_names_that_are_not_dotted(self) -> None:
+        """Python imports from a folder whatever it is named: `lib-dynload` is beside the standard library. Such a name is marked wherever it stands."""
+        pickles = (b'\x80\x04' + by_text('lib-dynload._ctypes', 'dlopen', 'libc.so.6') + b'.', called('lib-dynload._ctypes', 'dlopen', 'libc.so.6') + b'.')
+        for number, content in enumerate(pickles):
+            values = {'in a file': content, 'behind four bytes': b'\xfe\xdc\xba\x98' + content,
+                      'in JSON': json.dumps({'body': base64.b64encode(content).decode()}).encode(), 'everywhere': bytes(range(256)) * 8 + content + b'\xff' * 99}
+            for name, value in values.items():
+                result = look_at_bytes('a.bin', value, Options(everywhere=name == 'everywhere'))
+                for judge, why in ((Judge(), 'no dotted name'), (Judge(Names(['collections.*'])), 'not allowed')):
+                    with self.subTest(name, number=number, why=why):
+                        told = [look.text for look in judge.looks(result)]
+                        self.assertTrue([text for text in told if text.startswith("import 'lib-dynload._ctypes' 'dlopen' once") and why in text], told)
+
     def test_padding_behind_a_pickle_hides_nothing(self) -> None:
         for content in (HARMLESS + bytes(64) + SHELL, HARMLESS + SHELL, b'N.' * 64 + SHELL):
             looks = list(Judge().looks(self.look('a.pkl', content)))
@@ -158,6 +175,12 @@ class TheList(unittest.TestCase):
         self.assertGreaterEqual(len(notes), 150)
         self.assertTrue(all(notes))
 
+    def test_names_that_were_seen_to_run_something(self) -> None:
+        """Names that a call of was seen or read to run, load, write or reach what it is given; one of each module, where that is all of it."""
+        for name in (DATA / 'names_that_run.txt').read_text().split():
+            with self.subTest(name):
+                self.assertIsNotNone(known_names().note(name))
+
     def test_names_of_protocol_2(self) -> None:
         for name in ('__builtin__.eval', 'cPickle.loads', 'commands.getoutput', 'urllib2.urlopen', '__builtin__.reduce', 'itertools.imap'):
             module, _, attribute = name.rpartition('.')
@@ -206,9 +229,9 @@ class Checked(ScanCase):
                 picklestep.check(content)
             self.assertTrue(caught.exception.lines)
         with self.assertRaises(picklestep.NotAllowed) as caught:
-            picklestep.check(self.file('a.pkl', HARMLESS), allow=['torch-modules'])
+            picklestep.check(self.file('a.pkl', HARMLESS), names=['posix.*'])
         self.assertEqual(caught.exception.lines[0],
-                         f'{self.folder}/a.pkl: import collections.OrderedDict once, first at 2: not allowed')
+                         f'{self.folder}/a.pkl: import collections.OrderedDict once, first at 2: not allowed: is in sets plain, torch')
         with self.assertRaises(FileNotFoundError):
             picklestep.check('/not/there')
         with self.assertRaises(FileNotFoundError):

@@ -79,7 +79,8 @@ class RealFiles(ScanCase):
     def test_storages_are_no_pickles(self) -> None:
         with zipfile.ZipFile(MODELS / 'torch_checkpoint.pth') as archive:
             others = [name for name in archive.namelist() if not name.endswith('data.pkl')]
-        result = look(str(MODELS / 'torch_checkpoint.pth'))
+        result = look(MODELS / 'torch_checkpoint.pth')
+        self.assertEqual(result, look(str(MODELS / 'torch_checkpoint.pth')))
         self.assertEqual(places_of(result), ['archive/data.pkl'])
         self.assertEqual(result.others, len(others))
 

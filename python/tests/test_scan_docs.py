@@ -13,7 +13,6 @@ from typing import Iterator, List, Tuple
 from scan_support import HARMLESS, HOSTILE, MODELS, ScanCase, environment
 
 PAGE = Path(__file__).resolve().parents[2] / 'docs' / 'SCAN.md'
-EXPECTED = 'collections.OrderedDict\ntorch._utils.*          # tensors\ntorch.*Storage          # kinds of numbers\n'
 
 
 def examples() -> Iterator[Tuple[str, str]]:
@@ -36,7 +35,6 @@ class Examples(ScanCase):
         for name in ('torch_state.pt', 'sklearn_forest.pkl', 'numpy_objects.npy', 'joblib_arrays.joblib'):
             shutil.copy(MODELS / name, self.folder)
         self.file('hostile.pkl', HOSTILE)
-        self.file('expected.txt', EXPECTED.encode())
         self.file('models/a.pt', (MODELS / 'torch_state.pt').read_bytes())
         self.file('models/b.pkl', HARMLESS)
         self.file('models/c.pkl', HOSTILE)

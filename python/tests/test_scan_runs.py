@@ -3,6 +3,7 @@
 from __future__ import annotations
 
 import errno
+import hashlib
 import io
 import json
 import os
@@ -20,7 +21,7 @@ import unittest.mock
 from collections import OrderedDict
 from contextlib import redirect_stderr, redirect_stdout
 from pathlib import Path
-from typing import Callable, Dict, Iterator, List
+from typing import Callable, Dict, Iterator, List, Tuple
 
 from pickles import chosen
 from picklestep.program import find_program
@@ -195,6 +196,36 @@ class Runs(RunCase):
         run = self.scan('files', '--json', '--resume', 'log')
         self.assertEqual([json.loads(line)['path'] for line in run.stdout.splitlines()], [f'files/{names[2]}'])
         self.assertEqual(self.scan('files', '--resume', 'no_such_log').returncode, 2)
+
+    def test_files_of_one_tick_that_change_places(self) -> None:
+        """Their sizes and times are the same, and no inode changes where their folders are renamed."""
+        def times(name: str) -> Tuple[int, int]:
+            state = os.stat(self.folder / name / 'a.pkl')
+            return state.st_mtime_ns, state.st_ctime_ns
+        for _ in range(500):
+            self.file('one/a.pkl', HOSTILE)
+            self.file('other/a.pkl', HOSTILE.replace(b'posix', b'poxis'))
+            for name in ('one', 'other'):
+                os.utime(self.folder / name / 'a.pkl', (1, 1))
+            if times('one') == times('other'):
+                break
+        else:
+            self.skipTest('the clock of this file system is too fine')
+        self.file('log', self.scan('other', '--json').stdout.encode())
+        for name, new in (('one', 'kept'), ('other', 'one'), ('kept', 'other')):
+            os.rename(self.folder / name, self.folder / new)
+        run = self.scan('other', '--json', '--resume', 'log')
+        self.assertEqual(run.returncode, 1)
+        self.assertEqual([look['name'] for look in json.loads(run.stdout)['looks']], ['posix.system'])
+
+    def test_other_bytes_in_the_same_file(self) -> None:
+        self.file('a.pkl', HARMLESS)
+        log = self.scan('a.pkl', '--json').stdout
+        self.assertEqual(json.loads(log)['sha256'], hashlib.sha256(HARMLESS).hexdigest())
+        self.file('log', log.encode())
+        self.assertEqual(self.scan('a.pkl', '--json', '--resume', 'log').stdout, '')
+        self.file('log', log.replace(hashlib.sha256(HARMLESS).hexdigest(), hashlib.sha256(HOSTILE).hexdigest()).encode())
+        self.assertEqual(len(self.scan('a.pkl', '--json', '--resume', 'log').stdout.splitlines()), 1)
 
     def test_a_log_that_is_none(self) -> None:
         """Its lines count as not there."""

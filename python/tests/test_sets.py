@@ -15,18 +15,25 @@ from picklestep.scan.allow import SETS, read_names
 from picklestep.scan.known import known_names
 from evasions import NO_PARTS, kind, long
 from real_files import KEPT, MODULES
-from scan_support import ScanCase, python_with
+from scan_support import MODELS, ScanCase, python_with
 
 WRITER = Path(__file__).resolve().parent / 'real_files.py'
-# The sets that the files of each library need.
-NEEDED: Dict[str, Tuple[str, ...]] = {
-    'plain': ('plain',), 'numpy': ('numpy', 'plain'), 'scipy': ('scipy', 'numpy', 'plain'), 'pandas': ('pandas', 'numpy', 'plain'),
-    'sklearn': ('sklearn', 'scipy', 'numpy', 'plain'), 'torch': ('torch', 'torch-modules'), 'joblib': ('joblib', 'sklearn', 'numpy', 'plain'),
-    'xgboost': ('xgboost', 'numpy', 'plain'), 'networkx': ('networkx', 'plain'), 'xarray': ('xarray', 'pandas', 'numpy', 'plain'),
-    'transformers': ('torch', 'numpy', 'plain'), 'lightning': ('torch', 'plain')}
+# Each set alone is enough for the files of its library, since it includes what it needs. Whole models, and models that joblib dumps, have sets
+# of their own: their files, by how their names begin.
+LIBRARIES = ('plain', 'numpy', 'scipy', 'pandas', 'sklearn', 'torch', 'joblib', 'xgboost', 'networkx', 'xarray', 'transformers', 'lightning')
+MODELS_OF: Dict[str, Tuple[str, Tuple[str, ...]]] = {
+    'torch': ('torch-modules', ('module_', 'torch_module')), 'joblib': ('sklearn', ('model.', 'all.'))}
 # No package of the machine has these. What torch alone writes of them is among the real files; files with the documented names of their
 # settings are made here.
-BY_NAMES = {'transformers': ('transformers', 'torch', 'plain'), 'lightning': ('lightning', 'torch', 'plain')}
+BY_NAMES = ('transformers', 'lightning')
+# It holds code, which no set allows.
+SCRIPT = 'torch_script.pt'
+
+
+def set_for(library: str, file: str) -> str:
+    """The set that is to be enough for a file of a library."""
+    other, beginnings = MODELS_OF.get(library, (library, ()))
+    return other if file.startswith(beginnings) else library
 
 
 class Names(unittest.TestCase):
@@ -39,14 +46,14 @@ class Names(unittest.TestCase):
 
     def test_each_name_is_whole_and_has_a_reason(self) -> None:
         for word in SETS:
-            names = read_names([word])
+            names = read_names([word], with_needed=False)
             self.assertEqual(names.patterns, [], word)
             self.assertTrue(names.names)
             for name, note in names.names.items():
                 self.assertTrue(note, f'{word}: {name}')
 
     def test_each_set_is_tried(self) -> None:
-        self.assertEqual({word for words in [*NEEDED.values(), *BY_NAMES.values()] for word in words}, set(SETS))
+        self.assertEqual({*LIBRARIES, *(word for word, _ in MODELS_OF.values())}, set(SETS))
 
 
 class Kinds(ScanCase):
@@ -84,54 +91,63 @@ class Kinds(ScanCase):
 class RealFiles(ScanCase):
     """Files that libraries wrote: kept ones, and what those of this machine write."""
 
-    def tried(self, library: str, sets: Tuple[str, ...]) -> None:
-        """Looks at the files in the folder."""
-        judge = Judge(read_names(sets))
+    def tried(self, library: str) -> None:
+        """Looks at the files in the folder, each with one set alone."""
         files = sorted(self.folder.iterdir())
         for file in files:
-            looks = [each.lines for each in judge.looks(look(str(file)))]
-            self.assertEqual(looks, [], f'{library}: {file.name}')
+            word = set_for(library, file.name)
+            looks = [each.lines for each in Judge(read_names([word])).looks(look(str(file)))]
+            self.assertEqual(looks, [], f'{word}: {file.name}')
         self.assertGreaterEqual(len(files), 10)
 
-    def kept(self, library: str, sets: Tuple[str, ...]) -> None:
+    def kept(self, library: str) -> None:
         """Looks at the files of a library that are kept."""
         with tarfile.open(KEPT / f'{library}.tar.xz') as archive:
             for member in archive:
                 content = archive.extractfile(member)
                 assert content is not None
                 self.file(member.name, content.read())
-        self.tried(library, sets)
+        self.tried(library)
 
-    def written(self, library: str, sets: Tuple[str, ...]) -> None:
+    def written(self, library: str) -> None:
         """Looks at what a library of this machine writes."""
         python = sys.executable if library == 'plain' else python_with(MODULES.get(library, library))
         if python is None:
             self.skipTest(f'{library} is not installed; its kept files are looked at')
         subprocess.run([python, str(WRITER), str(self.folder), library], check=True, timeout=900, cwd=tempfile.gettempdir())
-        self.tried(library, sets)
+        self.tried(library)
 
     def test_all_are_kept(self) -> None:
-        self.assertEqual({path.name.partition('.')[0] for path in KEPT.iterdir()}, set(NEEDED) - {'plain'})
+        self.assertEqual({path.name.partition('.')[0] for path in KEPT.iterdir()}, set(LIBRARIES) - {'plain'})
         self.assertLess(sum(path.stat().st_size for path in KEPT.iterdir()), 300_000)
 
 
-def _add(library: str, sets: Tuple[str, ...]) -> None:
-    setattr(RealFiles, f'test_{library}', lambda self: self.written(library, sets))
+    def test_model_files(self) -> None:
+        """Those of the tests, with one set alone."""
+        for file in sorted(MODELS.iterdir()):
+            if file.name not in ('WRITTEN_BY.txt', SCRIPT):
+                word = set_for(file.name.partition('_')[0], file.name)
+                looks = [each.lines for each in Judge(read_names([word])).looks(look(str(file)))]
+                self.assertEqual(looks, [], f'{word}: {file.name}')
+
+
+def _add(library: str) -> None:
+    setattr(RealFiles, f'test_{library}', lambda self: self.written(library))
     if library != 'plain':  # (the standard library is on each machine)
-        setattr(RealFiles, f'test_{library}_kept', lambda self: self.kept(library, sets))
+        setattr(RealFiles, f'test_{library}_kept', lambda self: self.kept(library))
 
 
-for _library, _sets in NEEDED.items():
-    _add(_library, _sets)
+for _library in LIBRARIES:
+    _add(_library)
 
 
 class ByNames(ScanCase):
     """Files that hold the documented names of libraries which no package has."""
 
     def test_each_name(self) -> None:
-        for library, sets in BY_NAMES.items():
-            judge = Judge(read_names(sets))
-            names = read_names([library])
+        for library in BY_NAMES:
+            judge = Judge(read_names([library]))
+            names = read_names([library], with_needed=False)
             self.assertGreaterEqual(len(names.names), 10)
             for number, name in enumerate(names.names):
                 module, _, attribute = name.rpartition('.')

@@ -1,17 +1,19 @@
-"""Which imports a team allows: sets that come with the package, and files of its own."""
+"""Which imports a team allows: sets that come with the package, and files of its own, with the lists that these include."""
 
 from __future__ import annotations
 
-from dataclasses import dataclass, field
+import errno
+import io
+import os
+from dataclasses import dataclass
+from functools import lru_cache
 from pathlib import Path
-from typing import Dict, Iterable, Iterator, List, Set
+from typing import Dict, Iterable, Iterator, List, Optional, Set, Tuple
 
-from .known import known_names
-from .names import Names, words_for
-from .results import Result
-from .wording import count_of, place_of, shown, times
+from .names import Line, Names, NoList, nearest, read_line
+from .wording import shown
 
-__all__ = ['SETS', 'Used', 'read_lines', 'read_names']
+__all__ = ['SETS', 'lines_of', 'read_lines', 'read_names', 'sets_with']
 
 _FOLDER = Path(__file__).resolve().parent / 'allow'
 
@@ -19,60 +21,97 @@ _FOLDER = Path(__file__).resolve().parent / 'allow'
 SETS = tuple(sorted(path.stem for path in _FOLDER.glob('*.txt')))
 
 
-def read_lines(words: Iterable[str]) -> List[str]:
-    """The lines of the given sets and files. A word that names a set means the set; `./torch` means a file of that name."""
+@dataclass(frozen=True)
+class _Wanted:
+    """A list that is wanted, by the name of a set or a file. One that another list includes has the file of that, and the place there."""
+
+    word: str
+    by: Optional[Path] = None
+    place: str = ''
+
+    @property
+    def is_set(self) -> bool:
+        return self.word in SETS
+
+    @property
+    def path(self) -> Path:
+        """Its file. That of an included list is looked for beside the one that includes it."""
+        if self.is_set:
+            return _FOLDER / f'{self.word}.txt'
+        return Path(self.word) if self.by is None else self.by.parent / self.word
+
+    def content(self) -> bytes:
+        """What stands in the file. Raises OSError where it cannot be read, with the nearest set where there is none of this name."""
+        try:
+            return self.path.read_bytes()
+        except OSError as error:
+            near = nearest(self.word, 'set', SETS) if isinstance(error, FileNotFoundError) else ''
+            if self.by is not None:
+                raise NoList(f'{self.place}: cannot include {shown(self.word)}: {error.strerror}{near}') from error
+            if not near:
+                raise
+            raise FileNotFoundError(errno.ENOENT, f'{error.strerror}{near}', self.word) from None
+
+
+def lines_of(content: bytes, path: str) -> Iterator[Tuple[str, str, Optional[Line]]]:
+    """The lines of a list: where each is, its text, and what it says. Raises NoList with the place of one that has no meaning."""
+    try:
+        text = content.decode('utf-8-sig')
+    except UnicodeDecodeError as error:
+        raise NoList(f'{_place(path, content.count(10, 0, error.start) + 1)}: no text in UTF-8') from error
+    # (as editors count lines: no other sign ends one, so a comment goes on to the end of what is seen as a line)
+    for number, line in enumerate(io.StringIO(text, newline=None), 1):
+        place = _place(path, number)
+        try:
+            yield place, line.rstrip('\n'), read_line(line)
+        except NoList as error:
+            raise NoList(f'{place}: {error}') from error
+
+
+def _place(path: str, number: int) -> str:
+    return f'{shown(path)}, line {number}'
+
+
+def read_lines(words: Iterable[str], with_needed: bool = True) -> List[str]:
+    """The lines of the given sets and files, and of the lists that these include, each list once. A word that names a set means the set;
+    `./torch` means a file of that name. `with_needed` is unset where a set means its own names, without those of the sets that it needs.
+
+    Raises OSError where a file cannot be read, and NoList where one is no list.
+    """
     lines: List[str] = []
-    for word in words:
-        path = _FOLDER / f'{word}.txt' if word in SETS else Path(word)
-        lines.extend(path.read_text(encoding='utf-8').splitlines())
+    taken: Set[str] = set()
+    waiting = [_Wanted(word) for word in words]
+    for wanted in waiting:  # (what is included is added meanwhile)
+        path = wanted.path
+        if os.path.realpath(path) in taken:
+            continue
+        taken.add(os.path.realpath(path))
+        for place, text, line in lines_of(wanted.content(), wanted.word if wanted.by is None else str(path)):
+            if line is not None and not line.is_include:
+                lines.append(text)
+            elif line is not None and (with_needed or not wanted.is_set):
+                waiting.append(_Wanted(line.name, path, place))
     return lines
 
 
-def read_names(words: Iterable[str]) -> Names:
-    """What the given sets and files have together. Raises OSError where a file cannot be read, and UnicodeDecodeError where it is no text."""
-    return Names(read_lines(words))
+def read_names(words: Iterable[str], with_needed: bool = True) -> Names:
+    """What the given sets and files have together, as `read_lines` reads them."""
+    return Names(read_lines(words, with_needed))
 
 
-@dataclass
-class _Use:
-    count: int = 0
-    pickles: int = 0
-    first: str = ''
-    done: Set[str] = field(default_factory=set)
+@lru_cache(maxsize=None)
+def _sets_by_name() -> Dict[str, List[str]]:
+    found: Dict[str, List[str]] = {}
+    for word in SETS:
+        for name in read_names([word], with_needed=False).names:
+            found.setdefault(name, []).append(word)
+    return found
 
 
-class Used:
-    """The names that files import, as the lines of a list: sorted, with what is done with each, a count and an example.
+def sets_with(name: str) -> List[str]:
+    """The sets of the package that have a name, by a line of their own.
 
-    A name that is known to run what it is given stands there as a comment, as does one that would be read as a pattern: who means it to be
-    allowed takes the `#` away.
+    >>> sets_with('numpy.ndarray'), sets_with('posix.system')
+    (['numpy'], [])
     """
-
-    def __init__(self) -> None:
-        self._uses: Dict[str, _Use] = {}
-
-    def add(self, result: Result) -> None:
-        """Counts what a file imports."""
-        for pickle in result.pickles:
-            place = place_of(result.path, pickle.where)
-            for found in pickle.imports:
-                use = self._uses.setdefault(found.name, _Use())
-                use.count += found.count
-                use.pickles += 1
-                use.first = min(use.first or place, place)
-            for done in pickle.calls:
-                if done.name in self._uses:
-                    self._uses[done.name].done.add(done.what)
-
-    def lines(self) -> Iterator[str]:
-        """The lines of the list."""
-        for name, use in sorted(self._uses.items()):
-            note = f'{times(use.count)} in {count_of(use.pickles, "pickle")}, first in {use.first}'
-            why = known_names().note(name)
-            entry = shown(name) + words_for(use.done)
-            if why is not None or name.startswith('#') or '*' in name:
-                yield f'# {entry}  # {why + "; " if why else ""}{note}'
-            elif name.startswith("'"):  # (behind such a name there can be no note)
-                yield from (f'# {note}', entry)
-            else:
-                yield f'{entry}  # {note}'
+    return _sets_by_name().get(name, [])

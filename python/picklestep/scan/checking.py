@@ -3,13 +3,16 @@
 from __future__ import annotations
 
 import os
-from typing import Iterable, List
+from typing import Iterable, Iterator, List, Optional
 
 from ..errors import NotAllowed
 from ..sources import Readable, Source
 from .allow import read_lines
 from .begins import HEAD, is_pickle_name
-from .containers import kind_of
+from .blobs import BytesBlob
+from .canonical.kinds import kinds_of
+from .canonical.wide import reach_of
+from .containers import LOADERS, Container
 from .looking import Options, look_at_bytes
 from .looks import Judge
 from .names import Names
@@ -18,28 +21,50 @@ from .wording import place_of
 __all__ = ['check']
 
 
-def check(source: Source, *, allow: Iterable[str] = (), names: Iterable[str] = (), options: Options = Options()) -> bytes:
+def check(source: Source, *, allow: Iterable[str] = (), names: Iterable[str] = (), loader: Optional[str] = None,
+          options: Options = Options()) -> bytes:
     """The bytes of a source, where nothing in them is marked. Who wants to load it loads these bytes: a file may change.
 
+    `loader` says what loads them: 'pickle', 'torch', 'joblib', 'numpy' or 'pandas'. A container that it does not open is refused, so that for
+    'pickle' all are. Without it they are to be fit for each: what opens a container, and what takes its bytes themselves for a pickle.
+
     `allow` has sets and files as `scan --allow` takes them, `names` names and patterns; without both only names that are known to run what
-    they are given are refused. `options` has the limits. Raises NotAllowed with a line for each look; OSError where a file cannot be read.
+    they are given are refused. `options` has the limits. Raises NotAllowed with a line for each look; OSError where a file cannot be read,
+    NoList where a line of a list has no meaning, and ValueError for another loader.
 
     >>> check(b'\\x80\\x02ccollections\\nOrderedDict\\n)R.', names=['collections.OrderedDict'])
     b'\\x80\\x02ccollections\\nOrderedDict\\n)R.'
     """
+    if loader is not None and loader not in LOADERS:
+        raise ValueError(f'{loader!r} is no loader: there are {", ".join(LOADERS)}')
     content, name = _content(source)
-    allowed = [*read_lines([allow] if isinstance(allow, str) else allow), *([names] if isinstance(names, str) else names)]
-    kind = kind_of(content[:HEAD])
-    # (by this name it is read as a pickle whatever it begins with)
-    result = look_at_bytes(name if is_pickle_name(name) else f'{name}.pkl', content, options)
+    words, lines_given = ([given] if isinstance(given, str) else list(given) for given in (allow, names))
+    # (a list without a name allows none)
+    allowed = Names([*read_lines(words), *lines_given]) if words or lines_given else None
+    kinds = list(kinds_of(BytesBlob(content), content[:HEAD]))
+    # (By this name it is read as a pickle whatever it begins with. torch.load opens all kinds of files that are named so.)
+    result = look_at_bytes(name if is_pickle_name(name) else f'{name}.pt', content, options)
     lines: List[str] = []
-    for look in Judge(Names(allowed) if allowed else None).looks(result):
+    for look in Judge(allowed).looks(result):
         lines.extend(f'{place_of(name, look.where)}: {line}' for line in look.lines)
-    if not kind and not result.pickles:
+    lines.extend(f'{place_of(name, ())}: {line}' for line in _in_containers(content, kinds, loader))
+    if not kinds and not result.pickles:
         lines.append(f'{place_of(name, ())}: no pickle is found in it')
     if lines:
         raise NotAllowed(lines)
     return content
+
+
+def _in_containers(content: bytes, kinds: List[Container], loader: Optional[str]) -> Iterator[str]:
+    """Why a container is not fit for the loader, or for one that takes its bytes for a pickle."""
+    if not kinds:
+        return
+    said = ' or '.join(map(str, kinds))
+    if loader is not None and not all(loader in kind.loaders for kind in kinds):
+        yield f'it is {said}, which {loader} does not open'
+    reach, _ = reach_of(BytesBlob(content))
+    if reach is not None:
+        yield f'it is {said}, and as a pickle it leads a loader to {reach.what} at {reach.offset}'
 
 
 def _content(source: Source) -> 'tuple[bytes, str]':

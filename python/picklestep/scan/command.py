@@ -16,11 +16,11 @@ from ..errors import PicklestepError
 from ..program import MOST_SECONDS, find_program
 from ..saving import check_writable, naming, open_text
 from ..wording import shown
-from .allow import SETS, Used, read_names
+from .allow import SETS, read_names
 from .blobs import Limits
 from .cluster import NoCluster, look_on_cluster
 from .files import NoNames, find_files
-from .looking import Options, look
+from .looking import Options, is_unchanged, is_url, look
 from .looks import Judge
 from .pool import look_at_all
 from .progress import with_progress
@@ -30,6 +30,7 @@ from .sarif import Sarif
 from .stores.address import Address, is_server
 from .stores.follow import follow
 from .stores.server import NoServer, Task, Wanted, tasks, total_of
+from .written import Used, check_list, write_list
 
 __all__ = ['main']
 
@@ -63,45 +64,48 @@ def _positive(text: str) -> int:
 def _parser(fewest: str = '+') -> argparse.ArgumentParser:
     """The options and names. `fewest` is how many names there are to be, as argparse has it."""
     parser = argparse.ArgumentParser(
-        prog='picklestep scan', description='Shows what the pickles in files import and call. Nothing of them is run or loaded.',
-        epilog='Status: 0; 1 if there is a line to look at first (it begins with !); 2 if it could not begin or write; 130 after Ctrl-C; '
-               '141 if its reader left. Neither ! nor its absence is a verdict.')
+        prog='picklestep scan', description='Prints what the pickles in files import and call, with ! before what to look at first. Nothing of them is run '
+                                           'or loaded.',
+        epilog='Status: 0 if nothing is marked; 1 if something is marked with !; 2 if it could not begin, or not write; 130 after Ctrl-C; 141 if '
+               'whoever read the output has left. Good files have marks too, and a file without a mark may still do harm.')
     parser.add_argument('paths', metavar='PATH', nargs=fewest,
                         help='a file, a folder, a server (redis://, memcached://, postgresql://, mysql://), a URL for fsspec, or - for names on '
                              'standard input')
     _add_lists(parser)
-    parser.add_argument('--json', action='store_true', help='one object a line and file; the summary goes to standard error')
-    parser.add_argument('--sarif', metavar='FILE', help='write what to look at as SARIF 2.1.0 too')
-    parser.add_argument('--brief', action='store_true', help='only lines to look at, and the summary')
-    parser.add_argument('--lines', action='store_true', help="each pickle with all of the program's lines")
-    parser.add_argument('--full', action='store_true', help='arguments in full: whole texts, and all parts of a tuple')
+    parser.add_argument('--json', action='store_true', help='print a line of JSON for each file, and the summary on standard error')
+    parser.add_argument('--sarif', metavar='FILE', help='also write what is marked to FILE, as SARIF 2.1.0')
+    parser.add_argument('--brief', action='store_true', help='print only what is marked, and the summary')
+    parser.add_argument('--lines', action='store_true', help="print all lines of the program about each pickle")
+    parser.add_argument('--full', action='store_true', help='print whole arguments: texts are not cut, nor tuples')
     parser.add_argument('--everywhere', action='store_true',
-                        help='try each offset at which a pickle may begin, texts that stand for bytes, and what pickles hold')
-    parser.add_argument('--jobs', metavar='N', type=_positive, default=1, help='files at once')
-    parser.add_argument('--cluster', metavar='ADDRESS', help='hand the files to the Dask cluster at this address')
-    parser.add_argument('--resume', metavar='LOG', help='leave out what an earlier --json run has in this file')
-    parser.add_argument('--match', metavar='PATTERN', help='only keys of a server that match')
-    parser.add_argument('--sample', metavar='N', type=_positive, help='only so many keys of a server, in the order in which it lists them')
-    parser.add_argument('--follow', action='store_true', help='look at new values of a Redis server as they come, a line of JSON each')
-    parser.add_argument('--null', action='store_true', help='names on standard input end in a NUL byte')
+                        help='look for pickles at each offset of a file, in texts that stand for bytes, and inside of the texts and bytes of pickles')
+    parser.add_argument('--jobs', metavar='N', type=_positive, default=1, help='look at N files at once')
+    parser.add_argument('--cluster', metavar='ADDRESS', help='let the Dask cluster at this address look at the files')
+    parser.add_argument('--resume', metavar='LOG', help='leave out the files that an earlier run with --json wrote to LOG')
+    parser.add_argument('--match', metavar='PATTERN', help='look only at keys of a server that match')
+    parser.add_argument('--sample', metavar='N', type=_positive, help='look only at the first N keys that a server lists')
+    parser.add_argument('--follow', action='store_true', help='look at new values of a Redis server as they come, and print a line of JSON for each')
+    parser.add_argument('--null', action='store_true', help='each name on standard input ends in a NUL byte')
     limits = Limits()
-    parser.add_argument('--max-bytes', metavar='N', type=_bytes, default=limits.unpacked, help='unpacked bytes of a file (1G)')
-    parser.add_argument('--max-members', metavar='N', type=_positive, default=limits.members, help='members of a file (100000)')
-    parser.add_argument('--max-depth', metavar='N', type=_positive, default=limits.depth, help='containers one in another (4)')
+    parser.add_argument('--max-bytes', metavar='N', type=_bytes, default=limits.unpacked, help='unpack at most N bytes of a file (1G)')
+    parser.add_argument('--max-members', metavar='N', type=_positive, default=limits.members, help='look at N members of a file at most (100000)')
+    parser.add_argument('--max-depth', metavar='N', type=_positive, default=limits.depth, help='open containers in one another to this depth (4)')
     parser.add_argument('--max-seconds', metavar='N', type=_positive, default=limits.seconds,
-                        help='seconds of processor time for a file (60)')
-    parser.add_argument('--max-memory', metavar='N', type=_bytes, default=limits.memory, help='memory of all processes for a file (1G)')
+                        help='take at most N seconds of processor time for a file (60)')
+    parser.add_argument('--max-memory', metavar='N', type=_bytes, default=limits.memory, help='let all processes take at most N bytes of memory for a file (1G)')
     parser.add_argument('--max-lines', metavar='N', type=_positive, default=limits.lines,
-                        help='lines of the answers about a file (10000000)')
+                        help='read at most N lines of the answers about a file (10000000)')
     return parser
 
 
 def _add_lists(parser: argparse.ArgumentParser) -> None:
     parser.add_argument('--allow', metavar='FILE', action='append', default=[],
-                        help=f'only the names in FILE, one a line, may be imported; or one of the sets {", ".join(SETS)}')
-    parser.add_argument('--deny', metavar='FILE', action='append', default=[], help='mark the names in FILE, also where they are allowed')
-    parser.add_argument('--no-known', action='store_true', help='do not mark names that are known to run what they are given')
-    parser.add_argument('--write-allow', metavar='FILE', help='write the names that these files import, as a list for --allow')
+                        help='mark each import that the list FILE does not allow. FILE may also be one of the sets '
+                             f'{", ".join(SETS)}. Several lists allow together what each of them allows')
+    parser.add_argument('--deny', metavar='FILE', action='append', default=[], help='mark the names of the list FILE, even if they are allowed')
+    parser.add_argument('--no-known', action='store_true', help='do not mark names for being known to run what they are given')
+    parser.add_argument('--write-allow', metavar='FILE',
+                        help='write a list for --allow with the names that these files import. If FILE is there, add to it the names that it lacks')
 
 
 def _parsed(words: List[str]) -> argparse.Namespace:
@@ -147,16 +151,17 @@ def _end_cut_line(log: str, out: TextIO) -> None:
 
 def _is_same(path: str, earlier: Result) -> bool:
     """Whether a file is still the one that was looked at. That of a URL is taken to be."""
-    try:
-        state = os.stat(path)
-    except OSError:
+    if is_url(path):
         return True
-    return (state.st_size, state.st_mtime_ns, state.st_ctime_ns) == (earlier.size, earlier.modified, earlier.changed)
+    try:
+        return is_unchanged(path, earlier)
+    except OSError:
+        return False
 
 
 def _options(words: argparse.Namespace) -> Options:
     limits = Limits(words.max_bytes, words.max_members, words.max_depth, min(words.max_seconds, MOST_SECONDS), words.max_memory, words.max_lines)
-    return Options(limits, words.lines, words.everywhere, words.full)
+    return Options(limits, words.lines, words.everywhere, words.full, words.json)
 
 
 def _results(words: argparse.Namespace, paths: Iterable[Union[str, Task]]) -> Generator[Result, None, None]:
@@ -167,18 +172,22 @@ def _results(words: argparse.Namespace, paths: Iterable[Union[str, Task]]) -> Ge
 
 
 def _judge(words: argparse.Namespace) -> Judge:
-    return Judge(read_names(words.allow) if words.allow else None, read_names(words.deny), not words.no_known)
+    return Judge(read_names(words.allow) if words.allow else None, read_names(words.deny, with_needed=False), not words.no_known)
 
 
 class _Output:
     """All that a run writes: the report, and files of other forms that are written at its end."""
 
     def __init__(self, words: argparse.Namespace) -> None:
-        """Raises PicklestepError where a file that is wanted cannot be written: at the end the work would be lost."""
+        """Raises PicklestepError where a file that is wanted cannot be written, or is no list to add names to: at the end the work would be
+        lost."""
         for path in (words.sarif, words.write_allow):
             if path is not None:
                 with naming(path):
                     check_writable(path)
+        if words.write_allow is not None:
+            with naming(words.write_allow):
+                check_list(words.write_allow)
         self.report = Report(sys.stdout, _judge(words), words.json, words.brief)
         self.summary = sys.stderr if words.json else sys.stdout
         self._words = words
@@ -212,7 +221,7 @@ class _Output:
             if is_whole and self._words.sarif is not None:
                 files.callback(lambda: _write(self._words.sarif, json.dumps(self._sarif.object(), indent=1) + '\n'))
             if is_whole and self._words.write_allow is not None:
-                files.callback(lambda: _write(self._words.write_allow, ''.join(f'{line}\n' for line in self._used.lines())))
+                files.callback(lambda: _write_list(self._words.write_allow, self._used))
             if self.is_left:
                 raise BrokenPipeError
             for line in self.report.summary():
@@ -229,6 +238,11 @@ def _leave() -> None:
 def _write(path: str, text: str) -> None:
     with naming(path), open_text(path) as file:
         file.write(text)
+
+
+def _write_list(path: str, used: Used) -> None:
+    with naming(path):
+        write_list(path, used)
 
 
 def _in_a_row(first: Iterable[Result], results: Generator[Result, None, None], others: List[Result]) -> Generator[Result, None, None]:

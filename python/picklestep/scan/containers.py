@@ -8,12 +8,11 @@ from __future__ import annotations
 
 import re
 from dataclasses import dataclass
-from enum import Enum
 from functools import cached_property, lru_cache
 from importlib import import_module
 from typing import TYPE_CHECKING, Any, Callable, List, NamedTuple, Optional, Tuple
 
-from .begins import tar_sum_fits
+from .begins import NAMES_WITHOUT_TAR, tar_sum_fits
 from .blobs import Blob
 from .canonical import streams
 from .canonical.streams import Stream
@@ -26,17 +25,12 @@ from .unread import SURE
 if TYPE_CHECKING:
     from .looking import Looker
 
-__all__ = ['AsPickle', 'CONTAINERS', 'Container', 'HDF5', 'Held', 'MAY_BE_KNOWN', 'MAY_BE_PACKED', 'MAY_BE_STORE', 'PACKED', 'STORES', 'ZIP',
+__all__ = ['CONTAINERS', 'Container', 'HDF5', 'Held', 'LOADERS', 'MAY_BE_KNOWN', 'MAY_BE_PACKED', 'MAY_BE_STORE', 'PACKED', 'STORES', 'ZIP',
            'ZLIB', 'kind_by_sign', 'kind_of', 'named', 'store_of']
 
 
-class AsPickle(Enum):
-    """When the bytes of a kind are asked about as a pickle, too."""
-
-    BY_OPCODES = 'where its opcodes may lead somewhere'
-    BY_REACH = 'where a loader gets somewhere'  # (a zip archive begins with a persistent id, so it is not read whole without need)
-    BY_NAME = 'where its name says that it is one'  # (such a kind begins as a pickle does, or may)
-    NEVER = 'never'
+# The loaders that `check` is told of. The first opens no container.
+LOADERS = ('pickle', 'torch', 'joblib', 'numpy', 'pandas')
 
 
 @dataclass(frozen=True, eq=False)
@@ -59,7 +53,10 @@ class Container:
     tar_ending: str = ''
     other_endings: Tuple[str, ...] = ()
     stream: Optional[Stream] = None
-    as_pickle: AsPickle = AsPickle.BY_OPCODES
+    # What opens it of the loaders that `check` knows.
+    loaders: Tuple[str, ...] = ()
+    # Pickles of these names are of other kinds: what opens files that are named so does not open this one.
+    odd_names: Optional['re.Pattern[str]'] = None
     # Whether it may begin otherwise than its sign says. (Then so many bytes are asked for as show it.)
     may_have_no_sign: bool = False
     # What readers take for it, where that is not what begins so; and what is an empty one.
@@ -89,6 +86,10 @@ class Container:
     def begins(self, head: bytes) -> bool:
         """Whether bytes begin so."""
         return self._begins.match(head) is not None if self.known_by is None else self.known_by(head)
+
+    def is_odd_as(self, name: str) -> bool:
+        """Whether a file of this name is no such container, but a pickle."""
+        return self.odd_names is not None and self.odd_names.fullmatch(name) is not None
 
     def look_into(self, looker: 'Looker', held: 'Held') -> bool:
         """Looks into bytes of this kind. False where they only begin like it."""
@@ -167,37 +168,39 @@ def _is_django_cache(head: bytes) -> bool:
 
 ZIP = Container(
     'zip', 'opening.zips:look_into', 'torch, zipfile, Info-ZIP and 7-Zip write', b'PK', known_by=_is_zip, endings=('zip', 'npz', 'whl', 'keras'),
-    as_pickle=AsPickle.BY_REACH, opener_at_end='opening.zips:look_at_end')
+    opener_at_end='opening.zips:look_at_end', loaders=('torch', 'numpy', 'pandas'))
 ZLIB = Container('zlib', 'opening.packed:look_into', 'zlib.compress writes', sign=rb'[\x08\x18(8HXhx]', known_by=_is_zlib,
-                 other_endings=('z', 'zlib'), stream=streams.ZLIB)
+                 other_endings=('z', 'zlib'), stream=streams.ZLIB, loaders=('joblib',))
 HDF5 = Container('hdf5', 'stores.hdf5:look_into', magic=b'\x89HDF\r\n\x1a\n', sign=rb'(?:.{512}|.{1024}|.{2048}|.{4096}|.{8192})?\x89HDF\r\n\x1a\n')
 
 # In the order in which they are asked for.
 CONTAINERS: Tuple[Container, ...] = (
     ZIP,
-    Container('npy', 'opening.arrays:look_into', 'numpy.save writes', b'\x93NUMPY', endings=('npy',), as_pickle=AsPickle.NEVER),
+    Container('npy', 'opening.arrays:look_into', 'numpy.save writes', b'\x93NUMPY', endings=('npy',), loaders=('numpy',)),
     Container('gzip', 'opening.packed:look_into', 'gzip and Python write', b'\x1f\x8b\x08', endings=('gz', 'gzip'), tar_ending='tgz',
-              stream=streams.GZIP, begun=b'\x1f\x8b'),
+              stream=streams.GZIP, begun=b'\x1f\x8b', loaders=('joblib', 'pandas')),
     Container('bz2', 'opening.packed:look_into', 'bzip2 and Python write', b'BZh', known_by=_is_bz2, endings=('bz2',), tar_ending='tbz2',
-              stream=streams.BZ2, begun=b'BZh'),
-    Container('xz', 'opening.packed:look_into', 'xz and Python write', b'\xfd7zXZ\0', endings=('xz',), tar_ending='txz', stream=streams.XZ),
-    Container('lzma', 'opening.packed:look_into', 'xz and Python write', b'\x5d\0', endings=('lzma',), stream=streams.LZMA),
+              stream=streams.BZ2, begun=b'BZh', loaders=('joblib', 'pandas')),
+    Container('xz', 'opening.packed:look_into', 'xz and Python write', b'\xfd7zXZ\0', endings=('xz',), tar_ending='txz', stream=streams.XZ,
+              loaders=('joblib', 'pandas')),
+    Container('lzma', 'opening.packed:look_into', 'xz and Python write', b'\x5d\0', endings=('lzma',), stream=streams.LZMA, loaders=('joblib',)),
     Container('tar', 'opening.tars:look_into', 'tarfile, GNU tar and bsdtar write', sign=rb'.{257}ustar', known_by=_is_tar, may_have_no_sign=True,
-              endings=('tar',), takes=_may_be_tar, is_empty=_is_empty_tar),
-    Container('zfile', 'opening.packed:look_into', 'joblib before 0.10 writes', b'ZF', known_by=_is_zfile, stream=streams.ZFILE),
+              endings=('tar',), takes=_may_be_tar, is_empty=_is_empty_tar, odd_names=NAMES_WITHOUT_TAR, loaders=('torch', 'pandas')),
+    Container('zfile', 'opening.packed:look_into', 'joblib before 0.10 writes', b'ZF', known_by=_is_zfile, stream=streams.ZFILE, loaders=('joblib',)),
     ZLIB,
     # (it begins as `unread` has it)
-    Container('zstd', 'opening.packed:look_into', 'zstd and pandas write', other_endings=('zst',), stream=streams.ZSTD, is_installed=opens_zstd),
+    Container('zstd', 'opening.packed:look_into', 'zstd and pandas write', other_endings=('zst',), stream=streams.ZSTD, is_installed=opens_zstd,
+              loaders=('pandas',)),
 )
 
 # Stores that are files.
 STORES: Tuple[Container, ...] = (
-    Container('sqlite', 'stores.sqlite:look_into', magic=b'SQLite format 3\0', as_pickle=AsPickle.BY_NAME),
+    Container('sqlite', 'stores.sqlite:look_into', magic=b'SQLite format 3\0'),
     Container('gdbm', 'stores.dbm_files:look_into_gnu', sign=rb'\x13\x57\x9a[\xcd-\xd1]|[\xcd-\xd1]\x9a\x57\x13'),
     Container('Berkeley DB', 'stores.dbm_files:look_into_berkeley', sign=rb'.{12}(?:\x61\x15\x06\0|\0\x06\x15\x61)'),
     HDF5,
     Container('Django cache', 'stores.django_cache:look_into', sign=rb'[\x80FINGJKML].{0,126}?\.x', known_by=_is_django_cache,
-              as_pickle=AsPickle.BY_NAME, is_pickles=True),
+              is_pickles=True),
 )
 
 # --- What is asked of all of them ---

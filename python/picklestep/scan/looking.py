@@ -7,6 +7,7 @@ what opens them in `opening` and `stores`.
 
 from __future__ import annotations
 
+import hashlib
 import os
 import re
 import stat
@@ -18,25 +19,25 @@ from functools import reduce
 from importlib import import_module
 from io import FileIO
 from operator import or_
-from typing import BinaryIO, Callable, Iterator, List, Optional, Tuple, cast
+from typing import BinaryIO, Callable, Iterator, List, Optional, Tuple, Union, cast
 
 from ..sources import LIMIT, is_opened
 from . import stores, zips
-from .begins import HEAD, is_pickle_name, is_storage_name, may_be_pickle
+from .begins import HEAD, is_pickle_name, is_storage_name
 from .blobs import CHUNK, Blob, Budget, BytesBlob, FileBlob, JoinedBlob, LimitMet, Limits, OpenedBlob, PartMet, spooled
 from .canonical import Form, NotCanonical, torch
 from .canonical.forms import WRITERS
 from .canonical.kinds import asked_form, begun_form, kinds_of
 from .canonical.layouts import Layout, another_import, layout_of
 from .canonical.wide import may_lead_on, reach_of
-from .containers import CONTAINERS, AsPickle, Container, Held
+from .containers import CONTAINERS, Container, Held
 from .other_forms import ending, forms_of
 from .packed import Unpacking
 from .reading import Asked, why_unread
 from .results import Note, Pickle, Place, Result
 from .unread import kind_by_end
 
-__all__ = ['Looker', 'Options', 'Reads', 'Unpacked', 'look', 'look_at_bytes']
+__all__ = ['Looker', 'Options', 'Reads', 'Unpacked', 'is_unchanged', 'look', 'look_at_bytes']
 
 _URL = re.compile(r'[A-Za-z][A-Za-z0-9+.-]*(::|://)')
 # The program ends at a frame in a frame, and at an opcode that crosses the end of one. Raw numbers do not get there, and CPython goes on.
@@ -54,12 +55,13 @@ Reads = Callable[[Blob, Budget], Layout]
 @dataclass(frozen=True)
 class Options:
     """How files are looked at: the limits for each of them, whether every line of the program is kept, whether each offset is tried at
-    which a pickle may begin, and whether arguments are kept in full."""
+    which a pickle may begin, whether arguments are kept in full, and whether results have a digest of the bytes."""
 
     limits: Limits = Limits()
     lines: bool = False
     everywhere: bool = False
     full: bool = False
+    digest: bool = False
 
 
 class Looker:
@@ -107,7 +109,7 @@ class Looker:
                 opened = kind.look_at_end(self, Held(kind, blob, where, names, depth, spans), head) or opened
         if not opened:
             self._look_at_leaf(blob, head, where, names, depth, is_gap)
-        elif kinds and self._may_be_pickle_too(kinds, blob, head, names):
+        elif kinds and self._may_be_pickle_too(kinds, blob, names):
             self.is_read(blob, head, where, names, depth=depth)
 
     def _kinds(self, blob: Blob, head: bytes, where: Place, names: Tuple[str, ...]) -> List[Container]:
@@ -122,30 +124,29 @@ class Looker:
         begun = begun_form(head) if not kinds else None
         if begun is not None and begun is not asked:
             self.note(where, f'it begins like {begun}, and is not in the form that {begun.writers}', missed=True)
+        if any(kind.is_odd_as(name) for kind in kinds):
+            self.note(where, f'its name is that of a pickle, and it is {" or ".join(map(str, kinds))}', missed=True)
         if len(kinds) > 1:
             named = ' or '.join(map(str, kinds))
             self.note(where, f'not in one form: readers take it for {named}: it is looked at as each of them', missed=True)
         return kinds
 
-    def _may_be_pickle_too(self, kinds: List[Container], blob: Blob, head: bytes, names: Tuple[str, ...]) -> bool:
-        """Whether a container is opcodes, too."""
-        if any(kind.as_pickle is AsPickle.BY_REACH for kind in kinds):
-            return reach_of(blob, self.budget)[0] is not None
-        how = kinds[0].as_pickle if len(kinds) == 1 else AsPickle.BY_OPCODES
-        if how is AsPickle.NEVER or how is AsPickle.BY_NAME and not any(is_pickle_name(name) for name in names):
-            return False
-        return may_be_pickle(head, blob.size)
+    def _may_be_pickle_too(self, kinds: List[Container], blob: Blob, names: Tuple[str, ...]) -> bool:
+        """Whether a container is opcodes, too, and some loader of pickles comes to an import or a call in them."""
+        if all(kind.is_pickles for kind in kinds) and not any(map(is_pickle_name, names)):
+            return False  # (its first pickle was looked at as one)
+        return reach_of(blob, self.budget)[0] is not None
 
     def _look_at_leaf(self, blob: Blob, head: bytes, where: Place, names: Tuple[str, ...], depth: int, is_gap: bool) -> None:
         """Looks at what is no container: a pickle by its name or its first bytes, or where a loader gets somewhere in it; or records."""
         begins = _begins_as_pickle(head, names)
         before = len(self.pickles)
-        if (begins or self._leads_somewhere(blob)) and self.is_read(blob, head, where, names, is_sure=begins, depth=depth):
+        if (begins or self.leads_somewhere(blob)) and self.is_read(blob, head, where, names, is_sure=begins, depth=depth):
             stores.look_behind(self, self.pickles[before], blob, where, depth)
         elif not stores.look_further(self, blob, where, depth, is_gap):
             self._count_other(where)
 
-    def _leads_somewhere(self, blob: Blob) -> bool:
+    def leads_somewhere(self, blob: Blob) -> bool:
         """Whether a loader of pickles comes to an import, to a call or to a STOP in these bytes."""
         reach, stops = reach_of(blob, self.budget)
         return reach is not None or stops > 0
@@ -409,9 +410,30 @@ def _look_at_file(looker: Looker, path: str) -> Result:
         if not stat.S_ISREG(mode):
             return left_out(path, mode, is_named=True)
         result = _gone_through(looker, FileBlob(cast(BinaryIO, file), size, path), path, modified, changed)
+        if looker.options.digest:
+            state_of = os.fstat(file.fileno())
+            result = replace(result, device=state_of.st_dev, inode=state_of.st_ino, digest=_digest(file))
         if _state(file) == state:
             return result
         return replace(result, notes=result.notes + (Note((), 'it changed while it was looked at', True),))
+
+
+def _digest(file: FileIO) -> str:
+    file.seek(0)
+    digest = hashlib.sha256()
+    for piece in iter(lambda: file.read(CHUNK), b''):
+        digest.update(piece)
+    return digest.hexdigest()
+
+
+def is_unchanged(path: str, earlier: Result) -> bool:
+    """Whether a path still names the file that was looked at, and this has the same bytes. Times alone do not show that: two files of one tick
+    of the clock have the same, and they stay where folders are renamed."""
+    with FileIO(os.open(path, _FLAGS), 'rb') as file:
+        state = os.fstat(file.fileno())
+        now = state.st_size, state.st_mtime_ns, state.st_ctime_ns, state.st_dev, state.st_ino
+        then = earlier.size, earlier.modified, earlier.changed, earlier.device, earlier.inode
+        return stat.S_ISREG(state.st_mode) and now == then and _digest(file) == earlier.digest
 
 
 def _look_at_pipe(looker: Looker, file: FileIO, path: str) -> Result:
@@ -464,10 +486,10 @@ def _gone_through(looker: Looker, blob: Blob, path: str, modified: int = 0, chan
                   plain=looker.plain, forms=forms_of(looker.others, looker.forms))
 
 
-def look(path: str, options: Options = Options()) -> Result:
+def look(path: Union[str, 'os.PathLike[str]'], options: Options = Options()) -> Result:
     """All that is found in a file. Whatever is wrong with it becomes part of the result."""
-    looker = Looker(options)
-    return _whatever_happens(looker, path, lambda: _look_at_url(looker, path) if is_url(path) else _look_at_file(looker, path))
+    looker, name = Looker(options), os.fspath(path)
+    return _whatever_happens(looker, name, lambda: _look_at_url(looker, name) if is_url(name) else _look_at_file(looker, name))
 
 
 def look_at_bytes(name: str, content: bytes, options: Options = Options()) -> Result:

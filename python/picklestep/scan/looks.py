@@ -6,9 +6,10 @@ from dataclasses import dataclass
 from typing import Dict, Iterator, List, Optional, Tuple
 
 from ..records import End
+from .allow import sets_with
 from .known import known_names
 from .names import Names
-from .reading import is_worked_out
+from .reading import is_plain_name, is_worked_out
 from .results import ODD, Call, Import, Pickle, Place, Result
 from .wording import shown, times
 
@@ -16,7 +17,7 @@ __all__ = ['Judge', 'Look', 'OF_CALLS', 'RULES', 'call_text', 'calls_of', 'end_t
 
 # Each rule, and what it says.
 RULES = {
-    'known': 'It imports a name that is known to run, load, write or connect what it is given.',
+    'known': 'It imports a name that is known to run, load, write or connect what it is given, or one that is no dotted name.',
     'worked-out': 'What it imports does not stand in the file: it is worked out while loading.',
     'denied': 'It imports a name of the list of --deny.',
     'not-allowed': 'It imports a name that no list of --allow has.',
@@ -83,6 +84,12 @@ def _in_part(part: str) -> str:
     return f' ({part})' if part else ''
 
 
+def _of_sets(name: str) -> str:
+    """In which sets of the package a name is that is not allowed."""
+    sets = sets_with(name)
+    return f'is in {"set" if len(sets) == 1 else "sets"} {", ".join(sets)}' if sets else ''
+
+
 def calls_of(pickle: Pickle, name: str) -> List[Call]:
     """The calls of what is imported under a name."""
     return [done for done in pickle.calls if done.name == name]
@@ -122,11 +129,14 @@ class Judge:
             return None
         known = self._known.note(name)
         if self.allowed is not None:
-            return 'not-allowed', f'not allowed{": " + known if known else ""}'
+            why = known or _of_sets(name)
+            return 'not-allowed', f'not allowed{": " + why if why else ""}'
         if known is not None:
             return 'known', known
         if self._with_known and is_worked_out(name):
             return 'worked-out', 'what it imports is worked out while loading'
+        if self._with_known and not is_plain_name(name):
+            return 'known', 'no dotted name, so no program imports it, and yet it may lead to any module'
         return None
 
     def _allows(self, line: str, name: str) -> bool:

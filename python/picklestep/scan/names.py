@@ -2,15 +2,34 @@
 
 from __future__ import annotations
 
+import difflib
 import re
+from dataclasses import dataclass
 from typing import Dict, FrozenSet, Iterable, List, Optional, Pattern, Tuple
 
-__all__ = ['Names', 'words_for']
+from ..errors import PicklestepError
+from ..wording import shown
+
+__all__ = ['Line', 'Names', 'NoList', 'nearest', 'read_comment', 'read_line', 'words_for']
+
+
+class NoList(PicklestepError, ValueError):
+    """What is given as a list of names is none: a line of it has no meaning."""
+
+
+@dataclass(frozen=True)
+class Line:
+    """What a line of a list says: a name or pattern, what may be done with what it imports, and a note; or which list it includes."""
+
+    name: str
+    words: FrozenSet[str]
+    note: str
+    is_include: bool = False
 
 
 class Names:
-    """Names and patterns, one a line, with a note behind `#`. In a pattern `*` stands for anything within one part of a name, and `**` for
-    anything at all.
+    """Names and patterns, one a line, as `read_line` reads them. In a pattern `*` stands for anything within one part of a name, and `**`
+    for anything at all. Raises NoList where a line has no meaning.
 
     A `*` does not go over a dot, since a pickle can reach from a module into what that has imported: `torch._utils.*` has
     `torch._utils._rebuild_tensor_v2` and not `torch._utils.sys.modules`.
@@ -35,15 +54,21 @@ class Names:
         # The patterns by their first part, since a hostile file may have a million names; those that begin with a star are under ''.
         self._by_part: Dict[str, List[Tuple[str, Pattern[str], str]]] = {}
         for line in lines:
-            name, words, note = _parts(line)
-            self._words[name] = self._words.get(name, frozenset()) | words
-            if '*' in name:
-                pattern = _pattern(name)
-                self.patterns.append((name, pattern, note))
-                part = name.partition('.')[0]
-                self._by_part.setdefault('' if '*' in part else part, []).append(self.patterns[-1])
-            elif name:
-                self.names.setdefault(name, note)
+            found = read_line(line)
+            if found is not None:
+                self._add(found)
+
+    def _add(self, line: Line) -> None:
+        name = line.name
+        if line.is_include:
+            raise NoList(f'only a file includes a list: {shown(name)}')
+        self._words[name] = self._words.get(name, frozenset()) | line.words
+        if '*' in name:
+            self.patterns.append((name, _pattern(name), line.note))
+            part = name.partition('.')[0]
+            self._by_part.setdefault('' if '*' in part else part, []).append(self.patterns[-1])
+        else:
+            self.names.setdefault(name, line.note)
 
     def note(self, name: str) -> Optional[str]:
         """The note of the line that has this name; None where no line has it. A whole name goes before a pattern."""
@@ -82,7 +107,97 @@ class Names:
 
 # What may be done with what is imported, by the first words of the program's lines.
 _WORDS = {'call': 'call', 'new': 'new', 'inst': 'call', 'state': 'state', 'append': 'fill', 'set': 'fill', 'add': 'fill'}
-_ENTRY = re.compile(r'(.+):((?: +(?:call|new|state|fill))*)')
+# Those of a list, in the order in which they are written.
+_OF_LISTS = ('call', 'new', 'state', 'fill')
+_ALL = frozenset(_OF_LISTS)
+# A name that `scan` shows in two parts, since one of them is no plain word: each is in quotes, or is the number of what gives it.
+_PART = r"""(?:(?:raw )?(?:'(?:[^'\\]|\\.)*'|"(?:[^"\\]|\\.)*")|\#[0-9*]+)"""
+_IN_PARTS = re.compile(f'{_PART} {_PART}')
+_NUMBER = re.compile(r'ext [0-9*]+')
+# (a line of any length may be given as a list)
+_MOST_SHOWN = 80
+
+
+def read_line(line: str) -> Optional[Line]:
+    """What a line of a list says; None for an empty line and a comment. Raises NoList where it has no meaning. This is the grammar:
+
+        line    = [entry | "include" LIST] ["#" note]
+        entry   = (name | pattern) [":" {"call" | "new" | "state" | "fill"}]
+        name    = word "." word {"." word} | part " " part | "ext" number
+        part    = ["raw"] text in quotes | "#" number
+        pattern = a name with stars in it, or stars alone
+
+    >>> read_line('# of our own'), read_line('include numpy  # arrays')
+    (None, Line(name='numpy', words=frozenset(), note='arrays', is_include=True))
+    >>> sorted(read_line("'os ' 'x #': call new").words)
+    ['call', 'new']
+    >>> read_line('import numpy')
+    Traceback (most recent call last):
+    picklestep.scan.names.NoList: no name, no pattern and no include: import numpy
+    """
+    text = line.strip()
+    return _read_entry(text) if text and not text.startswith('#') else None
+
+
+def read_comment(line: str) -> Optional[Line]:
+    """What a comment would say if its `#` were taken away; None where it is none, or a text for people.
+
+    >>> read_comment('# posix.system: call  # runs a shell command').name, read_comment('# Our own names.')
+    ('posix.system', None)
+    """
+    text = line.strip()
+    try:
+        return _read_entry(text[1:].strip()) if text.startswith('#') else None
+    except NoList:
+        return None
+
+
+def _read_entry(text: str) -> Line:
+    in_parts = _IN_PARTS.match(text)
+    # (what is in quotes may hold a `#`, also where a star stands for its end)
+    end = -1 if in_parts is None and text.startswith("'") else text.find('#', in_parts.end() if in_parts else 0)
+    entry, note = (text, '') if end < 0 else (text[:end].strip(), text[end + 1:].strip())
+    word, _, rest = entry.partition(' ')
+    if word == 'include' and rest.strip() and rest.isprintable():
+        return Line(rest.strip(), frozenset(), note, is_include=True)
+    head, colon, tail = entry.rpartition(':')
+    has_words = bool(colon) and _ALL.issuperset(tail.split())
+    name, words = (head.strip(), frozenset(tail.split())) if has_words else (entry, _ALL)
+    if not _is_name(name):
+        raise NoList(_why(name))
+    return Line(name, words | {'new'} if 'call' in words else words, note)
+
+
+def _is_name(name: str) -> bool:
+    """Whether this is a name as `scan` shows it, or a pattern that such a name may fit."""
+    if _IN_PARTS.fullmatch(name) or _NUMBER.fullmatch(name) or name.startswith("'") and '*' in name:
+        return True
+    parts = name.split('.')
+    has_dot = len(parts) > 1 or '**' in name or name == '*'
+    return has_dot and all(part.isidentifier() or '*' in part and f'_{part.replace("*", "")}'.isidentifier() for part in parts)
+
+
+def _why(name: str) -> str:
+    """Why this is no name."""
+    said = shown(name[:_MOST_SHOWN])
+    if name.isidentifier():
+        return f'no name, since it has no dot: {said} (the names of a set or a file: include {said})'
+    head, colon, tail = name.partition(':')
+    wrong = [word for word in tail.split() if word not in _ALL]
+    if colon and wrong and _is_name(head.strip()):
+        near = nearest(wrong[0], 'word', _OF_LISTS)
+        return f'behind a colon stand call, new, state and fill, and no other word: {shown(wrong[0][:_MOST_SHOWN])}{near}'
+    return f'no name, no pattern and no include: {said}'
+
+
+def nearest(word: str, kind: str, words: Iterable[str]) -> str:
+    """Words for a message: which of the words that there are is the nearest to a wrong one, if one is near.
+
+    >>> nearest('Nump', 'set', ['numpy', 'torch']), nearest('x', 'set', ['numpy'])
+    ('; the nearest set is numpy', '')
+    """
+    found = difflib.get_close_matches(word[:_MOST_SHOWN].lower(), list(words), 1)
+    return f'; the nearest {kind} is {found[0]}' if found else ''
 
 
 def words_for(done: Iterable[str]) -> str:
@@ -92,17 +207,7 @@ def words_for(done: Iterable[str]) -> str:
     (': call fill', ':')
     """
     words = {_WORDS[what] for what in done if what in _WORDS}
-    return ''.join([':', *(f' {word}' for word in ('call', 'new', 'state', 'fill') if word in words and (word != 'new' or 'call' not in words))])
-
-
-def _parts(line: str) -> Tuple[str, FrozenSet[str], str]:
-    """The name of a line, what may be done with what it imports, and the note. A name in quotes, which may hold a `#`, has no note."""
-    entry, _, note = (line, '', '') if line.startswith("'") else line.partition('#')
-    found = _ENTRY.fullmatch(entry.strip())
-    if found is None:
-        return entry.strip(), frozenset(_WORDS.values()), note.strip()
-    words = found[2].split()
-    return found[1], frozenset([*words, 'new'] if 'call' in words else words), note.strip()
+    return ''.join([':', *(f' {word}' for word in _OF_LISTS if word in words and (word != 'new' or 'call' not in words))])
 
 
 def _pattern(text: str) -> Pattern[str]:

@@ -27,7 +27,7 @@ from .canonical.joblib import SIGN
 from .item_kinds import ItemKinds
 from .results import ODD, Call, Import, Pickle, Place
 
-__all__ = ['Asked', 'Enough', 'Summary', 'calls_in_form', 'calls_words', 'is_plain_name', 'is_worked_out', 'shown_name', 'why_unread']
+__all__ = ['Asked', 'Enough', 'Summary', 'calls_in_form', 'calls_words', 'is_odd_name', 'is_plain_name', 'is_worked_out', 'shown_name', 'why_unread']
 
 # These lines are about an import.
 _IMPORTS = ('import', 'inst')
@@ -63,6 +63,8 @@ _MOST_NAMES = 4096
 
 # Names as `shown_name` shows them.
 _PLAIN = re.compile(r"'?[^\W\d]\w*(\.[^\W\d]\w*)*('? #[0-9]+)?")
+# (A folder may be named so, and Python imports from it.)
+_ODD = re.compile(r"'(?=[^']*[^\W\d])[\w.+@-]+' '?[^\W\d]\w*(\.[^\W\d]\w*)*'?")
 _WORKED_OUT = re.compile(r'^#| #[0-9]+$|^ext ')
 
 _LEGACY_TORCH = b'\x80\x02\x8a\x0al\xfc\x9cF\xf9 j\xa8P\x19.'
@@ -438,6 +440,15 @@ def is_plain_name(name: str) -> bool:
     [True, True, False]
     """
     return _PLAIN.fullmatch(name) is not None
+
+
+def is_odd_name(name: str) -> bool:
+    """Whether a name that is shown is no plain one, and yet may be that of something that is there.
+
+    >>> [is_odd_name(name) for name in ("'lib-dynload._ctypes' 'dlopen'", "'os ' 'x'", 'os.system')]
+    [True, False, False]
+    """
+    return _ODD.fullmatch(name) is not None
 
 
 def is_worked_out(name: str) -> bool:

@@ -70,8 +70,8 @@ class Result:
     """All that was found in a file.
 
     `others` counts what is no pickle. `error` says why the file cannot be read, `left` why it was left out (a FIFO, a link to a folder).
-    `size`, `modified` and `changed` (nanoseconds; the last change of the content, and of the inode, which nobody can choose) show `--resume`
-    whether the file is still the one that was looked at. `keys` is how many keys of a server this is about (several results may be of one
+    `size`, `modified` and `changed` (nanoseconds; the last change of the content, and of the inode, which nobody can choose), `device`, `inode`
+    and `digest` (SHA-256 of the bytes, where that was asked for) show `--resume` whether the file is still the one that was looked at. `keys` is how many keys of a server this is about (several results may be of one
     server), and 0 where it is about a file. `plain` counts pickles that are values of a store, import and call nothing, and end with STOP:
     there may be millions, so they are not in `pickles`. `forms` says of what is no pickle how many have which ending.
     """
@@ -88,6 +88,9 @@ class Result:
     keys: int = 0
     plain: int = 0
     forms: Tuple[Tuple[str, int], ...] = ()
+    device: int = 0
+    inode: int = 0
+    digest: str = ''
 
     def _repr_html_(self) -> str:
         """The report about the file, for notebooks."""
@@ -100,6 +103,7 @@ def to_json(result: Result) -> Dict[str, Any]:
     return {'path': result.path, 'size': result.size, 'modified': result.modified, 'changed': result.changed,
             'pickles': [_pickle_object(pickle) for pickle in result.pickles], 'not_pickles': result.others, 'forms': dict(result.forms),
             'notes': [dict(vars(note)) for note in result.notes], 'error': result.error, 'skipped': result.left,
+            **({'device': result.device, 'inode': result.inode, 'sha256': result.digest} if result.digest else {}),
             **{name: count for name, count in (('keys', result.keys), ('plain', result.plain)) if count}}
 
 
@@ -125,6 +129,7 @@ def from_json(made: Dict[str, Any]) -> Result:
         made['path'], made['size'], made['modified'], tuple(_pickle(pickle) for pickle in made['pickles']), made['not_pickles'],
         tuple(Note(tuple(note['where']), note['text'], note['missed']) for note in made['notes']), made['error'], made['skipped'],
         made['changed'], made.get('keys', 0), made.get('plain', 0), tuple(made['forms'].items()),
+        made.get('device', 0), made.get('inode', 0), made.get('sha256', ''),
     )
 
 

@@ -1,8 +1,9 @@
 """Whether any known loader could get to an import or a call if it read these bytes as a pickle from the first one on.
 
-A machine that reads a superset of what all known unpicklers read: a frame is nothing, a line or an argument may be cut off by the end, PROTO
-may have any number. Its twin drops the rest of a frame where an argument crosses its end, as unpicklers do that read from a stream. It says
-yes too often and never no too often: values are only looked at where all unpicklers refuse them.
+A machine that reads a superset of what all known unpicklers read: a line or an argument may be cut off by the end, PROTO may have any number,
+and where an argument crosses the end of a frame it goes both ways. One loader reads across, and one that holds the frame alone drops its rest:
+which of them CPython does hangs on how much it has read ahead, frame by frame. It says yes too often and never no too often: values are only
+looked at where all unpicklers refuse them.
 
 Sources: Lib/pickle.py and Modules/_pickle.c (3.6 to 3.13), Lib/pickle.py of 2.7, PyPy's pickle.py,
 torch/csrc/jit/serialization/unpickler.cpp.
@@ -14,7 +15,7 @@ import codecs
 import pickletools
 import re
 from dataclasses import dataclass, field, replace
-from typing import Any, Callable, Dict, List, Optional, Set, Tuple, Union
+from typing import Any, Callable, Dict, Iterable, Iterator, List, Optional, Set, Tuple, Union
 
 from ..blobs import CHUNK, STEPS, Blob, Budget, BytesBlob
 from .standard import STANDARD_MODULES
@@ -23,6 +24,8 @@ __all__ = ['Imports', 'Reach', 'imports_of', 'may_be_opcode', 'may_lead_on', 're
 
 # Opcodes that are gone over. Where there are more, something may be reached.
 _MOST = 2_000_000
+# Ways through frames whose ends are crossed that are gone, likewise.
+_MOST_TURNS = 64
 # So much of a line is read: a longer one is no name.
 _LONGEST_LINE = 1 << 16
 # To begin takes as long as so many opcodes.
@@ -70,7 +73,8 @@ _SHOWN_KEY = re.compile(rb'0|[1-9][0-9]{,18}')
 _MOST_DIGITS = 4300
 # No module of Python or of a package has such a sign in its name; headers of tables and lines of code have them.
 _NOT_IN_MODULES = re.compile(r"""[,;:"'()\[\]{}<>|&?*/=]""")
-_NUMBER = re.compile(rb'[+-]?[0-9a-zA-Z_.+-]*')
+# (Python 2 takes blanks behind the sign.)
+_NUMBER = re.compile(rb'[+-]?[ \t\r\x0b\x0c]*[0-9a-zA-Z_.+-]*')
 
 
 def _decoded(text: bytes) -> Optional[str]:
@@ -115,12 +119,10 @@ def _shown(text: bytes) -> str:
 
 @dataclass(frozen=True)
 class _Way:
-    """How a loader reads: whether it drops the rest of a frame, reads bytes across the end of one, keeps the memo from pickle to pickle,
-    knows numbers of copyreg, and takes lines for keys of the memo as they are spelled. That do `pickle` and `cPickle` of Python 2, of which
-    the latter also keeps them apart from keys that are numbers."""
+    """How a loader reads: whether it keeps the memo from pickle to pickle, knows numbers of copyreg, and takes lines for keys of the memo as
+    they are spelled. That do `pickle` and `cPickle` of Python 2, which know no frames; the latter also keeps lines apart from keys that are
+    numbers."""
 
-    drops: bool = False
-    across: bool = True
     keeps: bool = False
     extends: bool = True
     spells: bool = False
@@ -128,13 +130,19 @@ class _Way:
 
 
 class _Machine:
-    """Reads until something is reached. Where `imported` is a set, what is imported is collected there, and it goes on."""
+    """Reads until something is reached. Where `imported` is a set, what is imported is collected there, and it goes on.
 
-    def __init__(self, blob: Blob, way: _Way, budget: Optional[Budget], imported: Optional[Set[Tuple[str, str]]] = None) -> None:
+    `turns` says for one crossing after another behind the end of which frame it goes on, or 0 where it reads across, as it does at all later
+    ones. `others` are the turns that lead other ways from there.
+    """
+
+    def __init__(self, blob: Blob, way: _Way, budget: Optional[Budget], imported: Optional[Set[Tuple[str, str]]] = None,
+                 turns: Tuple[int, ...] = ()) -> None:
         self.blob = blob
         self.way = way
         self.budget = budget
         self.imported = imported
+        self.others: List[Tuple[int, ...]] = []
         self.stops = 0
         self.is_framed = False
         self.is_spelled = False  # a key of the memo is spelled otherwise than numbers are shown
@@ -146,7 +154,11 @@ class _Machine:
         self.known = 0
         self._base = 0
         self._window = b''
-        self._frame_end: Optional[int] = None
+        self._turns = turns
+        self._crossings = 0
+        # Where frames end that a loader may hold, and the first of these.
+        self._ends: List[int] = []
+        self._next_end = _ENDLESS
         self._top: List[_Value] = []
         self._under: List[List[_Value]] = []
         self._memo: Dict[_Key, _Value] = {}
@@ -162,7 +174,7 @@ class _Machine:
                 if self.budget is not None and not count % STEPS:
                     self.budget.spend()
                 self.begin = at = self.at
-                if self._frame_end is None and 0 <= at - self._base < len(self._window):
+                if 0 <= at - self._base < len(self._window):
                     code = self._window[at - self._base]
                     self.at = at + 1
                 else:
@@ -199,13 +211,29 @@ class _Machine:
 
     # --- Bytes ---
 
-    def _jump(self, count: int) -> None:
-        """Where an argument crosses the end of a frame, a stream goes on behind the frame."""
-        if self._frame_end is not None and self.way.drops and self.at + count > self._frame_end:
-            self.at, self._frame_end = max(self.at, self._frame_end), None
+    def _cross(self, count: int) -> None:
+        """Where so many bytes cross the end of a frame, goes on here or behind one that they cross."""
+        end = self.at + count
+        if end <= self._next_end:
+            return
+        crossed = sorted({each for each in self._ends if self.at < each < end})
+        self._turn(crossed)
+        self._ends = [each for each in self._ends if each > self.at]
+        self._next_end = min(self._ends, default=_ENDLESS)
+
+    def _turn(self, ends: List[int]) -> None:
+        """Goes on here or behind one of the ends of frames."""
+        if not ends:
+            return
+        before = (*self._turns, *[0] * (self._crossings - len(self._turns)))
+        if self._crossings < len(self._turns):
+            turn = self._turns[self._crossings]
+            self.at = ends[turn - 1] if turn else self.at
+        elif len(self.others) <= _MOST_TURNS:
+            self.others += [(*before, turn) for turn in range(1, len(ends) + 1)]
+        self._crossings += 1
 
     def _bytes(self, count: int, may_be_cut: bool) -> bytes:
-        self._jump(count)
         start = self.at - self._base
         if start < 0 or start + min(count, CHUNK) > len(self._window):
             self._base, self._window, start = self.at, self.blob.read(self.at, CHUNK), 0
@@ -220,17 +248,19 @@ class _Machine:
     def read(self, count: int) -> bytes:
         start = self.at - self._base
         end = start + count
-        if self._frame_end is None and start >= 0 and end <= len(self._window):
+        if self.at + count <= self._next_end and start >= 0 and end <= len(self._window):
             self.at += count
             return self._window[start:end]
+        self._cross(count)
         return self._bytes(count, False)
 
     def line(self) -> bytes:
         """A line, also where the end cuts it off: Python's unpickler then takes it without its last byte."""
         start = self.at
         end = self.blob.find(b'\n', start)
-        if self.way.drops and self._frame_end is not None and not 0 <= end < self._frame_end:
-            start, self._frame_end = max(self.at, self._frame_end), None
+        self._cross((self.blob.size if end < 0 else end) + 1 - start)
+        if self.at != start:
+            start = self.at
             end = self.blob.find(b'\n', start)
         if end < 0:
             self.at = self.blob.size
@@ -290,8 +320,7 @@ class _Machine:
         self.stops += 1
         if self.at >= self.blob.size:
             raise _End
-        if self.way.drops and self._frame_end is not None:
-            self.at, self._frame_end = self._frame_end, None
+        self._turn(sorted({each for each in self._ends if each > self.at}))
         self._top, self._under = [], []
         if not self.way.keeps:
             self._memo = {}
@@ -301,11 +330,10 @@ class _Machine:
         if size >= _ENDLESS:
             raise _End
         self.is_framed = True
-        if self.way.drops:
-            self._jump(size)
-            if self.at + size > self.blob.size:
-                raise _End
-            self._frame_end = self.at + size
+        self._cross(size)
+        if self.at + size <= self.blob.size and not self.way.spells:  # (who holds no frame goes on where it is too long)
+            self._ends.append(self.at + size)
+            self._next_end = min(self._next_end, self._ends[-1])
 
     # --- The memo ---
 
@@ -370,7 +398,7 @@ class _Machine:
         self.push(_TEXT, _legacy(text[1:-1]))
 
     def legacy(self, width: int) -> None:
-        self.counted(width, _TEXT, width == 4)
+        self.counted(width, _TEXT)  # (CPython takes a length of BINSTRING for one without a sign, others refuse it)
         kind, text = self._top.pop()
         self.push(kind, _legacy(text or b''))
 
@@ -378,14 +406,10 @@ class _Machine:
         length = int.from_bytes(self.read(width), 'little', signed=signed)
         if not 0 <= length < _ENDLESS:
             raise _End
+        self._cross(length)
         start = self.at
-        if kind == _BYTES and self.way.across and self.at + length <= self.blob.size:
-            self.at += length
-            self.push(kind)
-            return
-        self._jump(length)
         text = self._bytes(min(length, _LONGEST_TEXT), True) if length and self.at < self.blob.size else b''
-        self.at = min(max(start, self.at - len(text)) + length, self.blob.size)
+        self.at = min(start + length, self.blob.size)
         self.push(kind, text if kind == _TEXT else None)
 
     # --- Imports and calls ---
@@ -534,37 +558,53 @@ for _each in pickletools.opcodes:
 _MARK = 0x28
 _EVEN = {code: bytes([code]) * 256 for code in (_MARK, *b'N)]}\x88\x89\x8f')}
 
-_WAYS = tuple(replace(way, keeps=keeps) for way in (_Way(), _Way(spells=True), _Way(spells=True, parts=True), _Way(drops=True),
-                                                    _Way(drops=True, across=False)) for keeps in (False, True))
+_WAYS = tuple(replace(way, keeps=keeps) for way in (_Way(), _Way(spells=True), _Way(spells=True, parts=True)) for keeps in (False, True))
 _WITHOUT_NUMBERS = tuple(replace(way, extends=False) for way in _WAYS)
 
 
 @dataclass
 class _Seen:
-    """What readings met in which ways differ: all read alike where there is no frame, no odd key of the memo, and no second pickle."""
+    """What readings met in which ways differ: all read alike where there is no odd key of the memo, and no second pickle."""
 
-    is_framed: bool = False
     is_spelled: bool = False
     is_mixed: bool = False
     stops: int = 0
 
     def add(self, machine: _Machine) -> None:
         """A way was gone."""
-        self.is_framed |= machine.is_framed
         self.is_spelled |= machine.is_spelled
         self.is_mixed |= machine.has_lines and machine.has_numbers
         self.stops = max(self.stops, machine.stops)
 
     def may_differ(self, way: _Way) -> bool:
         """Whether a way may lead elsewhere than those before it."""
-        if way.parts:
-            return self.is_mixed
-        return not (way.drops and not self.is_framed or way.spells and not self.is_spelled)
+        is_odd = self.is_mixed if way.parts else self.is_spelled or not way.spells
+        return is_odd and (self.stops > 0 or not way.keeps)
 
 
 def may_be_opcode(begin: bytes) -> bool:
     """Whether some loader takes the first of these bytes for an opcode. (Where there is none, another may stand there by now.)"""
     return not begin or _DO[begin[0]] is not None
+
+
+def _readings(blob: Blob, ways: Iterable[_Way], budget: Optional[Budget], seen: _Seen, imported: Optional[Set[Tuple[str, str]]] = None,
+              known: int = 0) -> Iterator[Tuple[_Machine, Optional[Reach]]]:
+    """What is reached in each of these ways that may lead elsewhere than those before it. Up to `known` all loaders read alike."""
+    for way in ways:
+        if not seen.may_differ(way):
+            continue
+        waiting: List[Tuple[int, ...]] = [()]
+        for number in range(_MOST_TURNS + 1):
+            if not waiting:
+                break
+            machine = _Machine(blob, way, budget, imported, waiting.pop(0))
+            machine.known = known
+            found = machine.run()
+            seen.add(machine)
+            waiting += machine.others
+            if found is None and number == _MOST_TURNS and waiting:
+                found = Reach('more ends of frames than are gone over, which arguments cross', machine.at)
+            yield machine, found
 
 
 def reach_of(blob: Blob, budget: Optional[Budget] = None, extends: bool = True) -> Tuple[Optional[Reach], int]:
@@ -575,22 +615,20 @@ def reach_of(blob: Blob, budget: Optional[Budget] = None, extends: bool = True) 
     if not may_be_opcode(blob.read(0, 1)):
         return None, 0
     seen = _Seen()
-    for way in _WAYS if extends else _WITHOUT_NUMBERS:
-        if not seen.may_differ(way) or way.keeps and not seen.stops:
-            continue
-        machine = _Machine(blob, way, budget)
-        found = machine.run()
-        seen.add(machine)
+    for _, found in _readings(blob, _WAYS if extends else _WITHOUT_NUMBERS, budget, seen):
         if found is not None:
             return found, seen.stops
     return None, seen.stops
 
 
 def may_lead_on(head: bytes, is_whole: bool) -> bool:
-    """Whether some loader gets to an import, to a call or to a STOP in these first bytes or, unless they are all, perhaps behind them."""
-    for way in _WAYS:
-        machine = _Machine(BytesBlob(head), way, None)
-        if machine.run() is not None or machine.stops:
+    """Whether some loader gets to an import, to a call or to a STOP in these first bytes or, unless they are all, perhaps behind them.
+
+    >>> [may_lead_on(head, True) for head in (b'cos\\nsystem\\n', b'{"a": 1}', b'}.')], may_lead_on(b'}', False)
+    ([True, False, True], True)
+    """
+    for machine, found in _readings(BytesBlob(head), _WAYS, None, _Seen()):
+        if found is not None or machine.stops:
             return True
         if not is_whole and (machine.is_framed or machine.at + _LONGEST_NUMBER >= len(head)):
             return True
@@ -603,18 +641,11 @@ def imports_of(blob: Blob, keeps: bool, budget: Optional[Budget] = None, known: 
     Up to `known` the bytes are opcodes that all loaders read alike.
     """
     found = Imports()
-    seen = _Seen()
     if budget is not None:
         budget.count(_STEPS_OF_A_READING)
     if not may_be_opcode(blob.read(0, 1)):
         return found
-    for way in _WAYS:
-        if way.keeps != keeps or not seen.may_differ(way):
-            continue
-        machine = _Machine(blob, way, budget, found.names)
-        machine.known = known
-        reach = machine.run()
+    for _, reach in _readings(blob, (way for way in _WAYS if way.keeps == keeps), budget, _Seen(stops=keeps), found.names, known):
         if reach is not None:
             found.limit = reach.offset
-        seen.add(machine)
     return found

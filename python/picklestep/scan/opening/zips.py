@@ -8,13 +8,14 @@ from functools import partial
 from typing import NamedTuple, Optional, Set, Tuple
 
 from .. import zips
-from ..begins import HEAD, may_be_pickle
+from ..begins import HEAD
 from ..blobs import Blob
 from ..canonical import Form, Member, NotCanonical, torch
 from ..canonical import zips as strict_zips
 from ..canonical.forms import WRITERS
 from ..canonical.layouts import Layout, alone, of_one
 from ..canonical.pickles import read_pickle
+from ..canonical.wide import may_lead_on
 from ..containers import Held, kind_of
 from ..looking import Looker, Reads, Unpacked
 from ..packed import Unpacking
@@ -46,7 +47,7 @@ def look_at_end(looker: Looker, held: Held, head: bytes) -> bool:
     found = len(looker.pickles)
     _look_into_odd(looker, held)
     first = [pickle for pickle in looker.pickles[found:] if pickle.where[:-1] == where and pickle.where[-1].startswith('(bytes 0 to ')]
-    if may_be_pickle(head, blob.size) and not any(pickle.end.is_stopped for pickle in first):
+    if looker.leads_somewhere(blob) and not any(pickle.end.is_stopped for pickle in first):
         looker.is_read(blob, head, where, held.names, depth=held.depth)
     return True
 
@@ -199,7 +200,7 @@ def _is_readable(looker: Looker, blob: Blob, entry: zips.Entry, start: zips.Star
         looker.note(where, 'its flags say that it is encrypted, and it is not: it is looked at')
         return True
     looker.note(where, 'encrypted: only what can be read without the key is looked at', missed=True)
-    if may_be_pickle(head, max(entry.packed, len(head))) or kind_of(head) is not None:
+    if may_lead_on(head, len(head) >= entry.packed) or kind_of(head) is not None:
         return True
     looker.others += 1
     return False

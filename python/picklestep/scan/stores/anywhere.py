@@ -38,8 +38,8 @@ _MOST_FAR = 16
 _OPCODE = re.compile(rb'[(-Z\]a-u}\x80-\x98]')
 # After an import by GLOBAL these take what is not there, unless a MARK is before it.
 _TAKING = frozenset(b'abdeiloRstu')
-_IN_NAME = frozenset(b'0123456789ABCDEFGHIJKLMNOPQRSTUVWXYZabcdefghijklmnopqrstuvwxyz_.')
-_BEGINS_NAME = _IN_NAME - frozenset(b'0123456789.')
+_IN_NAME = frozenset(b'0123456789ABCDEFGHIJKLMNOPQRSTUVWXYZabcdefghijklmnopqrstuvwxyz_.+@-')
+_BEGINS_NAME = _IN_NAME - frozenset(b'0123456789.+@-')
 
 # What may put a text on the stack: SHORT_BINUNICODE, BINUNICODE, SHORT_BINSTRING, BINSTRING, UNICODE, STRING, BINUNICODE8.
 _TEXTS = re.compile(rb'[\x8cXUTVS\x8d]')

@@ -8,13 +8,13 @@ from __future__ import annotations
 from concurrent.futures import Future, ThreadPoolExecutor
 from typing import TYPE_CHECKING, Callable, Iterator, List, NamedTuple, Optional, Sequence, Set, Tuple
 
-from ..begins import HEAD, may_be_pickle
+from ..begins import HEAD
 from ..blobs import STEPS, Blob, BytesBlob, JoinedBlob, LimitMet
 from ..canonical.streams import Stream
 from ..canonical.wide import may_lead_on
 from ..containers import MAY_BE_STORE, Container, kind_of, store_of
-from ..reading import Summary, is_plain_name
-from ..results import Place
+from ..reading import Summary, is_odd_name, is_plain_name
+from ..results import Pickle, Place
 from ..unread import kind_of_long, kind_of_short
 from . import anywhere
 from .asking import MOST_BYTES, MOST_PICKLES, NOTHING, answers
@@ -64,6 +64,7 @@ _FIRST_PART = 4096
 
 # No other container begins with this byte than a tar archive, whose sign is here.
 _PROTO, _TAR = 0x80, 257
+_LAST_PROTOCOL = 5
 _STOP = ord('.')
 
 _MOST_OF_KEY = 200
@@ -92,11 +93,18 @@ def not_looked_at(what: str, names: Sequence[str]) -> str:
 
 
 def _names_something(answer: Summary, content: bytes) -> bool:
-    """Whether an answer imports something by a plain name, or by a number of copyreg that is called at last; or says nothing. Raw numbers that
-    are taken for a pickle do not.
+    """Whether an answer imports something, or by a number of copyreg that is called at last; or says nothing. Raw numbers that are taken for a
+    pickle do not.
     """
-    names = [found.name for found in answer.pickle((), 0).imports]
-    return answer.is_empty or any(map(is_plain_name, names)) or any(name.startswith(_EXTENSION) for name in names) and anywhere.ends_in_call(content)
+    pickle = answer.pickle((), 0)
+    has_number = any(found.name.startswith(_EXTENSION) for found in pickle.imports)
+    return answer.is_empty or _imports_something(pickle) or has_number and anywhere.ends_in_call(content)
+
+
+def _imports_something(pickle: Pickle) -> bool:
+    """Whether a pickle imports something by a plain name, or does something with what it imports by an odd one that may be there."""
+    used = {done.name for done in pickle.calls}
+    return any(is_plain_name(found.name) or is_odd_name(found.name) and found.name in used for found in pickle.imports)
 
 
 def _with_others(limit: LimitMet, count: int) -> str:
@@ -179,7 +187,7 @@ class Values:
         """
         if len(content) <= _SHORT and content and ((content, depth) in self._nothing or is_word(content)):
             is_pickle = False
-        elif self._trusts and not self.looker.options.everywhere and content[:1] == b'\x80' and content[-1] == _STOP and content[1] <= 5 and content[_TAR:_TAR + 5] != b'ustar':
+        elif self._trusts and not self.looker.options.everywhere and content[:1] == b'\x80' and content[-1] == _STOP and content[1] <= _LAST_PROTOCOL and content[_TAR:_TAR + 5] != b'ustar':
             is_pickle = True
         else:
             return False
@@ -306,7 +314,8 @@ class Values:
         if not is_opcode(content[0]):
             return False
         way = walk(content, 0)
-        return (way.is_likely if guessed else way.imports or not way.lacks) and may_be_pickle(head, len(content))
+        has_proto = content[0] == _PROTO and content[1] <= _LAST_PROTOCOL
+        return (way.is_likely if guessed else way.imports or not way.lacks) and (has_proto or may_lead_on(head, len(head) == len(content)))
 
     def _is_read(self, content: bytes, where: Place, guessed: bool) -> bool:
         """Asks about bytes that are not a pickle and nothing else."""
@@ -317,7 +326,7 @@ class Values:
         self.looker.is_read(BytesBlob(content), content[:HEAD], where, ())
         if len(self.looker.pickles) == before:
             return False
-        if guessed and not any(is_plain_name(found.name) for found in self.looker.pickles[-1].imports):
+        if guessed and not _imports_something(self.looker.pickles[-1]):
             self.looker.pickles.pop()
             del self.looker.notes[notes:]
             return False

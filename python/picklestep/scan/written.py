@@ -1,0 +1,137 @@
+"""The names that files import, written as a list, or added to one that a team has."""
+
+from __future__ import annotations
+
+import datetime
+import errno
+import os
+from dataclasses import dataclass, field
+from pathlib import Path
+from typing import Callable, Dict, Iterable, Iterator, List, Set
+
+from ..saving import open_text, written_whole
+from ..sources import is_opened
+from .allow import SETS, lines_of, read_names
+from .known import known_names
+from .looks import Judge
+from .names import Names, NoList, read_comment, words_for
+from .results import Result
+from .wording import count_of, place_of, shown, times
+
+__all__ = ['Used', 'check_list', 'write_list']
+
+
+@dataclass
+class _Use:
+    count: int = 0
+    pickles: int = 0
+    first: str = ''
+    done: Set[str] = field(default_factory=set)
+
+
+class Used:
+    """The names that files import, as the lines of a list: sorted, with what is done with each, a count and an example.
+
+    A name that is known to run what it is given stands there as a comment, as does one that would be read as a pattern: who means it to be
+    allowed takes the `#` away.
+    """
+
+    def __init__(self) -> None:
+        self._uses: Dict[str, _Use] = {}
+
+    def add(self, result: Result) -> None:
+        """Counts what a file imports."""
+        for pickle in result.pickles:
+            place = place_of(result.path, pickle.where)
+            for found in pickle.imports:
+                use = self._uses.setdefault(found.name, _Use())
+                use.count += found.count
+                use.pickles += 1
+                use.first = min(use.first or place, place)
+            for done in pickle.calls:
+                if done.name in self._uses:
+                    self._uses[done.name].done.add(done.what)
+
+    def without(self, is_there: Callable[[str, Set[str]], bool]) -> 'Used':
+        """Those of the names that are not there yet. `is_there` is asked with a name and what is done with what it imports."""
+        left = Used()
+        left._uses = {name: use for name, use in self._uses.items() if not is_there(name, use.done)}
+        return left
+
+    def places(self) -> List[str]:
+        """Where names were seen first."""
+        return sorted({use.first for use in self._uses.values()})
+
+    def lines(self) -> Iterator[str]:
+        """The lines of the list."""
+        for name, use in sorted(self._uses.items()):
+            note = f'{times(use.count)} in {count_of(use.pickles, "pickle")}, first in {use.first}'
+            why = known_names().note(name)
+            entry = shown(name) + words_for(use.done)
+            if why is not None or name.startswith('#') or '*' in name:
+                yield f'# {entry}  # {why + "; " if why else ""}{note}'
+            elif name.startswith("'"):  # (earlier versions read no note behind such a name)
+                yield from (f'# {note}', entry)
+            else:
+                yield f'{entry}  # {note}'
+
+
+def _is_kept(path: str) -> bool:
+    """Whether this is a file that stays and is added to: no pipe or device, and nothing that this process was given open."""
+    return os.path.isfile(path) and not is_opened(path, to_write=True)
+
+
+def check_list(path: str) -> None:
+    """Raises NoList where a file is none that names are added to, and OSError where it cannot be read or its folder takes no new file."""
+    if _is_kept(path):
+        _names_in(path)
+        folder = os.path.dirname(os.path.realpath(path))
+        if not os.access(folder, os.W_OK):
+            raise PermissionError(errno.EACCES, os.strerror(errno.EACCES), path)
+
+
+def write_list(path: str, used: Used) -> None:
+    """Writes the names into a file. A list that is there stays as it is, and has those behind it that it does not allow yet and that no
+    comment of it has."""
+    if not _is_kept(path) and os.path.exists(path):
+        with open_text(path) as file:
+            file.writelines(f'{line}\n' for line in used.lines())
+        return
+    before = Path(path).read_bytes() if os.path.exists(path) else b''
+    added = _added(path, before, used)
+    if added or not os.path.exists(path):
+        with written_whole(Path(path)) as whole:
+            whole.write(before + added)
+
+
+def _added(path: str, before: bytes, used: Used) -> bytes:
+    """What comes behind a list. Lines end as they do there."""
+    if not before.strip():
+        return _joined(used.lines(), '\n')
+    names = _names_in(path)
+    judge = Judge(names)
+    struck = {line.name for line in map(read_comment, (text for _, text, _ in lines_of(before, path))) if line is not None}
+
+    def is_there(name: str, done: Set[str]) -> bool:
+        return name in struck or judge.mark(name) is None and all(names.allows_done(what, name) for what in done)
+
+    new = used.without(is_there)
+    places = new.places()
+    if not places:
+        return b''
+    seen = f'in {places[0]}' if len(places) == 1 else f'in {count_of(len(places), "place")}, which the notes name'
+    end = '\r\n' if b'\r\n' in before else '\n'
+    head = ('' if before.endswith((b'\n', b'\r')) else end) + end
+    return head.encode() + _joined([f'# Added on {datetime.date.today()}, seen first {seen}', *new.lines()], end)
+
+
+def _joined(lines: Iterable[str], end: str) -> bytes:
+    return ''.join(f'{line}{end}' for line in lines).encode('utf-8', 'backslashreplace')
+
+
+def _names_in(path: str) -> Names:
+    """What a list has, and the lists that it includes. Its name may be that of a set."""
+    try:
+        return read_names([os.path.join('.', path) if path in SETS else path])
+    except NoList as error:
+        raise NoList(f'cannot write {shown(path)}, which is no list: {error}') from error

@@ -1,0 +1,257 @@
+"""Lists of names: what a line may say, which lists one includes, and how names are added to one."""
+
+from __future__ import annotations
+
+import os
+import random
+import re
+import stat
+import unittest
+import unittest.mock
+from pathlib import Path
+from typing import Tuple
+
+import picklestep
+from picklestep.scan import Judge, look_at_bytes, written
+from picklestep.scan.allow import read_names
+from picklestep.scan.names import Names, NoList, read_comment, read_line
+from scan_support import HARMLESS, HOSTILE, ScanCase
+
+NUMPY = b'\x80\x02cnumpy\nndarray\n.'
+# What is no line of a list, each with a word that the message has.
+NONSENSE: Tuple[Tuple[str, str], ...] = (
+    ('import numpy', 'no name'), ('numpy torch', 'no name'), ('{"a": 1}', 'no name'), ('- numpy.ndarray', 'no name'), ('numpy..ndarray', 'no name'),
+    ('.numpy', 'no name'), ('numpy.ndarray,', 'no name'), ('torch.<lambda>', 'no name'), ('numpy.2d', 'no name'), ("'os ' 'x", 'no name'),
+    ("'os 'x'", 'no name'), ("'os ' 'x' 'y'", 'no name'), ('torch*', 'no name'), ('**\'x\'', 'no name'), (': call', 'no name'), ('a.b: : call', 'no name'),
+    ('numpy', 'include numpy'), ('include', 'no dot'), ('include a\0b', 'no name'), ('numpy.ndarray: cal', 'the nearest word is call'), ('numpy.ndarray: call, new', 'call,'),
+    ('numpy.ndarray: everything', 'everything'))
+# What is one.
+LINES = ('numpy.ndarray', '  a.b:call  ', 'a.b: call new state fill  # all', 'a.b :', 'torch.*Storage:', 'torch.**', '**', '*', '**.os.**', 'a*b.c_*2',
+         'été.Ärger', "'os ' 'x'", "'os ' 'x': new  # why", '"it\'s" \'x\'', "raw '\\xff' 'x'", "'os' #5", "'os' #*: call", "'a\\'b' 'c # d'", "'**", 'ext 7',
+         'ext *', 'include numpy', 'include ./lists/our own.txt  # note', '# import numpy', '', '   ')
+
+
+class Lines(unittest.TestCase):
+    """What a line says."""
+
+    def test_nonsense_is_refused(self) -> None:
+        for line, why in NONSENSE:
+            with self.subTest(line), self.assertRaisesRegex(NoList, re.escape(why)):
+                read_line(line)
+
+    def test_all_others_are_taken(self) -> None:
+        for line in LINES:
+            with self.subTest(line):
+                self.assertEqual(read_line(line) is None, not line.strip() or line.startswith('#'))
+
+    def test_what_is_said(self) -> None:
+        for line, name, words, note in (('a.b', 'a.b', 'call fill new state', ''), ('a.b:', 'a.b', '', ''), ('a.b: call  # why', 'a.b', 'call new', 'why'),
+                                        ("'a: call' 'x #': fill # why", "'a: call' 'x #'", 'fill', 'why'), ("'a' 'b:'", "'a' 'b:'", 'call fill new state', '')):
+            found = read_line(line)
+            assert found is not None
+            self.assertEqual((found.name, ' '.join(sorted(found.words)), found.note), (name, words, note), line)
+
+    def test_each_name_that_is_shown_can_stand_in_a_list(self) -> None:
+        chance = random.Random(71)
+        tried = 0
+        for _ in range(300):
+            parts = [''.join(chance.choices('ab_2.é \'"\\#*:\n', k=chance.randrange(1, 6))).encode() for _ in range(2)]
+            content = b'\x80\x04' + b''.join(b'\x8c' + bytes([len(part)]) + part for part in parts) + b'\x93.'
+            for found in look_at_bytes('a.pkl', content).pickles[0].imports:
+                judge = Judge(Names([f'{found.name}: call  # why']))
+                self.assertIsNone(judge.mark(found.name), found.name)
+                self.assertEqual([judge.allows_done(what, found.name) for what in ('call', 'state')], [True, False], found.name)
+                tried += 1
+        self.assertGreater(tried, 250)
+
+    def test_a_long_line_takes_no_long_time(self) -> None:
+        for line in ('a' + ' ' * 1_000_000 + 'b', 'a.' * 500_000 + 'b', "'" + 'a' * 1_000_000, "'" + '\\' * 1_000_000, ': call' * 200_000):
+            try:
+                read_line(line)
+            except NoList as error:
+                self.assertLess(len(str(error)), 300)
+
+    def test_names_in_python_have_the_same_grammar(self) -> None:
+        with self.assertRaisesRegex(NoList, 'import numpy'):
+            picklestep.check(HARMLESS, names=['import numpy'])
+        with self.assertRaisesRegex(NoList, 'only a file'):
+            picklestep.check(HARMLESS, names=['include numpy'])
+
+
+class Includes(ScanCase):
+    """A list and those that it includes."""
+
+    def test_a_set_includes_what_it_needs(self) -> None:
+        for word in ('numpy', 'scipy', 'pandas', 'sklearn', 'joblib', 'xgboost', 'xarray', 'transformers'):
+            self.assertEqual(picklestep.check(NUMPY, allow=word), NUMPY)
+        self.file('a.pkl', NUMPY + HARMLESS)
+        self.assertEqual(self.scan('a.pkl', '--allow', 'sklearn').returncode, 0)
+
+    def test_a_list_includes_a_set_and_other_files(self) -> None:
+        self.file('a.pkl', NUMPY + HOSTILE)
+        self.file('lists/ours', b'# Ours.\ninclude numpy  # arrays\ninclude deeper/theirs\n')
+        self.file('lists/deeper/theirs', b'include ../ours\nposix.system: call\ninclude theirs\ninclude ./theirs\n')
+        run = self.scan('a.pkl', '--allow', 'lists/ours')
+        self.assertEqual((run.returncode, run.stderr), (0, ''))
+        self.assertEqual(self.scan('a.pkl', '--allow', 'lists/deeper/theirs').returncode, 0)
+
+    def test_a_long_chain(self) -> None:
+        for number in range(3000):
+            self.file(f'{number}', b'include %d\n' % (number + 1))
+        self.file('3000', b'include 0\na.b\n')
+        self.assertEqual(list(read_names([str(self.folder / '0')]).names), ['a.b'])
+
+    def test_unknown_names(self) -> None:
+        self.file('a.pkl', HARMLESS)
+        self.file('ours', b'\n# Ours.\ninclude nump\n')
+        self.file('folder/ours', b'include ../folder\n')
+        for words, said in ((['ours'], 'ours, line 3: cannot include nump: No such file or directory; the nearest set is numpy'),
+                            (['folder/ours'], 'folder/ours, line 1: cannot include ../folder: Is a directory'),
+                            (['nump'], 'cannot open nump: No such file or directory; the nearest set is numpy'),
+                            (['scikit-learn'], 'cannot open scikit-learn: No such file or directory; the nearest set is sklearn'),
+                            (['torch', 'zzz'], 'cannot open zzz: No such file or directory')):
+            run = self.scan('a.pkl', *(word for each in words for word in ('--allow', each)))
+            self.assertEqual((run.returncode, run.stdout, run.stderr), (2, '', f'picklestep: {said}\n'))
+
+    def test_nonsense_has_its_place(self) -> None:
+        self.file('a.pkl', HARMLESS)
+        self.file('ours', b'a.b\r\n# \x0c\xe2\x80\xa8c.d e\r\nimport numpy\r\n')
+        self.file('more', b'include ours\n')
+        self.file('binary', b'a.b\n\xff\xfe\n')
+        for option in ('--allow', '--deny'):
+            for name, said in (('ours', 'ours, line 3: no name, no pattern and no include: import numpy'),
+                               ('more', 'ours, line 3: no name, no pattern and no include: import numpy'), ('binary', 'binary, line 2: no text in UTF-8')):
+                run = self.scan('a.pkl', option, name)
+                self.assertEqual((run.returncode, run.stdout, run.stderr), (2, '', f'picklestep: {said}\n'))
+        with self.assertRaisesRegex(NoList, 'ours, line 3'):
+            picklestep.check(HARMLESS, allow=[str(self.folder / 'ours')])
+
+    def test_signs_of_an_editor_are_no_part_of_a_name(self) -> None:
+        self.file('a.pkl', HARMLESS)
+        self.file('ours', b'\xef\xbb\xbfcollections.OrderedDict\r\n')
+        self.assertEqual(self.scan('a.pkl', '--allow', 'ours').returncode, 0)
+
+    def test_a_set_that_is_denied_is_its_own_names(self) -> None:
+        self.file('a.pkl', HARMLESS)
+        self.file('b.pkl', NUMPY)
+        self.file('deny', b'include numpy\n')
+        for name, word, status in (('a.pkl', 'numpy', 0), ('b.pkl', 'numpy', 1), ('a.pkl', 'deny', 0), ('b.pkl', 'deny', 1), ('b.pkl', 'sklearn', 0)):
+            self.assertEqual(self.scan(name, '--deny', word).returncode, status, (name, word))
+
+    def test_what_is_not_allowed_says_in_which_set_it_is(self) -> None:
+        self.file('a.pkl', NUMPY + HARMLESS + b'cours\nModel\n.')
+        self.file('ours', b'a.b\n')
+        self.assertEqual([line.partition(': ')[2] for line in self.scan('a.pkl', '--brief', '--allow', 'ours').stdout.splitlines()[:3]], [
+            'import numpy.ndarray once, first at 2: not allowed: is in set numpy',
+            'import collections.OrderedDict once, first at 20: not allowed: is in sets plain, torch', 'import ours.Model once, first at 46: not allowed'])
+
+    def test_a_list_without_a_name_allows_none(self) -> None:
+        for content in (b'', b'# Nothing yet.\n'):
+            path = str(self.file('ours', content))
+            self.assertEqual(self.scan(str(self.file('a.pkl', HARMLESS)), '--allow', 'ours').returncode, 1)
+            with self.assertRaises(picklestep.NotAllowed):
+                picklestep.check(HARMLESS, allow=path)
+
+
+class Written(ScanCase):
+    """A list that is there, and to which names are added."""
+
+    OURS = (b'# Ours, read over by A.\ninclude plain\n\nzeta.last   # stays here\nunused.*Thing:\n# torch.load: call   # struck out\nalpha.First: new\n')
+
+    def setUp(self) -> None:
+        super().setUp()
+        self.file('a.pkl', HARMLESS + NUMPY)
+        self.file('b.pkl', HOSTILE + b'\x80\x02calpha\nFirst\n)R.' + b'ctorch\nload\n.')
+
+    def add(self, *words: str) -> str:
+        """What stands in the list when names were added."""
+        run = self.scan(*words, '--write-allow', 'ours')
+        self.assertEqual(run.stderr, '')
+        return (self.folder / 'ours').read_bytes().decode()
+
+    def test_a_reviewed_list_stays(self) -> None:
+        self.file('ours', self.OURS)
+        text = self.add('a.pkl', '--allow', 'ours')
+        self.assertTrue(text.startswith(self.OURS.decode()))
+        self.assertRegex(text[len(self.OURS):], r'\A\n# Added on \d{4}-\d\d-\d\d, seen first in a\.pkl\n'
+                                                r'numpy\.ndarray:  # once in 1 pickle, first in a\.pkl\n\Z')
+        self.assertEqual(self.scan('a.pkl', '--allow', 'ours').returncode, 0)
+
+    def test_nothing_new_changes_nothing(self) -> None:
+        path = self.file('ours', self.OURS)
+        self.add('a.pkl', 'b.pkl')
+        content, before = path.read_bytes(), path.stat()
+        self.assertEqual(self.add('a.pkl', 'b.pkl').encode(), content)
+        self.assertEqual((path.stat().st_mtime_ns, path.stat().st_ino), (before.st_mtime_ns, before.st_ino))
+
+    def test_what_is_known_or_struck_out_is_not_allowed_by_it(self) -> None:
+        self.file('ours', self.OURS)
+        added = self.add('b.pkl', 'a.pkl')[len(self.OURS):].splitlines()
+        self.assertRegex(added[1], r'seen first in 2 places, which the notes name$')
+        self.assertEqual(added[2:], ['alpha.First: call  # once in 1 pickle, first in b.pkl', 'numpy.ndarray:  # once in 1 pickle, first in a.pkl',
+                                     '# posix.system: call  # runs a shell command; once in 1 pickle, first in b.pkl'])
+        marked = self.scan('b.pkl', '--brief', '--allow', 'ours').stdout
+        self.assertEqual(re.findall(r'import (\S+) ', marked), ['posix.system', 'torch.load'])
+
+    def test_names_in_quotes(self) -> None:
+        self.file('ours', b'a.b\n')
+        self.file('c.pkl', b'cos \nx*\n.' + b'cos \ny\n.' + b"(cit's\ny\nt." + b'\x80\x04\x8c\1a\x8c\1b\x86\x8c\1c\x93.')
+        self.add('c.pkl')
+        names = [found.name for found in map(read_comment, (self.folder / 'ours').read_text().splitlines()) if found is not None]
+        self.assertIn("'os ' 'x*'", names)
+        content = (self.folder / 'ours').read_bytes()
+        self.assertEqual(self.add('c.pkl').encode(), content)
+
+    def test_ends_of_lines_stay(self) -> None:
+        self.file('ours', b'a.b\r\nc.d')
+        self.assertRegex(self.add('a.pkl'), r'\Aa\.b\r\nc\.d\r\n\r\n# Added [^\n]*\r\ncollections\.OrderedDict:[^\n]*\r\nnumpy\.ndarray:[^\n]*\r\n\Z')
+
+    def test_a_file_that_is_no_list_stays(self) -> None:
+        for content, line in ((b'Dear A,\n', 1), (b'a.b\n\n<html>\n', 3), (b'\x80\x04N.', 1), (b'include nump\n', 1)):
+            path = self.file('notes', content)
+            before = path.stat()
+            run = self.scan('a.pkl', '--write-allow', 'notes')
+            self.assertEqual((run.returncode, run.stdout), (2, ''))
+            self.assertRegex(run.stderr, rf'\Apicklestep: cannot write notes, which is no list: notes, line {line}: ')
+            self.assertEqual((path.read_bytes(), path.stat().st_mtime_ns, path.stat().st_ino), (content, before.st_mtime_ns, before.st_ino))
+
+    def test_a_file_with_the_name_of_a_set(self) -> None:
+        self.file('numpy', b'a.b\n')
+        self.assertEqual(self.scan('a.pkl', '--write-allow', 'numpy').returncode, 0)
+        self.assertIn('numpy.ndarray:', (self.folder / 'numpy').read_text())
+
+    def test_an_empty_file_gets_a_whole_list(self) -> None:
+        self.file('ours', b'')
+        self.assertTrue(self.add('a.pkl').startswith('collections.OrderedDict:'))
+
+    @unittest.skipUnless(hasattr(os, 'symlink') and os.name == 'posix', 'for systems with modes')
+    def test_links_and_modes_stay(self) -> None:
+        self.file('kept/ours', self.OURS).chmod(0o640)
+        (self.folder / 'ours').symlink_to('kept/ours')
+        self.add('a.pkl')
+        self.assertTrue((self.folder / 'ours').is_symlink())
+        self.assertEqual(stat.S_IMODE((self.folder / 'kept' / 'ours').stat().st_mode), 0o640)
+        self.assertEqual(sorted(os.listdir(self.folder / 'kept')), ['ours'])
+
+    def test_a_fault_while_writing_loses_nothing(self) -> None:
+        path = self.file('ours', self.OURS)
+        used = written.Used()
+        used.add(look_at_bytes('a.pkl', NUMPY))
+        with unittest.mock.patch.object(os, 'fsync', side_effect=OSError(28, 'No space left on device')), self.assertRaises(OSError):
+            written.write_list(str(path), used)
+        self.assertEqual((path.read_bytes(), os.listdir(self.folder).count('ours')), (self.OURS, 1))
+        self.assertEqual([name for name in os.listdir(self.folder) if 'unfinished' in name], [])
+
+    def test_a_list_that_changes_meanwhile(self) -> None:
+        """What somebody writes into it while files are looked at stays, too."""
+        path = self.file('ours', self.OURS)
+        used = written.Used()
+        used.add(look_at_bytes('a.pkl', NUMPY))
+        written.check_list(str(path))
+        Path(path).write_bytes(self.OURS + b'numpy.**\n')
+        written.write_list(str(path), used)
+        self.assertEqual(path.read_bytes(), self.OURS + b'numpy.**\n')
+
+
+if __name__ == '__main__':
+    unittest.main()
