@@ -28,6 +28,7 @@ from trials.trial import Verdict
 ROOT = Path(__file__).resolve().parent.parent
 SOURCES = ROOT / 'python'
 RELEASED = ROOT / 'dist' / 'linux-x86_64-static' / 'picklestep'
+LICENCES = ('LICENSE-MIT', 'LICENSE-APACHE', 'THIRD-PARTY')
 MOST_SECONDS = 600
 # All tests of the package together, on a machine that has much else to do.
 MOST_SECONDS_OF_TESTS = 3600
@@ -159,6 +160,8 @@ def is_released(program: str) -> bool:
 def install(python: str, program: str, folder: Path) -> Tuple[str, str]:
     """Builds the wheel and installs it. Answers the interpreter that has it, and what was wrong."""
     shutil.copytree(SOURCES, folder / 'sources', ignore=shutil.ignore_patterns('__pycache__', 'tests', 'build', '*.egg-info'))
+    for name in LICENCES:
+        shutil.copy(ROOT / name, folder)
     environment = {} if is_released(program) else {'PICKLESTEP_PROGRAM': program}
     if not environment:
         # The wheel looks for the released files next to its sources.

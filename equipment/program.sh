@@ -159,7 +159,7 @@ choose_program() {
 # Names the program for the words of the package too, where there is one for this machine.
 name_program() {
     case ${1-} in
-    '' | -h | --help | --version) return ;;
+    '' | -h | --help | help | --version) return ;;
     esac
     if [ -z "${PICKLESTEP_PROGRAM-}" ] && ! is_for_program "$@"; then
         if find_program; then

@@ -16,6 +16,7 @@ import time
 from collections.abc import Callable
 from dataclasses import dataclass, field
 
+from packages import LICENCES
 from saves import unprivileged
 from trials.samples import HOSTILE
 from trials.trial import Lack, Trial
@@ -229,6 +230,9 @@ def clone_starts(releases: Releases) -> str:
     said = releases.run("./picklestep", "--version", PYTHONDONTWRITEBYTECODE="1").output
     if not said.endswith(f"/{RELEASED}\n") or (releases.clone / BUILT / "TOOLCHAIN").read_text() not in said:
         return f"its version is {said[-200:]!r}"
+    why = says_commit(releases, str(releases.clone / "picklestep"))
+    if why:
+        return why
     remembered = (releases.clone / "out/released").read_text()
     if not remembered.endswith(f"/{RELEASED}\n"):
         return f"it starts {remembered[-100:]!r}"
@@ -519,10 +523,10 @@ ASK_LIBRARY = "from picklestep import library, place; print(library.answer(['lis
 
 
 def installed_files(releases: Releases, program: tuple[str, ...] = PROGRAM) -> list[str]:
-    """What an installation has: the entrance, the package with the program, the pages and completions."""
+    """What an installation has: the entrance, the package with the program, the name of the commit, the licences, the pages and completions."""
     package = releases.clone / "python"
     modules = [str(path.relative_to(package)) for path in (package / "picklestep").rglob("*") if path.is_file() and path.suffix != ".pyc"]
-    beside = [f"picklestep/bin/{name}" for name in program]
+    beside = [*(f"picklestep/bin/{name}" for name in (*program, "COMMIT")), *LICENCES]
     return sorted(["bin/picklestep", *(f"lib/picklestep/{name}" for name in [*modules, *beside]), *PAGES, BASH, ZSH])
 
 
@@ -550,10 +554,26 @@ def installs(releases: Releases) -> str:
         run = releases.run(entrance, *words, at=releases.folder, PYTHONDONTWRITEBYTECODE="1")
         if run.status != 1 or "!     import posix.system once" not in run.output or run.errors:
             return f"{words}: status {run.status}, output {run.output[:60]!r}, errors {run.errors[:200]!r}"
+    why = says_commit(releases, entrance)
+    if why:
+        return why
     run = releases.run("./install", "--remove", str(prefix))
     if run.status != 0 or sorted(os.listdir(prefix)) != ["bin"] or files_below(prefix) != ["bin/other"]:
         return f"taken away: status {run.status}, and there is {files_below(prefix)}"
     return ""
+
+
+def says_commit(releases: Releases, entrance: str) -> str:
+    """What is wrong with the version that an entrance says, in a folder of another project. It has the commit of the clone."""
+    other = releases.folder / "another project"
+    other.mkdir(exist_ok=True)
+    releases.run("git", "init", "-q", at=other)
+    releases.run("git", *COMMITTER, "commit", "-q", "--allow-empty", "-m", "Another project", at=other)
+    commit = releases.run("git", "rev-parse", "--short", "HEAD").output.strip()
+    run = releases.run(entrance, "--version", at=other, PYTHONDONTWRITEBYTECODE="1")
+    first = run.output.partition("\n")[0]
+    is_said = re.fullmatch(rf"picklestep \d+\.\d+\.\d+ \(commit {commit}\)", first) is not None and commit
+    return "" if is_said else f"the version in {entrance}: {first!r}, and not of {commit!r}"
 
 
 def installs_for_all(releases: Releases) -> str:
@@ -680,7 +700,8 @@ def completions(releases: Releases) -> str:
     (at / "two words").write_text("")
     page = str(releases.clone / BASH)
     for words, wanted in (
-        ([""], ["--help", "--version", "calls", "debug", "diff", "form", "list", "mend", "objects", "scan", "shell", "source", "view"]),
+        ([""], ["--help", "--version", "calls", "debug", "diff", "form", "help", "list", "mend", "objects", "scan", "shell", "source", "view"]),
+        (["help", "sc"], ["scan"]),
         (["ob"], ["objects"]),
         (["one"], ["one.pickle"]),
         (["list", "--"], ["--help", "--many", "--unframed"]),

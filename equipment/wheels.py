@@ -13,7 +13,7 @@ from pathlib import Path
 from typing import Callable
 
 from over_node import IN_GATE, classes, prepare, run_classes
-from packages import NO_BUILDER, builder, own_environment
+from packages import LICENCES, NO_BUILDER, builder, own_environment
 from trials.room import beginning
 from trials.trial import Lack, Noted, Trial
 
@@ -70,6 +70,8 @@ class Wheels:
         ignored = shutil.ignore_patterns("__pycache__", "tests", "build", "*.egg-info", "bin")
         shutil.copytree(self.root / "python", copy / "python", ignore=ignored)
         shutil.copytree(self.root / "dist", copy / "dist")
+        for name in LICENCES:
+            shutil.copy(self.root / name, copy)
         if not filecmp.cmp(self.program, self.root / RELEASED, shallow=False):
             shutil.copy(self.program, copy / RELEASED)
         return copy / "python"
@@ -121,6 +123,9 @@ def same_wheels(wheels: Wheels) -> str:
         ours, others = (contents(wheels.wheel(machine, sources)) for sources in (wheels.sources, wheels.unpacked))
         if ours != others:
             return f"{machine}: {sorted(ours.items() ^ others.items())[0][0]} differs"
+        lacking = [name for name in LICENCES if (wheels.root / name).read_bytes() not in [ours[file] for file in ours if file.endswith(f"/{name}")]]
+        if lacking:
+            return f"{machine}: it has no {', '.join(lacking)}"
     return ""
 
 

@@ -2,15 +2,20 @@
 
 PICKLESTEP_MACHINE names the kind: linux-x86_64, linux-aarch64, or any, which carries the module for Node. Without it, it is that of the
 machine that builds. PICKLESTEP_PROGRAM names another program to carry, which was built here. The source distribution carries all of them.
+
+Each carries the licences, with the notices of what is linked into the programs, and the name of the commit that it is made of, where git
+knows it.
 """
 
+import contextlib
 import os
 import platform
 import shutil
+import subprocess
 import sys
 from dataclasses import dataclass
 from pathlib import Path
-from typing import Dict, List, Optional, Tuple
+from typing import Dict, Iterator, List, Optional, Tuple
 
 from setuptools import Distribution, setup
 from setuptools.command.build_py import build_py
@@ -21,6 +26,9 @@ HERE = Path(__file__).resolve().parent
 # In a source distribution they are beside this file, in the repository a folder above.
 RELEASED = next((folder for folder in (HERE / 'dist', HERE.parent / 'dist') if folder.is_dir()), HERE / 'dist')
 TOOLCHAIN = 'linux-x86_64/TOOLCHAIN'
+# They too are beside this file in a source distribution, and in the repository a folder above.
+LICENCES = ('LICENSE-MIT', 'LICENSE-APACHE', 'THIRD-PARTY')
+COMMIT = 'COMMIT'
 
 
 @dataclass(frozen=True)
@@ -75,6 +83,30 @@ def carried() -> Dict[str, Path]:
     return files
 
 
+def commit() -> str:
+    """The commit of the sources: a source distribution has its name, a clone has git. Empty where neither says it."""
+    if (RELEASED / COMMIT).is_file():
+        return (RELEASED / COMMIT).read_text()
+    if not (HERE.parent / '.git').exists() or shutil.which('git') is None:
+        return ''
+    asked = subprocess.run(['git', '-C', str(HERE.parent), 'rev-parse', '--short', 'HEAD'], capture_output=True, text=True, check=False)
+    return asked.stdout if asked.returncode == 0 else ''
+
+
+@contextlib.contextmanager
+def licences() -> Iterator[None]:
+    """Within it the licences lie beside this file, where setuptools looks for them."""
+    brought = [name for name in LICENCES if not (HERE / name).is_file()]
+    try:
+        for name in brought:
+            shutil.copyfile(HERE.parent / name, HERE / name)
+        yield
+    finally:
+        for name in brought:
+            with contextlib.suppress(FileNotFoundError):
+                (HERE / name).unlink()
+
+
 def platform_tag() -> str:
     """The platform of the wheel. (A program that was built here is for machines like this one.)"""
     return 'linux_x86_64' if own_program() is not None else MACHINES[machine_name()].tag
@@ -91,6 +123,8 @@ class BuildWithProgram(build_py):
         for name, path in carried().items():
             shutil.copyfile(path, folder / name)
             (folder / name).chmod(0o755 if name in ('picklestep', 'picklestep.mjs') else 0o644)
+        if commit():
+            (folder / COMMIT).write_text(commit())
 
 
 class DistributionWithProgram(Distribution):
@@ -116,7 +150,10 @@ class SourcesWithPrograms(sdist):
             to = Path(base_dir, 'dist', file)
             to.parent.mkdir(parents=True, exist_ok=True)
             shutil.copyfile(RELEASED / file, to)
+        if commit():
+            Path(base_dir, 'dist', COMMIT).write_text(commit())
 
 
-setup(distclass=DistributionWithProgram,
-      cmdclass={'build_py': BuildWithProgram, 'bdist_wheel': WheelForPlatform, 'sdist': SourcesWithPrograms})
+with licences():
+    setup(distclass=DistributionWithProgram,
+          cmdclass={'build_py': BuildWithProgram, 'bdist_wheel': WheelForPlatform, 'sdist': SourcesWithPrograms})

@@ -5,7 +5,7 @@ from __future__ import annotations
 from devices import BREAKPOINTS
 
 from .room import Room
-from .row import Row, fails, misused, repeated, trials_of, unexpected, valueless
+from .row import MISSING, Row, fails, misused, repeated, trials_of, unexpected, valueless
 from .trial import Trial
 
 _, BREAK_LINES, BREAK_ANSWERS, BREAK_STATUS = BREAKPOINTS
@@ -142,7 +142,7 @@ SAVES = (
         through='"$@" >/dev/full',
         unmade="unsaved.pickle",
     ),
-    fails("no such file to save", "cannot read", "debug", "missing.pickle", "--save", "unsaved.pickle"),
+    fails("no such file to save", "cannot read", "debug", "missing.pickle", "--save", "unsaved.pickle", unread=f"missing.pickle: {MISSING}"),
     fails(
         "no file saved from no file",
         "cannot read",
@@ -151,6 +151,7 @@ SAVES = (
         "--save",
         "unsaved.pickle",
         unmade="unsaved.pickle",
+        unread=f"missing.pickle: {MISSING}",
     ),
     valueless("a name to save missing", "--save <OUT>", "debug", "doubled.pickle", "--save"),
     repeated("two names to save", "--save <OUT>", "debug", "doubled.pickle", "--save", "one.pickle", "--save", "two.pickle"),

@@ -10,7 +10,7 @@ import tty
 from collections.abc import Sequence
 
 from .room import SECONDS, Room, Run, Word, beginning
-from .row import CLOSED, CUT, FULL, LITTLE_MEMORY, SMALL_STACK, UNPRIVILEGED, Row, fails, trials_of
+from .row import MISSING, CLOSED, CUT, FULL, LITTLE_MEMORY, SMALL_STACK, UNPRIVILEGED, Row, fails, trials_of
 from .samples import PAIR_LISTING, PAIR_OBJECTS
 from .trial import Trial
 
@@ -103,7 +103,7 @@ OBJECTS = (
         output="#0 int 1\nfault: F3 truncated at 2\n",
         through=CUT,
     ),
-    fails("the objects of no such file", "cannot read", "objects", "missing.pickle"),
+    fails("the objects of no such file", "cannot read", "objects", "missing.pickle", unread=f"missing.pickle: {MISSING}"),
     fails("the objects of a file past the size limit", "too large", "objects", "too_large.pickle"),
     fails("the objects, on a full device", "cannot write", "objects", "pair.pickle", through=FULL),
 )
@@ -118,8 +118,10 @@ printf '\\n \\t\\v5:1 \\f\\r\\n\\302\\240\\n\\t\\r\\n\\343\\200\\2007:1\\302\\24
 
 
 def holes_fail(name: str, why: str, file: str, *holes: str, through: str = "") -> Row:
-    """The calls of a file without the bytes that files of holes name."""
-    return fails(name, why, "calls", file, *(word for path in holes for word in ("--skip", f"@{path}")), through=through)
+    """The calls of a file without the bytes that files of holes name. Those that are not there are called missing."""
+    words = [word for path in holes for word in ("--skip", f"@{path}")]
+    missing = [path for path in (file, *holes) if path.startswith("missing")]
+    return fails(name, why, "calls", file, *words, through=through, unread="".join(f"{path}: {MISSING}" for path in missing))
 
 
 CALLS = (
@@ -139,7 +141,7 @@ CALLS = (
         through=CUT,
     ),
     Row("the calls of a long file", ("calls", "long.pickle"), output=NO_CALLS),
-    fails("the calls of no such file", "cannot read", "calls", "missing.pickle"),
+    fails("the calls of no such file", "cannot read", "calls", "missing.pickle", unread=f"missing.pickle: {MISSING}"),
     fails("the calls of a file past the size limit", "too large", "calls", "too_large.pickle"),
     fails("the calls, on a full device", "cannot write", "calls", "pair.pickle", through=FULL),
     Row(
@@ -204,7 +206,7 @@ CONVERSATIONS = (
         "step\nback\n" * MANY,
         output="at 1\nat 0\n" * MANY,
     ),
-    fails("a conversation about no such file", "cannot read", "debug", "missing.pickle"),
+    fails("a conversation about no such file", "cannot read", "debug", "missing.pickle", unread=f"missing.pickle: {MISSING}"),
     fails("a conversation about a file past the size limit", "too large", "debug", "too_large.pickle"),
     fails(
         "a conversation with a full device", "cannot write", "debug", "doubled.pickle", given="step\n", through=FULL
@@ -243,16 +245,16 @@ CONVERSATIONS = (
 )
 
 FAULTS = (
-    fails("no such file", "cannot read", "list", "missing.pickle"),
-    fails("an empty path", "cannot read", "list", ""),
-    fails("a folder", "cannot read", "list", "another folder"),
-    fails("a file that may not be read", "cannot read", "list", "unreadable.pickle", through=UNPRIVILEGED),
+    fails("no such file", "cannot read", "list", "missing.pickle", unread=f"missing.pickle: {MISSING}"),
+    fails("an empty path", "cannot read", "list", "", unread=f"'': {MISSING}"),
+    fails("a folder", "cannot read", "list", "another folder", unread="another folder: Is a directory"),
+    fails("a file that may not be read", "cannot read", "list", "unreadable.pickle", through=UNPRIVILEGED, unread="unreadable.pickle: Permission denied"),
     fails("a file whose reading fails", "cannot read", "list", "/proc/self/mem"),
     fails("a file past the size limit", "too large", "list", "too_large.pickle"),
     fails("a full device", "cannot write", "list", "pair.pickle", through=FULL),
     fails("a full device, with a long listing", "cannot write", "list", "long.pickle", through=FULL),
     fails("closed standard output", "cannot write", "list", "pair.pickle", through=CLOSED),
-    fails("no such file, with closed standard output", "cannot read", "list", "missing.pickle", through=CLOSED),
+    fails("no such file, with closed standard output", "cannot read", "list", "missing.pickle", through=CLOSED, unread=f"missing.pickle: {MISSING}"),
 )
 
 # Nothing is read of a file that is too large: there is no room for a tenth of it, as the last two rows show.

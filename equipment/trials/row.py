@@ -68,9 +68,13 @@ def trials_of(rows: Iterable[Row], room: Room) -> list[Trial]:
     return [Trial(row.name, functools.partial(row.fault, room)) for row in rows]
 
 
-def fails(name: str, why: str, *words: Word, given: str = "", through: str = "", unmade: str = "") -> Row:
-    """The program has no answer, and says why in the one line of its errors."""
-    errors = f"picklestep: {why}\n"
+MISSING = "No such file or directory"
+
+
+def fails(name: str, why: str, *words: Word, given: str = "", through: str = "", unmade: str = "", unread: str = "") -> Row:
+    """The program has no answer, and says why in the one line of its errors. `unread` is what the entrance says behind it of a file that
+    cannot be read."""
+    errors = f"picklestep: {why}\n" + (f"picklestep: cannot read {unread}\n" if unread else "")
     return Row(name, words, given, status=2, errors=errors, through=through, unmade=unmade)
 
 

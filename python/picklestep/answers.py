@@ -10,6 +10,7 @@ from itertools import chain
 from typing import Any, ClassVar, Iterator, List, Optional, Sequence, Tuple, TypeVar, Union, overload
 
 from . import reaches, texts
+from .hints import Watch
 from .records import End, Item, Object, Opcode, Reach, Shown
 
 __all__ = ['Answer', 'Calls', 'Heap', 'Items', 'Listing', 'Objects', 'Part', 'Reached', 'ShownObjects', 'closing_in']
@@ -318,6 +319,32 @@ class Calls(Reached):
         """
         start, end = self._span
         return texts.container_in(self.text, max(start, end - _TAIL), end)
+
+    @cached_property
+    def _watch(self) -> Watch:
+        watch = Watch()
+        watch.feed(self.text)
+        return watch
+
+    @property
+    def array_at(self) -> Optional[int]:
+        """Where joblib's first array begins, whose numbers are no opcodes: `picklestep.scan` reads it, and what is behind it.
+
+        >>> import picklestep
+        >>> picklestep.calls(b'cjoblib.numpy_pickle\\nNumpyArrayWrapper\\n)\\x81}b\\x01').array_at
+        43
+        """
+        return self._watch.array_at
+
+    @property
+    def hints(self) -> Tuple[str, ...]:
+        """Where else to look for what the lines do not show, in words for people: behind joblib's arrays, and in a frame at which reading ended.
+
+        >>> import picklestep
+        >>> picklestep.calls(b'\\x80\\x04\\x95\\x09\\0\\0\\0\\0\\0\\0\\0N.').hints[0][:34]
+        'what is in that frame is not read:'
+        """
+        return self._watch.hints
 
     @property
     def kept(self) -> int:

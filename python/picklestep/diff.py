@@ -28,13 +28,13 @@ _BLOCK = 1 << 20
 
 def main(arguments: List[str]) -> int:
     """Writes a line for each difference. The status is 0 where there is none, 1 where there is one, 2 where they cannot be compared."""
-    parser = argparse.ArgumentParser(prog='picklestep diff', description='Shows what two pickles differ in: their results, what they import '
-                                     'and call (- only in A, + only in B), and how they end; nothing of them is run.',
-                                     epilog='Status: 0 if nothing differs, 1 if something does, 2 if they cannot be compared.')
+    parser = argparse.ArgumentParser(prog='picklestep diff', description='Prints what two pickles differ in: their results, their imports and '
+                                     'calls (- only in A, + only in B), and how they end. Nothing of them is run.',
+                                     epilog='Status: 0 if nothing differs; 1 if something does; 2 if they cannot be compared.')
     parser.add_argument('old', metavar='A', help='a pickle')
     parser.add_argument('new', metavar='B', help='another one')
-    parser.add_argument('--many', action='store_true', help='each file holds several pickles one after another')
-    parser.add_argument('--unframed', action='store_true', help='take FRAME for an opcode like others, whose length nobody checks')
+    parser.add_argument('--many', action='store_true', help='each file has several pickles that follow one another')
+    parser.add_argument('--unframed', action='store_true', help='ignore the lengths of frames')
     options = parser.parse_args(arguments)
     try:
         old, new = rereadable(options.old), rereadable(options.new)

@@ -18,27 +18,32 @@ _HERE = os.path.dirname(os.path.realpath(__file__))
 _PAGES = os.path.join(_HERE, 'help')
 # The words of this package, and the modules that do them.
 _OWN = {'diff': 'diff', 'mend': 'mend', 'scan': 'scan', 'shell': 'shell', 'source': 'python_source', 'view': 'view'}
+_MOST_WRONG = 2  # letters that are taken for a slip
 _ASKS_HELP = ('--help', '-h')
 
 
 def main(words: 'list[str]') -> int:
     """Does what the words say, and answers the status. A word of the program never comes back."""
     if sys.version_info < (3, 9):
+        if words and _is_of_program(words[0]):
+            return _hand_over(words)
         return _complain('python3 is older than 3.9: only list, objects, calls, form and debug work with it')
     if not words or words[0] in _ASKS_HELP:
         return _print_page('picklestep', to_output=bool(words))
     first, rest = words[0], words[1:]
     if first == '--version':
-        return _print_version()
+        return _do_apart(words)
     if _is_of_program(first):
-        return _print_page(first) if _asks_help(rest) else _hand_over(words)
+        return _print_page(first) if _asks_help(rest) else _do_apart(words) if _is_told_more(words) else _hand_over(words)
     if first in _OWN:
         return _do_apart(words)
+    if first == 'help':
+        return _help(rest)
     if first == '--':
         return _do_apart(['scan', *words])
     if os.path.lexists(first):  # (one that begins like an option is none)
         return _do_apart(['scan', os.path.join('.', first) if first.startswith('-') else first, *rest])
-    return _complain(f'{first!r} is neither a word of picklestep nor a file that is there: see picklestep --help')
+    return _complain(f'{first!r} is neither a word of picklestep nor a file that is there: {_meant(first)}see picklestep --help')
 
 
 def _complain(text: str) -> int:
@@ -63,6 +68,44 @@ def _print_page(word: str, to_output: bool = True) -> int:
     with open(_page(word), encoding='utf-8') as page:
         print(page.read(), end='', file=sys.stdout if to_output else sys.stderr)
     return 0 if to_output else 2
+
+
+def _help(words: 'list[str]') -> int:
+    """The page of a word, or the one of all."""
+    if len(words) > 1:
+        return _complain('it is: picklestep help [WORD]')
+    word = words[0] if words else 'help'
+    if word in _OWN:
+        return _do_apart([word, '--help'])
+    if word == 'help' or _is_of_program(word):
+        return _print_page('picklestep' if word == 'help' else word)
+    return _complain(f'{word!r} is no word of picklestep: {_meant(word)}see picklestep --help')
+
+
+def _meant(word: str) -> str:
+    """The nearest word, where a slip or two lead to it."""
+    known = sorted([*_OWN, 'help', *(name[:-4] for name in os.listdir(_PAGES) if _is_of_program(name[:-4]))])
+    wrong, nearest = min((_slips(word, each), each) for each in known)
+    return f'is it {nearest}? ' if wrong <= min(_MOST_WRONG, len(word) // 2) else ''
+
+
+def _slips(one: str, other: str) -> int:
+    """How many letters are to be put in, taken away or replaced, or pairs of them turned, to get one word from another."""
+    before, row = [0], list(range(len(other) + 1))
+    for at, letter in enumerate(one):
+        earlier, before, row = before, row, [at + 1]
+        for to, wanted in enumerate(other):
+            row.append(min(before[to + 1] + 1, row[to] + 1, before[to] + (letter != wanted)))
+            if at and to and letter == other[to - 1] and one[at - 1] == wanted:
+                row[-1] = min(row[-1], earlier[to - 1] + 1)
+    return row[-1]
+
+
+def _is_told_more(words: 'list[str]') -> bool:
+    """Whether something stands behind the program's own lines: where else to look, or which file cannot be read (help/start.sh asks the same)."""
+    if words[0] == 'calls' or '--' in words:  # (behind that a file may have a name like an option)
+        return True
+    return any(not os.access(word, os.R_OK) or os.path.isdir(word) for word in words[1:] if not word.startswith('-'))
 
 
 def _hand_over(words: 'list[str]') -> int:
@@ -95,8 +138,8 @@ def _become(command: 'list[str]') -> int:
 
 def _print_version() -> int:
     import hashlib
-    from . import __version__
-    from .place import files_of, find_program, toolchain_of
+    from picklestep import __version__
+    from picklestep.place import commit, files_of, find_program, toolchain_of
     lines = []
     try:
         program = find_program()
@@ -105,19 +148,24 @@ def _print_version() -> int:
                 lines.append(f'program sha256 {hashlib.sha256(file.read()).hexdigest()} {path}')
     except Exception as error:
         return _complain(str(error))
-    print(f'picklestep {__version__}', f'toolchain {toolchain_of(program)}', *lines, sep='\n')
+    of = commit()
+    print(f'picklestep {__version__} (commit {of})' if of else f'picklestep {__version__}', f'toolchain {toolchain_of(program)}', *lines, sep='\n')
     return 0
 
 
 # --- Apart from the current folder ---
 
 def _do_apart(words: 'list[str]') -> int:
-    """Does a word of this package. Where this interpreter may find modules in the current folder, another one takes its place."""
+    """Does a word in this package, or says the version. Where this interpreter may find modules in the current folder, another one takes its
+    place."""
     if not sys.flags.isolated and sys.executable:
         options = ['-I', '-B'] if sys.dont_write_bytecode else ['-I']
         return _become([sys.executable, *options, os.path.join(_HERE, 'entrance.py'), *words])
+    if words[0] == '--version':
+        return _print_version()
     from importlib import import_module
-    status: int = import_module(f'picklestep.{_OWN[words[0]]}').main(words[1:])
+    own = _OWN.get(words[0])
+    status: int = import_module(f'picklestep.{own}').main(words[1:]) if own else import_module('picklestep.answering').main(words)
     return status
 
 

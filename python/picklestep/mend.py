@@ -19,11 +19,11 @@ def main(arguments: List[str]) -> int:
     """Writes a line for each edit, and saves the result. The status is 0 where the pickle was whole, 1 where it was mended or is followed by what
     was not read, 2 where there is no result."""
     parser = argparse.ArgumentParser(
-        prog='picklestep mend', description='Makes a pickle that reads to its STOP of one that is cut off or damaged; nothing of it is run.',
-        epilog='Status: 0 if the pickle was whole, 1 if it was mended or bytes after it were not read, 2 if there is no result.')
+        prog='picklestep mend', description='Makes a pickle that reads to its STOP from one that was cut off or damaged. Nothing of it is run.',
+        epilog='Status: 0 if the pickle was whole; 1 if it was mended, or if bytes after it were not read; 2 if there is no result.')
     parser.add_argument('file', metavar='FILE', help='the pickle, which stays as it is')
     parser.add_argument('out', metavar='OUT', nargs='?', help='write the result to this file, which cannot be FILE')
-    parser.add_argument('--many', action='store_true', help='FILE holds several pickles one after another')
+    parser.add_argument('--many', action='store_true', help='FILE has several pickles that follow one another')
     parser.add_argument('--save', metavar='OUT', help='the same as OUT')
     options = parser.parse_args(arguments)
     if options.out is not None and options.save is not None:

@@ -16,6 +16,7 @@ from typing import Dict, List, Optional, Set, Tuple
 
 from .answers import Heap
 from .errors import PicklestepError, Refused
+from .hints import OF_FRAMES
 from .program import run_program
 from .records import End, Mark, Object
 from .replies import opcode_refused_in, ran_of, refused_in
@@ -34,7 +35,6 @@ _MOST_DROPPED = 1000
 _MOST_LOOKED_AT = 10_000
 
 # The faults of frames.
-_OF_FRAMES = ('F6', 'F7', 'F8')
 # The refusal of a PROTO whose protocol is above the highest, the protocol that has this opcode, and its size.
 _OF_PROTOCOL = 'S6'
 _HIGHEST = 5
@@ -82,7 +82,7 @@ def mended(source: Source, many: bool = False) -> Mended:
         if end.code is None or end.offset is None:
             return Mended(_closed(content, many, steps) if is_cut else content, tuple(steps), len(content) - read)
         code, offset, text = end.code, end.offset, end.text
-        if code in _OF_FRAMES:
+        if code in OF_FRAMES:
             content = _without_frame(content, many, offset, text, code == 'F8', steps)
         elif code == _OF_PROTOCOL:
             content = _with_protocol(content, many, offset, text, steps)

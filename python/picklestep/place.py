@@ -3,7 +3,7 @@
 import os
 import sys
 
-__all__ = ['NOT_FOR_NODE', 'files_of', 'find_library', 'find_program', 'is_module', 'node_path', 'program_words', 'toolchain_of']
+__all__ = ['NOT_FOR_NODE', 'commit', 'files_of', 'find_library', 'find_program', 'is_module', 'node_path', 'on_path', 'program_words', 'toolchain_of']
 
 _HERE = os.path.dirname(os.path.realpath(__file__))
 # The released programs, by the system and the machine that each is for.
@@ -97,7 +97,13 @@ def _machine() -> 'tuple[str, str]':
 
 def node_path() -> 'str | None':
     """Where Node is, if it is on the path."""
-    name = 'node.exe' if os.name == 'nt' else 'node'
+    return on_path('node')
+
+
+def on_path(name: str) -> 'str | None':
+    """Where a command is, if it is on the path. (Windows would take one of the current folder first.)"""
+    if os.name == 'nt':
+        name += '.exe'
     for folder in os.environ.get('PATH', os.defpath).split(os.pathsep):
         path = os.path.join(folder, name)
         if os.path.isabs(path) and os.access(path, os.X_OK):
@@ -111,6 +117,23 @@ def _wasmtime_folder() -> 'str | None':
         if os.path.isabs(folder) and os.path.isfile(os.path.join(folder, 'wasmtime', '__init__.py')) and not os.path.samefile(folder, '.'):
             return folder
     return None
+
+
+def commit() -> str:
+    """The commit that this copy is of: what ./install or the wheel wrote, in a clone what git says. Empty where neither is known."""
+    try:
+        with open(os.path.join(_HERE, 'bin', 'COMMIT'), encoding='utf-8') as file:
+            return file.read().strip()
+    except OSError:
+        pass
+    root = os.path.dirname(os.path.dirname(_HERE))
+    git = on_path('git')
+    # (A copy may lie in another project's repository.)
+    if git is None or not all(os.path.exists(os.path.join(root, name)) for name in ('.git', 'crates.txt')):
+        return ''
+    import subprocess
+    asked = subprocess.run([git, '-C', root, 'rev-parse', '--short', 'HEAD'], stdin=subprocess.DEVNULL, capture_output=True, check=False)
+    return asked.stdout.decode('ascii', 'replace').strip() if asked.returncode == 0 else ''
 
 
 def toolchain_of(program: str) -> str:

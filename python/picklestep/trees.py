@@ -10,6 +10,7 @@ from _compat_pickle import IMPORT_MAPPING, NAME_MAPPING
 
 from .changes import changed
 from .errors import NoResult
+from .hints import OF_FRAMES
 from .program import check_timeout
 from .records import Extension, Global, Name, Object, Ref
 from .sources import Source, is_fifo, rereadable
@@ -189,7 +190,7 @@ def values(pickle: Source, many: bool, unframed: bool, timeout: Optional[float],
         pickle = rereadable(pickle)
     answer = objects(pickle, many=many, unframed=unframed, timeout=timeout, memory=memory)
     if not answer.end.is_stopped or not answer.results:
-        raise NoResult(answer.end.text, answer.end.code in ('F6', 'F7', 'F8'))
+        raise NoResult(answer.end.text, answer.end.code in OF_FRAMES)
     heap = list(answer)
     names: Dict[int, Name] = {}
     if any(_is_renamed(made, heap) for made in heap):  # (it depends on the protocol there)

@@ -1,19 +1,27 @@
-"""The examples of docs/PYTHON.md and of the docstrings."""
+"""The examples of docs/PYTHON.md, of the docstrings, and of some words in docs/USING.md."""
 
 from __future__ import annotations
 
+import datetime
 import doctest
 import importlib
 import inspect
 import os
+import pickle
 import pkgutil
+import re
+import subprocess
+import sys
 import tempfile
 import unittest
 from functools import cached_property
+from pathlib import Path
 from types import FunctionType
 
 import picklestep
+from examples_of_using import blocks
 from pickles import ROOT
+from scan_support import HOSTILE, environment
 
 # (each of these has tests of its own, and words that may need other packages)
 _APART = ('picklestep.scan', 'picklestep.view', 'picklestep.__main__')
@@ -36,7 +44,22 @@ class Examples(unittest.TestCase):
     def test_readme(self) -> None:
         text = (ROOT / 'README.md').read_text(encoding='utf-8').partition('## From Python')[2].partition('\n## ')[0]
         test = doctest.DocTestParser().get_doctest(text, {}, 'README.md', 'README.md', 0)
-        self.assertEqual(doctest.DocTestRunner().run(test), doctest.TestResults(0, 2))
+        self.assertEqual(doctest.DocTestRunner().run(test), doctest.TestResults(0, 3))
+
+    def test_words_of_using(self) -> None:
+        """The commands of these words, in a folder with the files that they name."""
+        Path('hostile.pickle').write_bytes(HOSTILE)
+        for name, day, jobs in (('a', 26, [1, 2]), ('b', 27, [1, 2, 3])):
+            Path(f'{name}.pickle').write_bytes(pickle.dumps({'due': datetime.date(2026, 11, day), 'jobs': jobs}, 4))
+        for word in ('source', 'diff'):
+            shown = ''.join(f'{line}\n' for block in blocks(word) for line in block)
+            found = re.findall(r'^\$ picklestep (.*)\n((?:[^$].*\n)*)', shown, re.MULTILINE)
+            self.assertTrue(found, word)
+            for words, wanted in found:
+                with self.subTest(words):
+                    command = [sys.executable, '-m', 'picklestep', *words.split()]
+                    run = subprocess.run(command, env=environment(), capture_output=True, text=True, timeout=300, check=False)
+                    self.assertEqual((run.stdout, run.stderr), (wanted, ''))
 
     def test_docstrings(self) -> None:
         for found in pkgutil.walk_packages(picklestep.__path__, 'picklestep.'):

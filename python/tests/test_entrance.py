@@ -4,6 +4,7 @@ from __future__ import annotations
 
 import os
 import re
+import shutil
 import subprocess
 import sys
 import tempfile
@@ -12,7 +13,7 @@ from pathlib import Path
 from typing import Dict, List, Set
 
 import picklestep
-from picklestep.place import find_program, is_module
+from picklestep.place import find_program, is_module, on_path
 from pickles import ROOT, chosen
 from scan_support import HARMLESS, HOSTILE, PYTHON, ScanCase, environment
 
@@ -46,7 +47,7 @@ class Words(EntranceCase):
 
     def test_words_of_the_program(self) -> None:
         self.file('a.pkl', HOSTILE)
-        for words in (['list', 'a.pkl'], ['objects', '--many', 'a.pkl'], ['calls', 'none.pkl'], ['debug', '--window', '0', 'a.pkl']):
+        for words in (['list', 'a.pkl'], ['objects', '--many', 'a.pkl'], ['calls', 'a.pkl'], ['calls'], ['debug', '--window', '0', 'a.pkl']):
             alone = self.start([find_program(), *words])
             for way, entrance in chosen(ways().items(), 1):
                 run = self.start([*entrance, *words])
@@ -82,9 +83,11 @@ class Words(EntranceCase):
 
     def test_help(self) -> None:
         for entrance in chosen(ways().values(), 1):
-            for words in (['--help'], ['-h'], ['calls', '-h'], *([word, '--help'] for word in WORDS)):
+            for words in (['--help'], ['-h'], ['help'], ['help', 'help'], ['calls', '-h'], *([word, '--help'] for word in WORDS)):
                 run = self.start([*entrance, *words])
                 self.assertEqual((run.returncode, run.stderr), (0, ''), words)
+                if words[-1] == '--help' and len(words) > 1:
+                    self.assertEqual(self.start([*entrance, 'help', words[0]]).stdout, run.stdout)
                 self.assertTrue(run.stdout.startswith('usage: picklestep'), run.stdout[:60])
             whole = self.start([*entrance, '--help']).stdout
             self.assertLessEqual(len(whole.splitlines()), 24)
@@ -108,7 +111,20 @@ class Words(EntranceCase):
         for entrance in ways().values():
             run = self.start([*entrance, '--version'])
             self.assertEqual((run.returncode, run.stderr), (0, ''))
-            self.assertRegex(run.stdout, rf'^picklestep {picklestep.__version__}\ntoolchain .+\nprogram sha256 [0-9a-f]{{64}} ')
+            self.assertRegex(run.stdout, rf'^picklestep {picklestep.__version__}( \(commit [0-9a-f]+\))?\ntoolchain .+\nprogram sha256 [0-9a-f]{{64}} ')
+
+    def test_version_has_the_commit(self) -> None:
+        """A clone has that of git. A copy in another project's repository has none."""
+        git = on_path('git')
+        if git is None or not (ROOT / '.git').exists():
+            self.skipTest('this is no clone, or there is no git')
+        commit = self.start([git, '-C', str(ROOT), 'rev-parse', '--short', 'HEAD']).stdout.strip()
+        self.start([git, 'init', '-q'])
+        shutil.copytree(ROOT / 'python' / 'picklestep', self.folder / 'copy' / 'picklestep', ignore=shutil.ignore_patterns('__pycache__', 'bin'))
+        for folder, of in ((ROOT / 'python', f' (commit {commit})'), (self.folder / 'copy', '')):
+            words = [sys.executable, '-I', '-B', str(folder / 'picklestep' / 'entrance.py'), '--version']
+            run = subprocess.run(words, env={**os.environ, 'PICKLESTEP_PROGRAM': find_program()}, capture_output=True, text=True, timeout=60)
+            self.assertEqual(run.stdout.partition('\n')[0], f'picklestep {picklestep.__version__}{of}', run.stderr)
 
     def test_what_is_no_word(self) -> None:
         for entrance in ways().values():
@@ -124,6 +140,30 @@ class Words(EntranceCase):
         self.file('a.pkl', HARMLESS)
         self.assertEqual(self.start([*entrance, 'a.pkl', '--allow', 'none']).stderr, 'picklestep: cannot open none: No such file or directory\n')
 
+    def test_which_file_cannot_be_read(self) -> None:
+        """Behind the program's own line, which is fixed."""
+        self.file('a.pkl', HARMLESS)
+        self.file('folder/b.pkl', HARMLESS)
+        for words, said in ((['list', 'none.pkl'], 'none.pkl: No such file or directory'), (['calls', '--memo', 'kept', 'none.pkl'], 'none.pkl: No such'),
+                            (['objects', '--many', 'folder'], 'folder: Is a directory'), (['debug', '--window', '5', 'a\x1b'], r'a\x1b: No such'),
+                            (['calls', '--skip', '@holes', 'a.pkl'], 'holes: No such file'), (['form', '--', '-none'], '-none: No such file')):
+            alone = self.start([find_program(), *words])
+            self.assertEqual((alone.returncode, alone.stderr), (2, 'picklestep: cannot read\n'))
+            for way, entrance in chosen(ways().items(), 1):
+                with self.subTest((way, words)):
+                    run = self.start([*entrance, *words])
+                    self.assertEqual((run.returncode, run.stdout, len(run.stderr.splitlines())), (2, alone.stdout, 2), run.stderr)
+                    self.assertTrue(run.stderr.startswith(alone.stderr + f'picklestep: cannot read {said}'), run.stderr)
+
+    def test_a_word_that_is_misspelt(self) -> None:
+        entrance = ways()['-m']
+        for word, meant in (('clals', 'calls'), ('lits', 'list'), ('lst', 'list'), ('objcts', 'objects'), ('scann', 'scan'), ('Diff', 'diff'), ('hepl', 'help'),
+                            ('frobnicate', ''), ('none.pkl', ''), ('x', '')):
+            for words in ([word], ['help', word]):
+                run = self.start([*entrance, *words])
+                self.assertEqual((run.returncode, run.stdout, len(run.stderr.splitlines())), (2, '', 1), words)
+                self.assertEqual(re.findall(r'is it (\w+)\?', run.stderr), [meant] if meant else [], run.stderr)
+
     def test_names_that_a_terminal_obeys(self) -> None:
         entrance, name = ways()['-m'], 'a\x1b[2J\n.pkl'
         for words in (['source', name], ['diff', name, name], ['shell', name], ['view', name], ['scan', 'a.pkl', '--allow', name]):
@@ -135,7 +175,7 @@ class Words(EntranceCase):
     def test_no_program_for_this_machine(self) -> None:
         with tempfile.TemporaryDirectory() as folder:
             code = (f'import os; from picklestep import place, entrance; place._HERE = {folder!r}; os.environ.pop("PICKLESTEP_PROGRAM", 0); '
-                    'raise SystemExit(entrance.main(["list", "x"]))')
+                    'raise SystemExit(entrance.main(["list", os.devnull]))')
             run = self.start([sys.executable, '-c', code])
         self.assertEqual((run.returncode, run.stdout, len(run.stderr.splitlines())), (2, '', 1), run.stderr)
         self.assertIn('there is no program for this machine', run.stderr)
@@ -218,7 +258,8 @@ class HostileFolders(EntranceCase):
         self.file('empty/__main__.py', b'import sys\nprint(*sys.modules)\n')
         before = set(self.start([sys.executable, '-m', 'empty']).stdout.split())
         self.fill({*before, 'picklestep'})
-        for words in (['model.pkl'], ['scan', '--jobs', '2', 'model.pkl', 'other.pkl'], ['view', '--export', 'out.html', '--force', 'model.pkl']):
+        for words in (['model.pkl'], ['scan', '--jobs', '2', 'model.pkl', 'other.pkl'], ['view', '--export', 'out.html', '--force', 'model.pkl'],
+                      ['--version']):
             run = self.start([sys.executable, '-m', 'picklestep', *words])
             self.assertEqual((run.returncode, run.stderr, self.seen()), (0, '', ''), words)
 

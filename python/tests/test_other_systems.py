@@ -153,7 +153,8 @@ class OtherSystems(unittest.TestCase):
     def test_options_of_node_are_not_for_the_module(self) -> None:
         settings = {'PATH': os.environ['PATH'], 'PICKLESTEP_PROGRAM': str(MODULE), 'NODE_OPTIONS': '--require ./gone.js'}
         self.assertEqual(asked('-c', ASK, **settings), SAID)
-        self.assertEqual(asked('-m', 'picklestep', 'list', '/not/there', **settings), 'picklestep: cannot read\n')
+        said = 'picklestep: cannot read\npicklestep: cannot read /not/there: No such file or directory\n'
+        self.assertEqual(asked('-m', 'picklestep', 'list', '/not/there', **settings), said)
 
     def test_the_version_sums_up_the_module(self) -> None:
         said = asked('-m', 'picklestep', '--version', PATH=os.environ['PATH'], PICKLESTEP_PROGRAM=str(MODULE)).splitlines()

@@ -516,7 +516,7 @@ class OverNode(unittest.TestCase):
 
     def test_nor_where_the_program_is_handed_over(self) -> None:
         with mock.patch('picklestep.entrance._become', side_effect=lambda command: len(os.environ.keys() & place.NOT_FOR_NODE)):
-            self.assertEqual(entrance.main(['list', 'none.pickle']), 0)
+            self.assertEqual(entrance.main(['list', __file__]), 0)  # (a file that can be read)
         self.assertIn(f'unset {" ".join(place.NOT_FOR_NODE)} ', Path(entrance.__file__).with_name('help').joinpath('start.sh').read_text())
 
 

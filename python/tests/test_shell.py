@@ -314,6 +314,18 @@ class Words(unittest.TestCase):
                         self.assertTrue(set(changers) <= {'APPEND', 'APPENDS', 'BUILD'}, changers)
                         self.assertEqual(changers.count('BUILD'), [change.how for change in made.changes].count('state'))
 
+    def test_texts_of_python_2_beyond_ascii(self) -> None:
+        """A text that Python 2 wrote as bytes becomes one that Python 3 loads as it was typed; one of ASCII stays of the opcode that is there."""
+        for data, number, place, name in (
+                (b"(S'Andre'\np0\nlp1\n.", 0, 1, 'UNICODE'), (b']q\x00U\x05Andreq\x01a.', 1, 2, 'BINUNICODE'),
+                (b'\x80\x02]q\x00U\x05Andreq\x01a.', 1, 3, 'BINUNICODE'), (b'\x80\x02]q\x00T\x05\0\0\0Andreq\x01a.', 1, 3, 'BINUNICODE')):
+            was = picklestep.listing(data)[place].name
+            for text, wanted in (('Andr\xe9!', name), ('\u20ac', name), ('Andrea', was)):
+                with self.subTest((was, text)), Shell(data, '') as shell:
+                    shell.obey(f'set {number} to {text!r}')
+                    content = shell.pickle.content()
+                    self.assertEqual((picklestep.listing(content)[place].name, pickle.loads(content)), (wanted, [text]))
+
     def test_edits_by_values(self) -> None:
         shell = self.shell(pickle.dumps(['a', 1, 2.5, b'x', None, 1 << 40], 4))
         for line, wanted in (("replace 5 'newapp'", "SHORT_BINUNICODE 'newapp'"), ('replace 7 300', 'BININT2 300'), ('replace 8 -0.5', 'BINFLOAT -0.5'),

@@ -25,7 +25,7 @@ import harmless
 import picklestep
 from harmless import Maker, OwnList, canonical, executed, opcodes_at_random
 from picklestep.python_source import main, source
-from picklestep.python_source.code import HEAD, HEAD_OF_CUT
+from picklestep.python_source.code import HEAD, HEAD_OF_CUT, HEAD_OF_PART
 from picklestep.python_source.names import TAKEN
 from pickles import HOSTILE, real_pickles
 
@@ -485,7 +485,7 @@ class Words(unittest.TestCase):
             self.assertEqual(self.said('--many', path)[0], 1)
             with open(path, 'wb') as file:
                 file.write(pickle.dumps([7, 'x'], 4)[:-2])
-            self.assertEqual([self.said(path)[1].splitlines()[-1], self.said('--unframed', path)], ['stack = []', (1, HEAD + (
+            self.assertEqual([self.said(path)[1].splitlines()[-2], self.said('--unframed', path)], ['stack = []', (1, HEAD_OF_PART + (
                 "# F1 ended at 20: reading ends here, and the stack is\nstack = [[], 7, 'x']\n"))])
             with open(path, 'wb') as file:
                 file.write(b'X\x03\0\0\0\xe2\x82\xac.')

@@ -13,15 +13,31 @@ is_for_program() {
     esac
 }
 
+# Whether Python has something to say behind the program's own lines: where else to look, or which file cannot be read (entrance.py asks the
+# same). Without Python the program's lines are all.
+is_told_more() {
+    command -v python3 >/dev/null || return 1
+    [ "$1" != calls ] || return 0
+    shift
+    for word in "$@"; do
+        case $word in
+        --) return 0 ;; # (a file behind it may have a name like an option)
+        -*) ;;
+        *) [ -r "$word" ] && [ ! -d "$word" ] || return 0 ;;
+        esac
+    done
+    return 1
+}
+
 # Becomes the program for its words, and the Python package for all others.
 enter() {
     if is_for_program "$@"; then
         choose_program || exit 2
-        if [ "${chosen%.mjs}" = "$chosen" ] || command -v node >/dev/null; then
+        if ! is_told_more "$@" && { [ "${chosen%.mjs}" = "$chosen" ] || command -v node >/dev/null; }; then
             unset NODE_EXTRA_CA_CERTS NODE_OPTIONS # (place.py says why)
             exec "$chosen" "$@"
         fi
-        export PICKLESTEP_PROGRAM="$chosen" # (Python may have what runs the module, and says it where it has not)
+        export PICKLESTEP_PROGRAM="$chosen" # (where that is the module, Python may have what runs it, and says it where it has not)
     fi
     if command -v python3 >/dev/null; then
         exec python3 -I ${PYTHONDONTWRITEBYTECODE:+-B} "$package/entrance.py" "$@"

@@ -14,6 +14,7 @@ from itertools import repeat
 from operator import itemgetter
 from typing import Any, Callable, Dict, List, Optional, Sequence, Set, Tuple, Union
 
+from ..hints import is_array_wrapper
 from ..listed import offset_of
 from ..texts import argument_at, opcode_of
 from .literals import Failing, of_bytes, of_float, of_floats, of_integer, of_line, of_text
@@ -59,7 +60,7 @@ _Stored = Union[Entry, Tuple[Formed, Part]]
 
 class Builder:
     """What the opcodes that were read so far have built. `events` is what happens, `needs` the helpers that this takes, `places` how many
-    opcodes were read."""
+    opcodes were read, `array_at` where joblib's first array begins."""
 
     def __init__(self) -> None:
         self.events: List[Event] = []
@@ -67,6 +68,9 @@ class Builder:
         self.stack: List[Entry] = []
         self.results = 0
         self.places = 0
+        self.array_at: Optional[int] = None
+        self._array_classes: Set[int] = set()  # the class that stands for such an array, and what is made of it, by their numbers
+        self._arrays: Set[int] = set()
         self._names = Names()
         self._made = 0
         self._known: Set[Tuple[Shape, int, int]] = set()  # shapes that are looked for in the text, with the columns and the open marks
@@ -534,6 +538,8 @@ class Builder:
         statement, text = self._names.bind(*found, self._made, is_dotted)
         if not statement.startswith('from'):
             self.needs |= {'import_module', 'reduce'} if 'reduce(getattr, ' in statement else {'import_module'}
+        if is_array_wrapper(name):
+            self._array_classes.add(self._made)
         note = '' if found == (module, name) else f', in the pickle {module!r} {name!r}'
         self.events.append(Statement(_form_of(statement), (), offset, note))
         return text
@@ -593,8 +599,16 @@ class Builder:
             self.needs.add('arguments')
         if arguments.keywords is not None and not is_dict(arguments.keywords):
             self.needs.add('keywords')
+        if self._array_classes and any(map(self._is_array_class, (function, *arguments.items, arguments.spread))):
+            self._arrays.add(self._made)
         self.events.append(Called(self._made, form, function, arguments, offset_of(line)))
         self._push_name()
+
+    def _is_array_class(self, entry: Optional[Entry]) -> bool:
+        """Whether it is the class that stands for joblib's arrays, or a tuple with that."""
+        if not isinstance(entry, Node):
+            return False
+        return entry.number in self._array_classes or entry.kind == 'tuple' and any(map(self._is_array_class, entry.inner))
 
     def _on_reduce(self, line: str) -> None:
         function, arguments = self._last(2)
@@ -625,6 +639,8 @@ class Builder:
     def _on_build(self, line: str) -> None:
         state = self._take(self.stack.pop())
         target = self._take(self.stack[-1])
+        if self.array_at is None and isinstance(target, Node) and target.number in self._arrays:
+            self.array_at = offset_of(line) + 1
         self.needs.add('set_state')
         self.events.append(Statement('set_state({}, {})', [target, state], offset_of(line)))
 

@@ -8,6 +8,7 @@ import re
 from typing import Iterator, List, Optional
 
 from ..answers import Answer
+from ..hints import OF_FRAMES, of_array, of_frame
 from ..listed import Listed
 from ..program import check_timeout
 from ..records import End
@@ -19,10 +20,13 @@ from .helpers import HELPERS
 from .nodes import Event, Statement
 from .writer import Writer
 
-__all__ = ['BEHIND', 'HEAD', 'HEAD_OF_CUT', 'PythonSource', 'source']
+__all__ = ['BEHIND', 'HEAD', 'HEAD_OF_CUT', 'HEAD_OF_CUT_PART', 'HEAD_OF_PART', 'PythonSource', 'source']
 
 HEAD = '# What loading the pickle would do. Running this does the same.\n'
 HEAD_OF_CUT = '# What loading the pickle would do. cut(N) stands for N more, so this cannot be run.\n'
+# Where not all of the file was read.
+HEAD_OF_PART = '# What loading the file would do first: the last lines say why this is not all.\n'
+HEAD_OF_CUT_PART = HEAD_OF_PART[:-1] + ' cut(N) stands for N more.\n'
 # Where reading ends before the bytes do.
 BEHIND = ' (`calls` shows what loaders reach behind it)'
 
@@ -93,8 +97,14 @@ def _written(builder: Builder, listed: Listed, full: bool) -> PythonSource:
         writer.write(left)
     if listed.kept:
         writer.lines.append(f'# {listed.kept} bytes after STOP are not read')
-    head = ''.join(text for need, text in HELPERS.items() if need in builder.needs)
-    return PythonSource((HEAD_OF_CUT if writer.is_cut else HEAD) + head + '\n'.join(writer.lines) + '\n', end, listed.kept)
+    if builder.array_at is not None:
+        writer.lines.append(f'# {of_array(builder.array_at)}')
+    if end.code in OF_FRAMES:
+        writer.lines.append(f'# {of_frame()}')
+    is_whole = end.is_stopped and not listed.kept and builder.array_at is None
+    head = (HEAD_OF_CUT if writer.is_cut else HEAD) if is_whole else HEAD_OF_CUT_PART if writer.is_cut else HEAD_OF_PART
+    helpers = ''.join(text for need, text in HELPERS.items() if need in builder.needs)
+    return PythonSource(head + helpers + '\n'.join(writer.lines) + '\n', end, listed.kept)
 
 
 @contextlib.contextmanager

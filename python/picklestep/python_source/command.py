@@ -14,12 +14,12 @@ __all__ = ['main']
 
 def _parser() -> argparse.ArgumentParser:
     parser = argparse.ArgumentParser(
-        prog='picklestep source', description='Shows a pickle as Python source; nothing of it is run.',
-        epilog='Status: 0 if it was read to its STOP, 1 if reading ended before, 2 if there is no source.')
+        prog='picklestep source', description='Prints a pickle as Python source, to be read. Nothing of it is run.',
+        epilog='Status: 0 if the pickle was read to its STOP; 1 if reading ended before; 2 if there is no source.')
     parser.add_argument('file', metavar='FILE', help='the pickle')
-    parser.add_argument('--many', action='store_true', help='FILE holds several pickles one after another')
-    parser.add_argument('--unframed', action='store_true', help='take FRAME for an opcode like others, as a pickle needs that was cut off')
-    parser.add_argument('--full', action='store_true', help='show texts and containers whole')
+    parser.add_argument('--many', action='store_true', help='FILE has several pickles that follow one another')
+    parser.add_argument('--unframed', action='store_true', help='ignore the lengths of frames, so that a pickle that was cut off is read to the cut')
+    parser.add_argument('--full', action='store_true', help='print whole texts, lists and the like, which are cut without it')
     return parser
 
 

@@ -18,12 +18,12 @@ __all__ = ['main']
 
 def _parser() -> argparse.ArgumentParser:
     parser = argparse.ArgumentParser(
-        prog='picklestep shell', description='Steps through a pickle, looks at it and edits it; nothing of it is run.',
-        epilog='Status: 0; 1 if a line of a script was refused; 2 if FILE or a script could not be read; 130 after Ctrl-C.')
+        prog='picklestep shell', description='A prompt at which you step through a pickle, look at it and edit it. Nothing of it is run.',
+        epilog='Status: 0; 1 if a line of SCRIPT was refused; 2 if FILE or SCRIPT could not be read; 130 after Ctrl-C.')
     parser.add_argument('file', metavar='FILE', help='the pickle')
-    parser.add_argument('--many', action='store_true', help='FILE holds several pickles one after another')
-    parser.add_argument('--unframed', action='store_true', help='take FRAME for an opcode like others, as a pickle needs that was cut off')
-    parser.add_argument('--batch', metavar='SCRIPT', help='run the lines of a file, up to the first that is refused')
+    parser.add_argument('--many', action='store_true', help='FILE has several pickles that follow one another')
+    parser.add_argument('--unframed', action='store_true', help='ignore the lengths of frames, so that a pickle that was cut off is read to the cut')
+    parser.add_argument('--batch', metavar='SCRIPT', help='run the lines of this file instead of a prompt, up to the first that is refused')
     return parser
 
 
@@ -90,7 +90,7 @@ def _converse(shell: Shell) -> int:
     """Runs lines that are typed."""
     terminal = Terminal(lambda before: completions(shell.pickle, before))
     shell.ask = terminal.ask
-    terminal.show(shell.obey('where') + '\n`help` shows the words.')
+    terminal.show('\n'.join([shell.obey('where'), *shell.hints(), '`help` shows the words.']))
     try:
         while not shell.is_over:
             for line in terminal.lines():

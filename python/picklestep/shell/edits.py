@@ -22,7 +22,8 @@ _HOLDERS: Dict[type, Sequence[str]] = {
 _PLAIN = frozenset(name for name, info in OPCODES.items() if not info.stack_before and len(info.stack_after) == 1 and (
     not name.endswith('GET') and not name.startswith('EXT') and name not in ('GLOBAL', 'INST', 'PERSID', 'MARK', 'PROTO', 'FRAME')))
 _MADE = re.compile(r'(bytearray|float)\((.*)\)|-?(?:inf|nan)')
-_LEGACY = ('STRING', 'BINSTRING', 'SHORT_BINSTRING')
+# Texts of Python 2, and what is put in their place where a sign is beyond ASCII: Python 3 would not load its bytes, or another text of them.
+_LEGACY = {'STRING': 'UNICODE', 'BINSTRING': 'BINUNICODE', 'SHORT_BINSTRING': 'BINUNICODE'}
 
 
 class EditError(ValueError):
@@ -82,7 +83,7 @@ def of_value(pickle: Opened, edit: Edit, now: str) -> Edit:
     protocol = max([OPCODES[name].proto for name in (now,) if name in OPCODES] + [_protocol(pickle)])
     known = [name for name in holders if OPCODES[name].proto <= protocol]
     if isinstance(value, str) and now in _LEGACY:
-        known.insert(0, now)
+        known.insert(0, now if value.isascii() else _LEGACY[now])
     elif now in known:
         known.insert(0, now)
     for name in known:

@@ -327,6 +327,15 @@ class Opened(Document):
         return {*where.results, *stack} if why == 'end' else None
 
     @property
+    def array_at(self) -> Optional[int]:
+        """Where joblib's first array begins, as `calls` says it."""
+        if self._shown is None:
+            return self.reaches.answer.array_at
+        if self._base is not None and self._base.lists['reaches'].answer.array_at is None:
+            return None
+        raise Unknown
+
+    @property
     def kept(self) -> List[str]:
         """A line of the bytes after STOP, where there are some: nothing of them is in the session."""
         kept = behind_word(self.lines.closing, 'kept')

@@ -12,6 +12,7 @@ from typing import Callable, Dict, List, Optional, Sequence, Tuple
 from ..comparing import compare, shown_value
 from ..diff import of_reaches
 from ..errors import NoResult, PicklestepError, Refused, reason
+from ..hints import OF_FRAMES, of_array, of_frame
 from ..records import Ref
 from ..python_source import source
 from ..replies import entry_of, is_mark, last_words, number_in_word, stored_under, words_of
@@ -41,7 +42,6 @@ _NEED = frozenset('goto until go clear off on find who show replace insert set r
 _SHOW_OBJECTS = frozenset('step back goto until run go where explain show stack memo objects'.split())
 # Words that may do with what is known before the pickle is read after an edit.
 _UNREAD = frozenset('where step back goto until list stack insert replace delete set undo'.split())
-_OF_FRAMES = ('F6', 'F7', 'F8')
 
 
 class WordError(ValueError):
@@ -200,8 +200,7 @@ class Shell:
         rows = self._rows(where.place - _AROUND, where.place + _AROUND, where.place)
         if where.place == where.places:
             rows += [f'>  {where.place:>6} {where.offset:>5}: the end: {where.end.text}', *self.pickle.kept]
-            if where.end.code in _OF_FRAMES:
-                rows.append('(What is in that frame is not read: `picklestep shell --unframed FILE` does, `picklestep mend FILE OUT` keeps it.)')
+        rows += self.hints(where.offset)
         rows.append(f'stack: {self._top()}')
         made = self.pickle.made_before(where.place)[0]
         if before is not None and where.place > before[0]:
@@ -209,6 +208,14 @@ class Shell:
         if where.results:
             rows.append(f'result: {self.pickle.described(where.results[-1])}')
         return '\n'.join(([why] if why else []) + rows)
+
+    def hints(self, offset: Optional[int] = None) -> List[str]:
+        """Where else to look for what is not read here, as far as that is known at an offset."""
+        array, end = self.pickle.array_at, self.pickle.session.where().end
+        found = [] if array is None or offset is not None and offset < array else [of_array(array)]
+        is_at_end = offset is None or end.offset is not None and offset >= end.offset
+        found += [of_frame('shell')] if end.code in OF_FRAMES and is_at_end else []
+        return [f'({hint[:1].upper()}{hint[1:]}.)' for hint in found]
 
     def _changed(self, begin: int, known: int, end: int, made: int) -> List[str]:
         """What the opcodes from a place on before another did: the objects that they made, changed and stored, the latest of each."""

@@ -34,14 +34,15 @@ def _seconds(text: str) -> float:
 
 def _parser() -> argparse.ArgumentParser:
     parser = argparse.ArgumentParser(
-        prog='picklestep view', description='Shows a pickle in a browser; nothing of it is run.',
-        epilog='Status: 0; 2 if FILE could not be read or OUT.html not written; 130 after Ctrl-C while it opens or exports.')
+        prog='picklestep view', description='Shows a pickle in a browser. Nothing of it is run.',
+        epilog='Status: 0; 1 if the report of --export does not have all of FILE; 2 if FILE could not be read or OUT.html not written; 130 after '
+               'Ctrl-C while it opens or exports.')
     parser.add_argument('file', metavar='FILE', help='the pickle')
-    parser.add_argument('--many', action='store_true', help='FILE holds several pickles one after another')
-    parser.add_argument('--export', metavar='OUT.html', type=Path, help='write a report as a page of its own, and end')
-    parser.add_argument('--force', action='store_true', help='let --export write over a file that is there')
+    parser.add_argument('--many', action='store_true', help='FILE has several pickles that follow one another')
+    parser.add_argument('--export', metavar='OUT.html', type=Path, help='write a report into this page, and end')
+    parser.add_argument('--force', action='store_true', help='let --export replace a file that is there')
     parser.add_argument('--no-browser', action='store_true', help='print the address, and open no browser')
-    parser.add_argument('--idle', metavar='SECONDS', type=_seconds, default=IDLE, help='end when no page was open for so long (%(default)g)')
+    parser.add_argument('--idle', metavar='SECONDS', type=_seconds, default=IDLE, help='end when no page was open for this long (%(default)g)')
     return parser
 
 
@@ -50,7 +51,9 @@ def _export(document: Document, path: Path) -> int:
         count, all_lines = write_report(document, file)
     if count < all_lines:
         print(f'picklestep: {shown(str(path))} has the first {MOST:,} of {all_lines:,} opcodes', file=sys.stderr)
-    return 0
+    if document.missing:
+        print(f'picklestep: {shown(str(path))} has not all of the file: {"; ".join(document.missing)}', file=sys.stderr)
+    return int(bool(document.missing))
 
 
 def _serve(document: Document, with_browser: bool, idle: float) -> int:

@@ -43,6 +43,9 @@ _MOST_SOURCE_LINES = 1000
 _MOST_SAID = 4000
 _IMPORTS = ('import', 'inst')
 _CALLS = ('inst', 'call', 'new', 'state', 'append', 'set', 'add')
+# How closing lines begin that say that not all of a file was read.
+_OF_CONTAINER = 'begins like a container: '
+_EARLY = ('refused: ', 'fault: ', _OF_CONTAINER)
 
 
 class Reaches:
@@ -68,12 +71,14 @@ class Reaches:
 
     @property
     def behind(self) -> List[str]:
-        """The container that the bytes begin like, and a line for each part: what loaders may reach where this reading has ended."""
+        """The container that the bytes begin like, a line for each part (what loaders may reach where this reading has ended), and where else to
+        look."""
         if self.is_part:
             return [f'imports and calls: the first {len(self.kinds):,} alone, long as they are (picklestep calls shows all)']
         container = self.answer.container
-        within = [f'begins like a container: {container} (picklestep scan looks into it)'] if container else []
-        return within + [f'{part.heading}: {part.imports} imports, {part.calls} calls (picklestep calls shows them)' for part in self.answer.parts]
+        within = [f'{_OF_CONTAINER}{container} (picklestep scan looks into it)'] if container else []
+        parts = [f'{part.heading}: {part.imports} imports, {part.calls} calls (picklestep calls shows them)' for part in self.answer.parts]
+        return [*within, *parts, *self.answer.hints]
 
     @property
     def counts(self) -> Tuple[int, int]:
@@ -364,6 +369,11 @@ class Document:
         return {'source': lines[:_MOST_SOURCE_LINES], 'more': max(0, len(lines) - _MOST_SOURCE_LINES), 'isLong': False}
 
     # --- For reports: the objects as they are at the end ---
+
+    @property
+    def missing(self) -> List[str]:
+        """Why a report has not all of the file: reading ended early, or these are a container, or there is an array of joblib."""
+        return [line for line in self.lines.closing if line.startswith(_EARLY)] + list(self.reaches.answer.hints)
 
     def made_before(self, place: int) -> Tuple[int, int]:
         """How many objects were made before a place, and how many at all."""

@@ -21,7 +21,7 @@ _HEAD = '''<!DOCTYPE html>
 <html lang="en"><head><meta charset="utf-8"><meta name="viewport" content="width=device-width">
 <meta http-equiv="Content-Security-Policy" content="default-src 'none'; style-src 'sha256-{hash}'; base-uri 'none'; form-action 'none'">
 <title>{name}: picklestep</title><style>{style}</style></head><body>
-<header><h1>{name}</h1><p>{summary}</p>
+<header><h1>{name}</h1>{missing}<p>{summary}</p>
 <nav><a href="#calls">Calls</a> <a href="#listing">Listing</a> <a href="#objects">Objects</a></nav></header>
 <main>
 '''
@@ -70,13 +70,20 @@ def _calls(document: Document) -> Iterator[str]:
         yield '</tbody></table></div></section>\n'
 
 
+def _missing(document: Document) -> str:
+    """A line at the top where the report has not all of the file."""
+    why = '; '.join(document.missing)
+    return f'<p><strong>Not all of the file is in this report:</strong> {escape(why)}.</p>' if why else ''
+
+
 def write_report(document: Document, file: IO[str]) -> Tuple[int, int]:
     """Writes the report, and answers how many opcodes it shows and how many there are."""
     count = min(len(document.lines), MOST)
     imports, calls = document.reaches.counts
     counts = f'{len(document.lines):,} opcodes, {imports:,} imports, {calls:,} calls'
     summary = f'{counts}. {"; ".join(document.lines.closing)}.'
-    file.write(_HEAD.format(hash=_HASH, style=_STYLE, name=escape(document.name), summary=escape(summary)))
+    file.write(_HEAD.format(hash=_HASH, style=_STYLE, name=escape(document.name), summary=escape(summary),
+                            missing=_missing(document)))
     for part in (_calls(document), _listing(document, count), _objects(document, count)):
         file.writelines(part)
     file.write('</main><footer>Made by picklestep. Nothing of the pickle was run.</footer></body></html>\n')

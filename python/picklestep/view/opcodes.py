@@ -7,7 +7,8 @@ import pickletools
 from typing import Any, Dict
 
 from ..python_source.builder import KINDS, MOST_SHORT, taken_count
-from ..python_source.code import BEHIND, HEAD, HEAD_OF_CUT
+from ..hints import ARRAY, FRAME, OF_FRAMES
+from ..python_source.code import BEHIND, HEAD, HEAD_OF_CUT, HEAD_OF_CUT_PART, HEAD_OF_PART
 from ..python_source.helpers import HELPERS
 from ..python_source.literals import MOST_DECIMAL_BITS
 from ..python_source.names import TAKEN
@@ -31,15 +32,16 @@ def opcode_table() -> Dict[str, Dict[str, Any]]:
 
 
 def source_facts() -> Dict[str, Any]:
-    """What the page without a server writes into the source of a pickle as `picklestep source` does: the line at its head, the functions that
-    it may define, the names that are taken, with what they are, the opcodes that make containers, with the kind of each and how many
+    """What the page without a server writes into the source of a pickle as `picklestep source` does: the lines at its head, the functions that
+    it may define, where else to look, the names that are taken, with what they are, the opcodes that make containers, with the kind of each and how many
     objects it takes (none where it takes those above the mark), and the most that is written in one piece.
 
     >>> source_facts()['kinds']['TUPLE2'], source_facts()['taken']['len']
     (['tuple', 2], 'builtins len')
     """
     kinds = {opcode.name: [KINDS[opcode.name], taken_count(opcode)] for opcode in pickletools.opcodes if opcode.name in KINDS}
-    return {'head': HEAD, 'headOfCut': HEAD_OF_CUT, 'behind': BEHIND, 'helpers': HELPERS, 'taken': {name: ' '.join(thing) for name, thing in TAKEN.items()},
+    return {'heads': [HEAD, HEAD_OF_CUT], 'headsOfPart': [HEAD_OF_PART, HEAD_OF_CUT_PART], 'behind': BEHIND, 'helpers': HELPERS,
+            'hints': {'array': ARRAY, 'frame': FRAME, 'ofFrames': OF_FRAMES}, 'taken': {name: ' '.join(thing) for name, thing in TAKEN.items()},
             'keywords': [word for word in keyword.kwlist if word[0] != '_'], 'kinds': kinds,
             'most': {'columns': COLUMNS, 'depth': MOST_DEPTH, 'items': MOST_ITEMS, 'letters': MOST_LETTERS, 'short': MOST_SHORT,
                      'decimalBits': MOST_DECIMAL_BITS}}

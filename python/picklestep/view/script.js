@@ -199,7 +199,7 @@ function pressed(event) {
     return;
   }
   if (target.closest('[role=tree]') && inTree(event)) return;
-  if (target.matches('button, [type=checkbox]') && (event.key === ' ' || event.key === 'Enter')) return;
+  if (target.matches('button, summary, [type=checkbox]') && (event.key === ' ' || event.key === 'Enter')) return;
   const inList = target === document.body || target === by('listing');
   const act = KEYS[event.key] || (inList && LIST_KEYS[event.key]);
   if (!act) return;

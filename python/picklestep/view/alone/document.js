@@ -74,7 +74,7 @@ class Document {
     this.unknown = reaches ? '' : `what the rest imports and calls is not known: ${why}`;
     if (!reaches) return;
     this.reaches = reaches;
-    this.lines.closing = [this.said(), ...reaches.behind];
+    this.lines.closing = [this.said(), ...reaches.behind, ...hintsOf(reaches, this.facts)];
   }
 
   list(most = Infinity) {
@@ -116,7 +116,7 @@ class Document {
     if (this.listed < places) await this.readItems();
     this.final = readObjects((words, into) => this.run(words, into), this.options);
     if (this.version || !this.reaches) this.reaches = this.readReaches();
-    this.lines.closing.push(...this.reaches.behind);
+    this.lines.closing.push(...this.reaches.behind, ...hintsOf(this.reaches, this.facts));
     await this.findMakers();
     await this.session.ask(`goto ${place}`);
     this.version = versions += 1;
@@ -345,8 +345,8 @@ class Document {
     if (isLong) return { source: [], more: 0, isLong: true };
     const offsets = new Numbers();
     for (let place = 0; place < this.listed; place += 1) offsets.add(this.lines.offset(place));
-    const { opcodes, facts } = this, saidAt = (offset) => this.reaches.saidAt(offset);
-    const lines = sourceOf(this.bytes(), offsets, this.lines.closing, { opcodes, facts, saidAt }).split('\n').slice(0, -1);
+    const { opcodes, facts, isPart } = this, saidAt = (offset) => this.reaches.saidAt(offset);
+    const lines = sourceOf(this.bytes(), offsets, this.lines.closing, { opcodes, facts, saidAt, isPart }).split('\n').slice(0, -1);
     const shown = lines.slice(0, MOST_SOURCE_LINES);
     if (this.isPart) shown.push('# The rest of the pickle is not read.');
     return { source: shown, more: Math.max(0, lines.length - MOST_SOURCE_LINES), isLong: false };

@@ -5,6 +5,13 @@ const IMPORTS = ['import', 'inst'];
 const CALLS = ['inst', 'call', 'new', 'state', 'append', 'set', 'add'];
 
 const MOST_SAID = 4000; // bytes of a line that are shown
+const WRAPPER = 'NumpyArrayWrapper'; // the class of joblib that stands for an array
+
+// Where else to look for what is not read here: behind an array of joblib, and in a frame at which reading ended.
+function hintsOf({ arrayAt, fault }, { hints }) {
+  const array = arrayAt === null ? [] : [hints.array.replace('{}', arrayAt)];
+  return hints.ofFrames.includes(codeOfWords(fault)) ? [...array, hints.frame.replace('{}', 'source')] : array;
+}
 
 class Reaches {
   // `isPart`: there are more lines than these, which were too long to be read.
@@ -17,6 +24,9 @@ class Reaches {
     this.made = new Numbers(); // the objects that lines name, which go up, and the lines
     this.makers = new Numbers();
     this.behind = [];
+    this.arrayAt = null; // where joblib's first array begins,
+    this.arrays = new Set(); // and what stands for such arrays, as the lines end
+    this.fault = ''; // at which the reading ended
     this.counts = [0, 0];
     this.read();
   }
@@ -40,6 +50,7 @@ class Reaches {
       if (!begins) break;
       this.offsets.add(begins.offset);
       this.kinds.push(begins.what);
+      this.watch(line, begins);
       this.imported.add(sums[0]);
       this.called.add(sums[1]);
       sums[0] += Number(IMPORTS.includes(begins.what));
@@ -59,11 +70,20 @@ class Reaches {
     for (let at = from; at < this.lines.length; at += 1) {
       const line = this.lines.raw(at);
       heading = headingOf(line) || heading;
-      const container = containerOf(line), counts = countsOf(line);
+      const container = containerOf(line), counts = countsOf(line), begins = reachBegins(line);
+      if (begins) this.watch(line, begins);
+      if (!heading) this.fault = closingOf([line], 'fault') || this.fault;
       if (container && !heading) this.behind.push(`begins like a container: ${container} (picklestep scan looks into it)`);
       if (counts && !heading) this.counts = counts;
       else if (counts) this.behind.push(`${heading}: ${counts[0]} imports, ${counts[1]} calls (picklestep calls shows them)`);
     }
+  }
+
+  // joblib goes on by itself where what stands for an array gets its state.
+  watch(line, { offset, what }) {
+    const object = line.slice(line.lastIndexOf('#'));
+    if (what === 'state' && this.arrayAt === null && this.arrays.has(object)) this.arrayAt = offset + 1;
+    else if (what !== 'import' && line.includes(`${WRAPPER}'`) && / as #[0-9]+$/.test(line)) this.arrays.add(object);
   }
 
   get length() {

@@ -115,7 +115,7 @@ function endingOf(closing, lastOffset) {
 }
 
 // The source of a pickle: its bytes, the offsets of its opcodes as far as a loader gets, and how reading ended.
-function sourceOf(content, offsets, closing, { opcodes, facts, saidAt }) {
+function sourceOf(content, offsets, closing, { opcodes, facts, saidAt, isPart }) {
   Object.assign(MOST, facts.most);
   const { early, isRefused, kept } = endingOf(closing, offsets.length ? offsets.at(offsets.length - 1) : 0);
   const builder = new Builder(content, opcodes, facts, saidAt);
@@ -128,6 +128,8 @@ function sourceOf(content, offsets, closing, { opcodes, facts, saidAt }) {
     writer.end(`stack = [${left.map(String).join(', ')}]`, null);
   }
   if (kept) writer.lines.push(`# ${kept} bytes after STOP are not read`);
+  for (const hint of hintsOf({ arrayAt: builder.arrayAt, fault: early }, facts)) writer.lines.push(`# ${hint}`);
+  const heads = early || kept || isPart || builder.arrayAt !== null ? facts.headsOfPart : facts.heads;
   const head = Object.entries(facts.helpers).filter(([need]) => builder.needs.has(need)).map(([, text]) => text);
-  return `${writer.isCut ? facts.headOfCut : facts.head}${head.join('')}${writer.lines.join('\n')}\n`;
+  return `${heads[Number(writer.isCut)]}${head.join('')}${writer.lines.join('\n')}\n`;
 }

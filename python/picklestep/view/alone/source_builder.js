@@ -11,6 +11,8 @@ class Builder {
   constructor(content, opcodes, facts, saidAt) {
     Object.assign(this, { content, facts, saidAt, view: new DataView(content.buffer, content.byteOffset, content.length) });
     Object.assign(this, { events: [], needs: new Set(), stack: [], results: 0, names: new Names(facts), made: 0, handlers: [] });
+    // Where joblib's first array begins; and the class that stands for one, and what is made of it, by their numbers.
+    Object.assign(this, { arrayAt: null, arrayClasses: new Set(), arrays: new Set() });
     for (const [name, opcode] of Object.entries(opcodes)) this.handlers[codeOf(opcode.code)] = this.handlerOf(name, opcode.form);
     this.begin();
   }
@@ -208,6 +210,7 @@ class Builder {
     const found = this.protocol >= 3 ? null : oldNames(this.saidAt(this.offset));
     const bound = this.names.bind(...(found || [module, name]), this.made, this.protocol >= 4);
     for (const need of bound.needs) this.needs.add(need);
+    if (String(name.value).split('.').at(-1) === WRAPPER) this.arrayClasses.add(this.made);
     this.events.push(new Statement(() => bound.statement, [], this.offset, found ? `, in the pickle ${module.shown} ${name.shown}` : ''));
     return bound.text;
   }
@@ -245,8 +248,14 @@ class Builder {
     for (const entry of [called, ...(words.items || []), words.spread || '', words.keywords || '']) this.take(entry);
     if (words.spread && !isTuple(words.spread)) this.needs.add('arguments');
     if (words.keywords && words.keywords.kind !== 'dict') this.needs.add('keywords');
+    if (this.arrayClasses.size && [called, ...(words.items || []), words.spread].some((entry) => this.isArrayClass(entry))) this.arrays.add(this.made);
     this.events.push(new Called(this.made, method, called, words, this.offset));
     this.pushName();
+  }
+
+  // Whether it is the class that stands for joblib's arrays, or a tuple with that.
+  isArrayClass(entry) {
+    return isNode(entry) && (this.arrayClasses.has(entry.number) || (entry.kind === 'tuple' && entry.inner.some((each) => this.isArrayClass(each))));
   }
 
   instantiate(kind, items) {
@@ -261,6 +270,7 @@ class Builder {
 
   build() {
     const state = this.take(this.stack.pop()), target = this.take(this.stack.at(-1));
+    if (this.arrayAt === null && isNode(target) && this.arrays.has(target.number)) this.arrayAt = this.offset + 1;
     this.needs.add('set_state');
     this.events.push(new Statement((one, other) => `set_state(${one}, ${other})`, [target, state], this.offset));
   }

@@ -70,11 +70,13 @@ async function open(bytes, name, many, isWhole = false) {
 // Opens a pickle, or answers what a container holds.
 async function load(bytes, name, isPickle) {
   if (isPickle) return open(bytes, name, false);
-  const inner = await unzipped(bytes, name), members = directoryOf(inner.bytes);
-  if (!members) return open(inner.bytes, inner.name, false);
+  const inner = await unzipped(bytes, name), directory = directoryOf(inner.bytes);
+  if (!directory) return open(inner.bytes, inner.name, false);
+  const { members, count, isWhole } = directory;
   page.archive = { bytes: inner.bytes, members };
   const shown = members.slice(0, MOST_MEMBERS).map((member) => ({ name: member.name, size: member.size, note: member.note }));
-  return { said: `a zip archive with ${members.length} members`, members: shown, more: members.length - shown.length };
+  const said = `a zip archive with ${members.length} members${isWhole ? '' : `, and its closing record counts ${count} (picklestep scan says what is odd)`}`;
+  return { said, members: shown, more: members.length - shown.length };
 }
 
 function progress(text) {

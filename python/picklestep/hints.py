@@ -1,0 +1,84 @@
+"""What an answer does not show, in lines for people: where else to look. The lines that the program prints are fixed; these stand beside them."""
+
+from __future__ import annotations
+
+import re
+from typing import Optional, Set, Tuple
+
+__all__ = ['ARRAY', 'FRAME', 'OF_FRAMES', 'Watch', 'is_array_wrapper', 'of_array', 'of_frame']
+
+# The lines, with a place for an offset, and for the word that reads on.
+ARRAY = 'a joblib file goes on at {} with an array, which is not read here: `picklestep scan FILE` reads on behind it'
+FRAME = 'what is in that frame is not read: `picklestep {} --unframed FILE` does, `picklestep mend FILE OUT` keeps it'
+
+# What ends a reading at a frame: as an opcode like others it does not.
+OF_FRAMES = ('F6', 'F7', 'F8')
+# joblib goes on by itself where such an object gets its state: it reads an array, whose numbers are no opcodes.
+_WRAPPER = 'NumpyArrayWrapper'
+# A line of `calls` that makes one, or gets its class, and one that gives an object its state.
+_MADE = re.compile(rf"^ *[0-9]+: (?!import )[a-z]+ .*{_WRAPPER}'.* as #([0-9]+)$", re.MULTILINE)
+_STATE = re.compile(r'^ *([0-9]+): state .* to #([0-9]+)$', re.MULTILINE)
+_FAULT = 'fault: F'
+_ENDED = re.compile(rf'^fault: ({"|".join(OF_FRAMES)}) ', re.MULTILINE)
+_HEADING = ' may go on:\n'
+
+
+def is_array_wrapper(name: str) -> bool:
+    """Whether an import is that of joblib's class, by its name in whatever module.
+
+    >>> is_array_wrapper('NumpyArrayWrapper'), is_array_wrapper('numpy_pickle.NumpyArrayWrapper'), is_array_wrapper('ndarray')
+    (True, True, False)
+    """
+    return name.rpartition('.')[2] == _WRAPPER
+
+
+def of_array(offset: int) -> str:
+    """What is said of a file of joblib with an array that begins at an offset.
+
+    >>> of_array(217)
+    'a joblib file goes on at 217 with an array, which is not read here: `picklestep scan FILE` reads on behind it'
+    """
+    return ARRAY.format(offset)
+
+
+def of_frame(word: str = 'source') -> str:
+    """What is said where reading ended at a frame, to who may read on with a word.
+
+    >>> of_frame()
+    'what is in that frame is not read: `picklestep source --unframed FILE` does, `picklestep mend FILE OUT` keeps it'
+    """
+    return FRAME.format(word)
+
+
+class Watch:
+    """Reads an answer of `calls` as it comes, in pieces of whole lines. `array_at` is where joblib's first array begins.
+
+    >>> watch = Watch()
+    >>> watch.feed('0 imports, 0 calls\\nfault: F7 frame past the end at 2\\n')
+    >>> watch.array_at, watch.hints == (of_frame(),)
+    (None, True)
+    """
+
+    def __init__(self) -> None:
+        self.array_at: Optional[int] = None
+        self._wrappers: Set[str] = set()
+        self._is_at_frame = self._is_behind = False  # (a heading came: the strict reading is over)
+
+    def feed(self, text: str) -> None:
+        """Reads some lines."""
+        if self.array_at is None:
+            if f"{_WRAPPER}'" in text:
+                self._wrappers.update(_MADE.findall(text))
+            if self._wrappers:
+                self.array_at = next((int(match[1]) + 1 for match in _STATE.finditer(text) if match[2] in self._wrappers), None)
+        if not self._is_behind:
+            heading = text.find(_HEADING)
+            self._is_behind, end = heading >= 0, heading if heading >= 0 else len(text)
+            if text.find(_FAULT, 0, end) >= 0 and _ENDED.search(text, 0, end) is not None:
+                self._is_at_frame = True
+
+    @property
+    def hints(self) -> Tuple[str, ...]:
+        """What the lines do not show, as far as they were read."""
+        array = () if self.array_at is None else (of_array(self.array_at),)
+        return (*array, of_frame()) if self._is_at_frame else array

@@ -1,0 +1,183 @@
+"""What stands beside an answer: that a file of joblib goes on behind its first array, and that a pickle that was cut off goes on in its frame.
+
+The file of joblib is one that the library wrote, with a call behind its array. `scan`, which reads the array, finds it.
+"""
+
+from __future__ import annotations
+
+import base64
+import contextlib
+import io
+import pickle
+import unittest
+from typing import List
+
+import picklestep
+from chromium import PROGRAM, Browser
+from picklestep import scan
+from picklestep.place import find_program
+from picklestep.shell.shell import Shell
+from picklestep.view import main as view
+from picklestep.view.document import Document
+from pickles import REAL, chosen, known_opcodes
+from test_entrance import EntranceCase, ways
+from test_view_alone import MODELS, Driven
+
+ARRAYS = (MODELS / 'joblib_arrays.joblib').read_bytes()
+# joblib 1.2: dump([numpy.arange(5.0), Computed()]), where the second is reduced to eval('1 + 1').
+HIDDEN = base64.b64decode('''
+gASVzgAAAAAAAABdlCiME2pvYmxpYi5udW1weV9waWNrbGWUjBFOdW1weUFycmF5V3JhcHBlcpSTlCmBlH2UKIwIc3ViY2xhc3OUjAVudW1weZSMB25kYXJyYXmUk5SMBX
+NoYXBllEsFhZSMBW9yZGVylIwBQ5SMBWR0eXBllGgHaA6TlIwCZjiUiYiHlFKUKEsDjAE8lE5OTkr/////Sv////9LAHSUYowKYWxsb3dfbW1hcJSIjBtudW1weV9hcnJh
+eV9hbGlnbm1lbnRfYnl0ZXOUSxB1Ygb///////8AAAAAAAAAAAAAAAAAAPA/AAAAAAAAAEAAAAAAAAAIQAAAAAAAABBAlSIAAAAAAAAAjAhidWlsdGluc5SMBGV2YWyUk5
+SMBTEgKyAxlIWUUpRlLg==''')
+_WRAPPER = b'\x80\x02cjoblib.numpy_pickle\nNumpyArrayWrapper\n)\x81}b'
+_CALL = b'cposix\nsystem\n(X\x02\0\0\0idtR'
+# The numbers of this array are bytes to whoever takes them for opcodes, and these hold all that joblib reads behind the numbers.
+SWALLOWED = _WRAPPER + b'B' + len(_CALL).to_bytes(4, 'little') + _CALL + b'0.'
+OF_CLASS = [_WRAPPER, b'\x80\x04\x8c\x06joblib\x8c\x1enumpy_pickle.NumpyArrayWrapper\x93)\x81}b', b'(ijoblib.numpy_pickle\nNumpyArrayWrapper\n}b',
+            b'(cjoblib.numpy_pickle\nNumpyArrayWrapper\no}b',
+            b'ccopy_reg\n_reconstructor\n(cjoblib.numpy_pickle\nNumpyArrayWrapper\nc__builtin__\nobject\nNtR}b']
+CUT = pickle.dumps({'a': list(range(20)), 'b': print}, 4)[:-4]
+
+
+def array_of(data: bytes) -> int:
+    """Where joblib's first array begins: behind the BUILD that follows the last key of a wrapper's state."""
+    found = [(known.offset, known.name) for known in known_opcodes(data)]
+    return next(offset for offset, name in found if name == 'BUILD' and offset > data.index(b'numpy_array_alignment_bytes')) + 1
+
+
+class Answers(unittest.TestCase):
+    """The functions of the module, the shell, and the page."""
+
+    def test_calls(self) -> None:
+        self.assertIn('builtins.eval', [name.name for found in scan.look_at_bytes('a.joblib', HIDDEN).pickles for name in found.imports])
+        answer = picklestep.calls(HIDDEN)
+        self.assertNotIn('eval', answer.text)
+        self.assertEqual(answer.array_at, array_of(HIDDEN))
+        self.assertRegex('\n'.join(answer.hints), rf'^a joblib file goes on at {array_of(HIDDEN)} .*`picklestep scan FILE`[^\n]*$')
+        for data in (ARRAYS, (MODELS / 'sklearn_logistic.joblib').read_bytes()):
+            self.assertEqual(picklestep.calls(data).array_at, array_of(data))
+
+    def test_numbers_that_read_as_opcodes(self) -> None:
+        """What joblib reads is then hidden from who reads on, and reading ends as it should."""
+        answer = picklestep.calls(SWALLOWED)
+        self.assertEqual((answer.calls, answer.end.how, answer.array_at), (2, 'stopped', len(_WRAPPER)))
+        self.assertEqual([picklestep.calls(data + b'\x01').array_at for data in OF_CLASS], list(map(len, OF_CLASS)))
+
+    def test_frames(self) -> None:
+        self.assertEqual(picklestep.calls(CUT).end.code, 'F7')
+        for said in ('\n'.join(picklestep.calls(CUT).hints), picklestep.source(CUT)[-1]):
+            self.assertRegex(said, r'`picklestep source --unframed FILE`.*`picklestep mend FILE OUT`')
+        self.assertNotIn('that frame is', picklestep.source(CUT, unframed=True).text)
+
+    def test_whole_pickles_have_none(self) -> None:
+        for path in chosen(REAL, 20):
+            answer, written = picklestep.calls(path), picklestep.source(path)
+            self.assertEqual((len(answer.hints), answer.array_at), (int(answer.end.code in ('F6', 'F7', 'F8')), None), path.name)
+            self.assertEqual('Running this does the same' in written[0], written.end.is_stopped and not written.kept, path.name)
+
+    def test_source(self) -> None:
+        """It says that running it does the same only where the whole file was read."""
+        for data in (*(data + b'\x01' for data in OF_CLASS), HIDDEN, SWALLOWED, CUT, b'N.N', b'N', b'N0.', b'K\x01.\x00'):
+            with self.subTest(data[:40]):
+                lines = list(picklestep.source(data, many=data.endswith(b'N.N')))
+                self.assertNotIn('Running this does the same', lines[0])
+                self.assertRegex(lines[0], 'first: the last lines say why this is not all')
+                self.assertRegex('\n'.join(lines[-3:]), '(?m)^# .*(reading ends here|are not read|`picklestep scan FILE`)')
+        for data, length in ((HIDDEN, array_of(HIDDEN)), (SWALLOWED, len(_WRAPPER)), *((data + b'\x01', len(data)) for data in OF_CLASS)):
+            self.assertRegex(picklestep.source(data)[-1], rf'^# a joblib file goes on at {length} .*`picklestep scan FILE`')
+        self.assertIn('Running this does the same', picklestep.source(b'N.N.', many=True)[0])
+
+    def test_shell(self) -> None:
+        for data, hint in ((HIDDEN, f'joblib file goes on at {array_of(HIDDEN)} '), (CUT, '`picklestep shell --unframed FILE`')):
+            with Shell(data, '') as shell:
+                self.assertIn(hint, '\n'.join(shell.hints()))
+                self.assertNotIn(hint, shell.obey('where'))
+                end = shell.obey('step 100000')
+                self.assertRegex(end, r'(?m)^>.* the end: F[0-9]')
+                self.assertIn(hint, end)
+        with Shell(SWALLOWED, '') as shell:
+            self.assertIn('A joblib file goes on', shell.obey('step 7'))
+            self.assertEqual(shell.obey('insert 0 NONE').count('joblib file'), 0)
+            self.assertIn(f'goes on at {len(_WRAPPER) + 1} ', shell.obey('where'))
+
+    def test_page(self) -> None:
+        for data, hint in ((HIDDEN, picklestep.calls(HIDDEN).hints[0]), (CUT, picklestep.calls(CUT).hints[0])):
+            with contextlib.closing(Document(data, 'a')) as document:
+                self.assertIn(hint, document.lines.closing)
+
+
+class Reports(EntranceCase):
+    """A report of a part of a file."""
+
+    def test_a_report_of_a_part(self) -> None:
+        container = (MODELS / 'torch_state.pt').read_bytes()
+        said = {'a.joblib': 'picklestep scan FILE', 'b.pt': 'zip archive (picklestep scan looks into it)', 'c.pickle': 'picklestep source --unframed FILE',
+                'd.pickle': 'refused: S2', 'e.pickle': 'picklestep scan FILE'}
+        for (name, why), data in zip(said.items(), (HIDDEN, container, CUT, b'N0.', SWALLOWED)):
+            with self.subTest(name), contextlib.redirect_stderr(io.StringIO()) as errors:
+                out = self.folder / f'{name}.html'
+                self.assertEqual(view([str(self.file(name, data)), '--export', str(out)]), 1)
+                self.assertRegex(errors.getvalue(), r'^picklestep: \S+ has not all of the file: [^\n]*\n$')
+                top = out.read_text(encoding='utf-8').partition('<nav>')[0].partition('<header>')[2]
+                self.assertIn('Not all of the file is in this report:', top)
+                for text in (top.partition('</strong>')[2].partition('</p>')[0], errors.getvalue()):
+                    self.assertIn(why, text)
+        out = self.folder / 'whole.html'
+        self.assertEqual(view([str(self.file('f.pickle', b'N.')), '--export', str(out)]), 0)
+        self.assertNotIn('Not all of the file', out.read_text(encoding='utf-8'))
+
+
+class Entrance(EntranceCase):
+    """`picklestep calls`, in each way in which it is started."""
+
+    def test_calls(self) -> None:
+        whole = pickle.dumps([print, 1], 4)
+        for name, data, said in (('a.joblib', HIDDEN, '`picklestep scan FILE`'), ('b.joblib', SWALLOWED, '`picklestep scan FILE`'),
+                                 ('cut.pickle', CUT, '`picklestep source --unframed FILE`'), ('whole.pickle', whole, '')):
+            self.file(name, data)
+            alone = self.start([find_program(), 'calls', name])
+            for way, entrance in chosen(ways().items(), 1):
+                with self.subTest((way, name)):
+                    run = self.start([*entrance, 'calls', name])
+                    self.assertEqual((run.returncode, run.stdout), (alone.returncode, alone.stdout))
+                    self.assertEqual(len(run.stderr.splitlines()), int(bool(said)), run.stderr)
+                    self.assertIn(said, run.stderr)
+
+    def test_other_words_say_what_the_program_says(self) -> None:
+        self.file('a.joblib', HIDDEN)
+        for word in ('list', 'objects', 'debug'):
+            alone = self.start([find_program(), word, 'a.joblib'])
+            for way, entrance in chosen(ways().items(), 1):
+                run = self.start([*entrance, word, 'a.joblib'])
+                self.assertEqual((run.returncode, run.stdout, run.stderr), (alone.returncode, alone.stdout, alone.stderr), (way, word))
+
+
+@unittest.skipIf(PROGRAM is None, "there is no Chromium: Debian's chromium has it")
+class InThePage(Driven):
+    """The page without a server says the same as the page with one, and writes the same source."""
+
+    browser: Browser
+
+    @classmethod
+    def setUpClass(cls) -> None:
+        cls.browser = Browser(1200, 800)
+        cls.browser.call('Network.enable')
+        cls.addClassCleanup(cls.browser.close)
+
+    def test_what_is_said(self) -> None:
+        self.load()
+        for number, data in enumerate([HIDDEN, SWALLOWED, CUT, *(data + b'\x01' for data in OF_CLASS)]):
+            path = self.file(f'{number}.pickle', data)
+            with contextlib.closing(Document(path, path.name)) as document:
+                closing: List[str] = document.lines.closing
+                written = document.source()['source']
+            self.give(path)
+            self.assertEqual(self.texts('#closing'), ['; '.join(closing)])
+            self.assertRegex(closing[-1], '`picklestep (scan|source --unframed) FILE`')
+            self.assertEqual(self.browser.js("host.ask('source').then((answer) => answer.source)"), written)
+        self.assertEqual(self.browser.errors(), [])
+
+
+if __name__ == '__main__':
+    unittest.main()
