@@ -1,9 +1,10 @@
-"""Checks README.md and the pages of docs/: links, length, the examples of codes, and the checklists; and that commits say what users see."""
+"""Checks README.md and the pages of docs/: links, widths, the examples of codes, drawings and checklists; and that commits say what users see."""
 
 from __future__ import annotations
 
 import functools
 import itertools
+import os
 import re
 import shutil
 import subprocess
@@ -14,8 +15,8 @@ from pathlib import Path
 
 from trials.trial import Trial
 
-WORDS = 16000
-WORDS_OF_README = 900
+# A page is as long as its readers need, but who meets the README decides by two screens whether to read on.
+LINES_OF_README = 120
 COLUMNS = 100
 
 # What the package and the tests from outside have.
@@ -59,10 +60,11 @@ CHECKLISTS = [
         "To add a word of the debugger",
         r"(?i)unframe(?![rd])",
         ["crates/pickle_script/**/*.rt", "crates/pickle_script/**/*.antt", *OUTSIDE, *PACKAGE, "python/tests/test_sessions.py"],
+        {"equipment/surface.txt": "names of the specification"},
     ),
     Checklist(
         "To add an edit",
-        r"\b(Edit::|edit\.)Unframe\b|\b(mod|pub fn) unframe\b|fn unframing\b",
+        r"\b(Edit::|edit\.)Unframe\b|\bCommand::unframe\(|\b(mod|pub fn) unframe\b|fn unframing\b",
         ["crates/*_tests/src/**/*.rt", "crates/real_pickles/src/*.rt", "crates/pickle_doc/src/*.rt", "crates/pickle_doc/specs/*.antt",
          "crates/pickle_session/proofs/**/*.antt", "crates/session_laws/proofs/**/*.antt"],
     ),
@@ -72,6 +74,7 @@ CHECKLISTS = [
         ["crates/pickle*/src/**/*.rt", "crates/pickle*/specs/**/*.antt", "crates/pickle*/proofs/**/*.antt", "crates/*_tests/src/**/*.rt", *OUTSIDE, *PACKAGE,
          "python/tests/test_sessions.py"],
         {
+            "equipment/surface.txt": "names of the specification",
             "equipment/trials/begins.py": "scan has a field of that name",
             "equipment/trials/large.py": "asks it of a large pickle",
             "python/picklestep/scan/results.py": "scan has a field of that name",
@@ -151,23 +154,36 @@ def fault_of_links(page: Path) -> str:
     return "; ".join(faults)
 
 
-# --- Length ---
+# --- Questions ---
+
+QUESTIONS = Path("equipment/questions.txt")
 
 
-def words(page: Path) -> int:
-    return len(page.read_text(encoding="utf-8").split())
-
-
-def fault_of_length(pages: list[Path], others: list[Path]) -> str:
-    """The words of some pages are counted, and of these and others the columns."""
+def fault_of_questions(root: Path) -> str:
+    """There are twenty, and each names a heading that is there."""
+    text = "".join(line for line in (root / QUESTIONS).read_text(encoding="utf-8").splitlines(keepends=True) if not line.startswith("#")).lstrip()
+    found = list(re.finditer(r"^(\d+)\. \S.*\n   (\S+\.md)(?:#(\S+))?\n", text, flags=re.M))
+    if "".join(match[0] for match in found) != text or [match[1] for match in found] != [str(number) for number in range(1, 21)]:
+        return "they are not numbered from 1 to 20, each with a page"
     faults = []
-    counted = sum(words(page) for page in pages)
-    if counted > WORDS:
-        faults.append(f"{counted} words in all, and not at most {WORDS}")
-    for page in [*pages, *others]:
-        if page.name == "README.md" and words(page) > WORDS_OF_README:
-            faults.append(f"{words(page)} words in README.md, and not at most {WORDS_OF_README}")
-        for number, line in enumerate(page.read_text(encoding="utf-8").splitlines(), 1):
+    for match in found:
+        page = root / match[2]
+        if not page.exists() or match[3] and match[3] not in anchors(page):
+            faults.append(f"{match[1]}: there is no {match[2]}{'#' + match[3] if match[3] else ''}")
+    return "; ".join(faults)
+
+
+# --- Widths ---
+
+
+def fault_of_widths(pages: list[Path]) -> str:
+    """No line is wider than a terminal shows, and the README has at most two screens."""
+    faults = []
+    for page in pages:
+        lines = page.read_text(encoding="utf-8").splitlines()
+        if page.name == "README.md" and len(lines) > LINES_OF_README:
+            faults.append(f"README.md has {len(lines)} lines, and not at most {LINES_OF_README}")
+        for number, line in enumerate(lines, 1):
             # (a row of a table cannot be broken, and what a program prints in an example is as it is)
             if len(line) > COLUMNS and not line.startswith(("|", "    ")):
                 faults.append(f"{page.name}, line {number}: {len(line)} columns, and not at most {COLUMNS}")
@@ -175,6 +191,8 @@ def fault_of_length(pages: list[Path], others: list[Path]) -> str:
 
 
 # --- The examples of codes ---
+
+PAGES_OF_CODES = ("docs/CODES.md", "docs/LOADERS.md")
 
 
 @dataclass
@@ -207,7 +225,7 @@ def examples(text: str) -> Iterator[Example]:
             # (where no pickle is named, it is this one)
             pickle, commands = (spans[0], spans[1:]) if re.fullmatch(r"[0-9a-f ]+", spans[0]) else ("4e 2e", spans)
             yield Example(named[1], pickle, commands)
-        elif heading.startswith("What loaders load"):
+        elif heading.startswith("What loaders take"):
             for span in re.findall(r"\(`([0-9a-f ]+)`[):]", item):
                 yield Example(item.split(",")[0] + " ..", span, [])
 
@@ -229,6 +247,30 @@ def fault_of_example(program: str, example: Example, file: Path) -> str:
     if not any(wanted in line for line in last):
         return f"{example.pickle} {example.commands}: {last}"
     return ""
+
+
+# --- Drawings ---
+
+DRAWINGS = Path("docs/drawings")
+
+
+def fault_of_drawings(root: Path, program: str, folder: Path) -> str:
+    """The drawings are what their script makes of the program's answers, and a page shows each."""
+    made = folder / "drawings"
+    words = [sys.executable, "-B", str(root / "tools" / "make_drawings.py"), str(made)]
+    done = subprocess.run(words, env={**os.environ, "PICKLESTEP_PROGRAM": program}, capture_output=True, text=True, timeout=60)
+    if done.returncode != 0:
+        return done.stderr.strip()[-200:]
+    names = sorted({file.name for file in [*made.iterdir(), *(root / DRAWINGS).iterdir()]})
+    shown = "".join(page.read_text(encoding="utf-8") for page in (root / "docs").glob("*.md"))
+    faults = []
+    for name in names:
+        files = [made / name, root / DRAWINGS / name]
+        if not all(file.is_file() for file in files) or files[0].read_bytes() != files[1].read_bytes():
+            faults.append(f"{name} is not what tools/make_drawings.py makes")
+        if f"({DRAWINGS.name}/{name})" not in shown:
+            faults.append(f"no page shows {name}")
+    return "; ".join(faults)
 
 
 # --- Checklists ---
@@ -288,6 +330,7 @@ VERSIONS = {
     "python/picklestep/__init__.py": r"^__version__ = '(\S+)'$",
     "CHANGELOG.md": r"^## (\S+)$",
     "targets/library/picklestep.pc": r"^Version: (\S+)$",
+    "CITATION.cff": r"^version: (\S+)$",
 }
 
 
@@ -298,6 +341,49 @@ def fault_of_version(root: Path) -> str:
     return "" if len(set(versions.values())) == 1 else ", ".join(f"{name} has {version}" for name, version in versions.items())
 
 
+# --- The change log ---
+
+SORTS = ("New", "Changed", "Fixed", "Security")
+
+
+def fault_of_change_log(page: Path) -> str:
+    """Below each version the entries stand under these headings, in this order."""
+    _, *versions = re.split(r"^## ", page.read_text(encoding="utf-8"), flags=re.M)
+    for version in versions:
+        head, *parts = re.split(r"^### ", version, flags=re.M)
+        sorts = [part.partition("\n")[0] for part in parts]
+        if sorts != [sort for sort in SORTS if sort in sorts] or not sorts:
+            return f"{head.split()[0]} has the headings {', '.join(sorts) or 'none'}, and not some of {', '.join(SORTS)}"
+        if re.search(r"^[-#]", head.partition("\n")[2], flags=re.M):
+            return f"{head.split()[0]} has an entry above the first heading"
+    return ""
+
+
+# --- The notices of third parties ---
+
+# Of these Rattle's libraries the notices are in a section of their own.
+OF_KIT = ("core", "std_alloc")
+# Debian's packages that only work on what is linked.
+TOOLS = ("binaryen", "gcc-12-aarch64-linux-gnu", "binutils-aarch64-linux-gnu")
+KIT = Path("/opt/rattle/rattle")
+
+
+def fault_of_notices(root: Path) -> str:
+    """THIRD-PARTY names each library of others that is linked in, with the licence that the toolchain has of it, where that is there."""
+    notices = (root / "THIRD-PARTY").read_text(encoding="utf-8")
+    lines = [line.split(":") for line in (root / "crates.txt").read_text(encoding="utf-8").splitlines() if line.strip() and not line.startswith("#")]
+    own = {line[0].split()[0] for line in lines}
+    used = {name for line in lines for name in line[1].split()}
+    lacking = [f"the crate {name}" for name in sorted(used - own - set(OF_KIT)) if f"\n{name}, after the crate " not in notices]
+    packages = [line.split() for line in (root / "dist" / "TOOLS").read_text(encoding="utf-8").splitlines()]
+    lacking += [f"{name} {version}" for name, version in packages if name not in TOOLS and f"{name} {version}" not in " ".join(notices.split())]
+    for name in sorted(used - own):
+        licences = [*(KIT / name).glob("LICENSE"), *(KIT / name).glob("LICENSE-MIT")]
+        if licences and " ".join(licences[0].read_text(encoding="utf-8").split()) not in " ".join(notices.split()):
+            lacking.append(f"the text of {licences[0]}")
+    return f"THIRD-PARTY lacks {', '.join(lacking)}" if lacking else ""
+
+
 # --- Commits ---
 
 # What users see has a sentence in the body of its commit, from this day on.
@@ -305,7 +391,7 @@ BODIES_SINCE = "2026-11-28"
 CHANGE_LOG = "CHANGELOG.md"
 # So it has where what users read about the program changes, from this day on.
 BODIES_OF_TEXTS_SINCE = "2026-11-29"
-TEXTS_FOR_USERS = ("docs/CODES.md", "docs/USING.md", "python/picklestep/help/", "share/")
+TEXTS_FOR_USERS = ("docs/CODES.md", "docs/LOADERS.md", "docs/LOOK.md", "docs/USING.md", "python/picklestep/help/", "share/")
 
 
 def wants_body(day: str, counts: str) -> bool:
@@ -340,6 +426,44 @@ def fault_of_bodies(root: Path) -> str:
     return f"no body, though users see what they change: {', '.join(faults)}" if faults else ""
 
 
+# --- The laws ---
+
+# The laws stand below a heading of the first page. A law may stand on the second instead, but not on both.
+LAWS_PAGE = "docs/PROVED.md"
+CONTRACTS_PAGE = "docs/CONTRACTS.md"
+
+
+def laws_of_crates(root: Path) -> set[tuple[str, str]]:
+    """The laws, each with its crate: the public functions of the files of laws."""
+    found = set()
+    for file in root.glob("crates/*/src/*laws.rt"):
+        found |= {(file.parent.parent.name, name) for name in re.findall(r"^pub fn (\w+)", text_of(file), flags=re.M)}
+    return found
+
+
+def fault_of_laws(root: Path) -> str:
+    """The two pages together name each law with its crate, once, and no other."""
+    laws_part = text_of(root / LAWS_PAGE).partition("\n## Laws\n")[2].partition("\n## ")[0]
+    text = " ".join(f"{laws_part}\n{text_of(root / CONTRACTS_PAGE)}".split())
+    named = [(crate, name) for crate, names in re.findall(r"`(\w+)`: ((?:(?:, )?`\w+`)+)", text) for name in re.findall(r"\w+", names)]
+    laws = laws_of_crates(root)
+    faults = [f"{crate}: {name} is no law" for crate, name in sorted(set(named) - laws)]
+    faults += [f"{crate}: {name} is not named" for crate, name in sorted(laws - set(named))]
+    faults += [f"{crate}: {name} is named {named.count((crate, name))} times" for crate, name in sorted(set(named)) if named.count((crate, name)) > 1]
+    return "; ".join(faults)
+
+
+def fault_of_picture(root: Path) -> str:
+    """The picture is the one that its script draws, and the crates that it names are there."""
+    done = subprocess.run([sys.executable, "-B", str(root / "tools" / "make_proof_picture.py")], capture_output=True, text=True, timeout=60)
+    if done.returncode != 0:
+        return done.stderr.strip()[:200]
+    if done.stdout != text_of(root / "docs" / "proved.svg"):
+        return "python3 tools/make_proof_picture.py >docs/proved.svg makes another"
+    missing = sorted(name for name in set(re.findall(r"\bpickle_\w+", done.stdout)) if not (root / "crates" / name).is_dir())
+    return f"there is no crate {', '.join(missing)}" if missing else ""
+
+
 def fault_of_index(root: Path) -> str:
     """Each file of definitions has a head."""
     index = subprocess.run([sys.executable, str(root / "tools" / "definitions.py")], capture_output=True, text=True, timeout=60)
@@ -347,19 +471,25 @@ def fault_of_index(root: Path) -> str:
 
 
 def trials(root: Path, program: str, folder: Path) -> list[Trial]:
-    """What is checked. FOLDER gets the pickles of docs/CODES.md."""
+    """What is checked. FOLDER gets the pickles of docs/CODES.md and docs/LOADERS.md."""
     pages = [root / "README.md", *sorted((root / "docs").glob("*.md"))]
     others = [page for page in sorted([*root.glob("*.md"), *root.glob("python/*.md")]) if page not in pages]
     found = [Trial(f"the links of {page.relative_to(root)}", functools.partial(fault_of_links, page)) for page in [*pages, *others]]
-    found.append(Trial("the length of the pages", functools.partial(fault_of_length, pages, others)))
-    for example in examples((root / "docs" / "CODES.md").read_text(encoding="utf-8")):
+    found.append(Trial("the widths of the pages", functools.partial(fault_of_widths, [*pages, *others])))
+    for example in itertools.chain.from_iterable(examples(text_of(root / page)) for page in PAGES_OF_CODES):
         name = f"the example of {example.code}, {' '.join([example.pickle, *example.commands])}"
         found.append(Trial(name, functools.partial(fault_of_example, program, example, folder / "code.pickle")))
+    found.append(Trial("the pages that answer the twenty questions", functools.partial(fault_of_questions, root)))
+    found.append(Trial("the drawings", functools.partial(fault_of_drawings, root, program, folder)))
     for name, checklists in (("docs/DESIGN.md", CHECKLISTS), ("python/CONTRIBUTING.md", CHECKLISTS_OF_PACKAGE)):
         page = (root / name).read_text(encoding="utf-8")
         for checklist in checklists:
             found.append(Trial(f"the checklist '{checklist.heading}'", functools.partial(fault_of_checklist, root, page, checklist)))
     found.append(Trial("the version of the change log", functools.partial(fault_of_version, root)))
+    found.append(Trial("the sorts of the change log", functools.partial(fault_of_change_log, root / "CHANGELOG.md")))
+    found.append(Trial("the notices of third parties", functools.partial(fault_of_notices, root)))
     found.append(Trial("the bodies of commits", functools.partial(fault_of_bodies, root)))
     found.append(Trial("the index of definitions", functools.partial(fault_of_index, root)))
+    found.append(Trial("the laws of PROVED", functools.partial(fault_of_laws, root)))
+    found.append(Trial("the picture of PROVED", functools.partial(fault_of_picture, root)))
     return found

@@ -1,4 +1,4 @@
-"""The examples of the pages: commands of the README, and conversations."""
+"""The examples of the pages: commands, and conversations."""
 
 from __future__ import annotations
 
@@ -15,6 +15,7 @@ from .trial import Trial
 
 COMMAND = "    $ "
 MARGIN = "    "
+COMMANDS = ("README.md", "docs/PICKLES.md", "docs/PROMISE.md", "docs/LOOK.md", "docs/LOADERS.md")
 PAGES = ("docs/USING.md", "equipment/conversations.txt", "equipment/texts.txt", "equipment/calls.txt")
 BLOCK = re.compile(r"^ *(?:pickles?|unframed)(?: [0-9a-f ]+)?$", re.MULTILINE)
 
@@ -33,19 +34,20 @@ def examples_of(page: str) -> Iterator[tuple[str, str]]:
 
 
 @dataclass
-class Readme:
-    """The examples of the README. Later ones use the files of earlier ones, so they run in their order."""
+class Commands:
+    """The commands of a page. Later ones use the files of earlier ones, so they run in their order."""
 
     room: Room
+    page: str
     examples: list[tuple[str, str]] = field(init=False)
     done: int = 0
 
     def __post_init__(self) -> None:
-        self.examples = list(examples_of((self.room.root / "README.md").read_text("utf-8")))
+        self.examples = list(examples_of((self.room.root / self.page).read_text("utf-8")))
 
     @functools.cached_property
     def folder(self) -> Path:
-        folder = self.room.folder / "readme"
+        folder = self.room.folder / f"commands of {Path(self.page).name}"
         folder.mkdir()
         (folder / "picklestep").symlink_to(self.room.start)
         (folder / "crates").symlink_to(self.room.root / "crates")
@@ -59,16 +61,18 @@ class Readme:
         command, wanted = self.examples[number]
         sources, binary = self.room.root / "python", self.room.program
         settings = [f"PYTHONPATH={sources}", f"PICKLESTEP_PROGRAM={binary}", "PYTHONDONTWRITEBYTECODE=1"]
-        words: list[Word] = ["env", *settings, "bash", "-c", command]
+        # (an answer that has something to look at has status 1)
+        words: list[Word] = ["env", *settings, "bash", "-c", f"{command}\n[ $? -le 1 ]"]
         return run(words, self.folder).difference(0, wanted, "")
 
 
-def of_readme(room: Room) -> list[Trial]:
-    readme = Readme(room)
-    return [
-        Trial(f"the example '{command}'", functools.partial(readme.fault, number))
-        for number, (command, _) in enumerate(readme.examples)
-    ]
+def of_commands(room: Room) -> list[Trial]:
+    trials = []
+    for page in COMMANDS:
+        commands = Commands(room, page)
+        trials += [Trial(f"the example '{command}' of {page}", functools.partial(commands.fault, number))
+                   for number, (command, _) in enumerate(commands.examples)]
+    return trials
 
 
 def of_pages(room: Room) -> list[Trial]:

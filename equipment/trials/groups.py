@@ -21,6 +21,7 @@ import pages
 import releases
 import saves
 import several
+import surface
 import try_calls
 import try_definition
 import try_lines
@@ -78,12 +79,13 @@ def of_program(room: Room) -> list[AnyGroup]:
         Group("program", functools.partial(program.trials, room)),
         Group("usage", functools.partial(usage.trials, room)),
         Group("options", functools.partial(options.trials, room)),
-        Group("readme", functools.partial(examples.of_readme, room)),
+        Group("readme", functools.partial(examples.of_commands, room)),
         Group("conversations", functools.partial(examples.of_pages, room)),
         Group("rows", functools.partial(crate_rows.trials, room.root)),
         Group("begins", functools.partial(begins.trials, room)),
         Group("forms", functools.partial(forms.trials, room)),
         Group("opcodes", functools.partial(opcodes.trials, room.root, str(room.program), room.folder / "opcodes")),
+        Group("surface", functools.partial(surface.trials, room.root)),
         Group("pages", functools.partial(pages.trials, room.root, str(room.program), room.folder / "pages")),
     ]
 
