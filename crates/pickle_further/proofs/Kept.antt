@@ -10,7 +10,7 @@ use Rattle.pickle_show.specs.Output.{Output}
 use Rattle.pickle_show.specs.declared.end.Ending.TheVariants as ending
 use Rattle.pickle_show.specs.declared.stop.TextStop.{TextStop}
 use Rattle.pickle_show.specs.declared.stop.TextStop.TheVariants as stop
-use Rattle.pickle_holes.specs.Holes.{in_file}
+use Rattle.pickle_io.specs.Holes.{in_file}
 use Rattle.pickle_show.specs.Manner.{Manner, ending_in}
 use Rattle.pickle_show.specs.CallsLine.{calls_end_text, ending_status}
 use Rattle.pickle_further.specs.declared.way.Pickles.TheVariants as pickles

@@ -3,8 +3,8 @@ use Rattle.std.proofs.Common.{◌≡◌, ℕ, zero, suc, ◌+◌, List, [], leng
 use Rattle.std.specs.Prelude.{is_some, if◌then◌else◌}
 use Rattle.std.specs.Option.{option_map_or}
 use Rattle.pickle_io.specs.Text.{◌⧺◌}
-use Rattle.pickle_holes.specs.declared.hole.Hole.{Hole}
-use Rattle.pickle_holes.specs.Holes.{in_file}
+use Rattle.pickle_io.specs.declared.hole.Hole.{Hole}
+use Rattle.pickle_io.specs.Holes.{in_file}
 use Rattle.pickle_show.specs.declared.report.Closing.{Closing}
 use Rattle.pickle_show.specs.declared.event.Event.{Event}
 use Rattle.pickle_show.specs.Calls.{counted_text}

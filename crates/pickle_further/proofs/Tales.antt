@@ -9,8 +9,8 @@ use Rattle.pickle_io.proofs.Devices.{Wrote-none, Wrote-trans, Broke-after, Broke
 use Rattle.pickle_ops.specs.declared.fault.FrontFault.TheVariants as front
 use Rattle.pickle_doc.specs.declared.fault.TailFault.TheVariants as tail
 use Rattle.pickle_machine.specs.State.{State}
-use Rattle.pickle_holes.specs.declared.hole.Hole.{Hole}
-use Rattle.pickle_holes.specs.Holes.{in_file}
+use Rattle.pickle_io.specs.declared.hole.Hole.{Hole}
+use Rattle.pickle_io.specs.Holes.{in_file}
 use Rattle.pickle_show.specs.declared.report.Closing.{Closing}
 use Rattle.pickle_show.specs.declared.report.Closing.TheVariants as closing
 use Rattle.pickle_show.specs.declared.course.Course.{Course}

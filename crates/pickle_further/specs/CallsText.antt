@@ -16,7 +16,7 @@ use Rattle.pickle_further.specs.declared.way.Pickles.{Pickles}
 use Rattle.pickle_further.specs.declared.way.Pickles.TheVariants as pickles
 use Rattle.pickle_show.specs.Column.{newline}
 use Rattle.pickle_show.specs.declared.naming.Detail.{Detail}
-use Rattle.pickle_holes.specs.Holes.{in_file}
+use Rattle.pickle_io.specs.Holes.{in_file}
 use Rattle.pickle_further.specs.Going.{Standing, Tale, tale_of}
 use Rattle.pickle_further.specs.Parts.{ignoring, buffering, holding, are_many, standing_first, loss_at, lost_by, parts}
 

@@ -7,7 +7,7 @@ use Rattle.pickle_doc.specs.declared.fault.TailFault.TheVariants as tail
 use Rattle.pickle_machine.specs.State.{State}
 use Rattle.pickle_lenient.specs.declared.fault.NotTaken.{NotTaken}
 use Rattle.pickle_lenient.specs.declared.fault.NotTaken.TheVariants as stop
-use Rattle.pickle_holes.specs.declared.hole.Hole.{Hole}
+use Rattle.pickle_io.specs.declared.hole.Hole.{Hole}
 use Rattle.pickle_show.specs.declared.course.Course.{Course}
 use Rattle.pickle_show.specs.declared.calls.Ran.{Ran}
 use Rattle.pickle_show.specs.declared.naming.Naming.{Naming}

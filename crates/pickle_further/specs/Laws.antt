@@ -4,7 +4,7 @@ use Rattle.std.specs.Prelude.{◌≡◌, ℕ, suc, ◌<◌, ◌++◌, true, List
 use Rattle.pickle_ops.specs.Kind.{is_opaque}
 use Rattle.pickle_ops.specs.Object.{Object}
 use Rattle.pickle_doc.specs.Document.{Contents}
-use Rattle.pickle_holes.specs.declared.hole.Hole.{Hole}
+use Rattle.pickle_io.specs.declared.hole.Hole.{Hole}
 use Rattle.pickle_show.specs.Manner.{Manner}
 use Rattle.pickle_show.specs.Calls.{calls}
 use Rattle.pickle_further.specs.declared.way.Pickles.{Pickles}

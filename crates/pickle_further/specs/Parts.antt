@@ -15,7 +15,7 @@ use Rattle.pickle_show.specs.declared.end.Ending.TheVariants as ending
 use Rattle.pickle_show.specs.Column.{newline}
 use Rattle.pickle_show.specs.Report.{closing_line}
 use Rattle.pickle_show.specs.CallsLine.{totals_line}
-use Rattle.pickle_holes.specs.declared.hole.Hole.{Hole}
+use Rattle.pickle_io.specs.declared.hole.Hole.{Hole}
 use Rattle.pickle_show.specs.declared.naming.Detail.{Detail}
 use Rattle.pickle_show.specs.Manner.{Manner, closing_in}
 use Rattle.pickle_show.specs.Naming.{begin}

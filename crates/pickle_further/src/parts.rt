@@ -15,8 +15,7 @@ use crate::going::go;
 use crate::machine::LoaderMachine;
 use crate::seek::{Sought, Visited, seek};
 use crate::way::{Spot, Way};
-use pickle_holes::Holes;
-use pickle_io::{Failed, Page, write_all};
+use pickle_io::{Failed, Holes, Page, write_all};
 use pickle_lenient::Frames;
 use pickle_show::{
     Closing, Course, Detail, Naming, TextStop, closing_in, write_closing, write_totals,

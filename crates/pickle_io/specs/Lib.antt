@@ -3,3 +3,5 @@ pub mod Device
 pub mod Wrapped
 pub mod Whole
 pub mod Text
+pub mod Holes
+pub mod HoleLaws

@@ -19,8 +19,8 @@ use Rattle.pickle_machine.specs.declared.loader.LoaderMove.{LoaderMove}
 use Rattle.pickle_machine.specs.LoaderLaws.{one_move}
 use Rattle.pickle_machine.specs.Run.{run}
 use Rattle.pickle_machine.proofs.LoaderRows.{loaders_take_moves}
-use Rattle.pickle_holes.specs.declared.hole.Hole.{Hole}
-use Rattle.pickle_holes.specs.Holes.{in_file}
+use Rattle.pickle_io.specs.declared.hole.Hole.{Hole}
+use Rattle.pickle_io.specs.Holes.{in_file}
 use Rattle.pickle_show.specs.declared.event.Event.{Event}
 use Rattle.pickle_show.specs.declared.end.Ending.TheVariants as ending
 use Rattle.pickle_show.specs.declared.report.Closing.{Closing}

@@ -18,7 +18,7 @@ use Rattle.pickle_ops.specs.Row.{row_of_opcode}
 use Rattle.pickle_ops.specs.Spelling.{Operation}
 use Rattle.pickle_doc.specs.Document.{Contents}
 use Rattle.pickle_doc.specs.Place.{ops_of, offset_of}
-use Rattle.pickle_holes.specs.Holes.{in_file}
+use Rattle.pickle_io.specs.Holes.{in_file}
 use Rattle.pickle_machine.specs.State.{State, start}
 use Rattle.pickle_machine.specs.Run.{run}
 use Rattle.pickle_show.specs.Column.{right_aligned, newline}

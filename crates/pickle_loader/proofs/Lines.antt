@@ -23,7 +23,7 @@ use Rattle.pickle_show.specs.CallsLine.{event_text, event_line, line_of, ending_
 use Rattle.pickle_show.specs.Listing.{reached}
 use Rattle.pickle_show.specs.Report.{refused_on, closing_status}
 use Rattle.pickle_show.specs.declared.report.Closing.{Closing}
-use Rattle.pickle_holes.specs.Holes.{in_file}
+use Rattle.pickle_io.specs.Holes.{in_file}
 use Rattle.pickle_show.specs.Manner.{Manner}
 use Rattle.pickle_show.specs.declared.naming.Naming.{Naming}
 use Rattle.pickle_show.specs.Calls.{naming_at, entry_on, entry_at, first_inside, closing_to, kept_by, end_to, end_from, end_by, calls_end, calls}

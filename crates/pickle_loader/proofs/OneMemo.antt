@@ -13,7 +13,7 @@ use Rattle.pickle_lenient.specs.Lenient.{Lenient, lenient}
 use Rattle.pickle_lenient.specs.Stream.{taken_as, plain, taken}
 use Rattle.pickle_doc.specs.Document.{Contents, ReadsAs, AreBytes}
 use Rattle.pickle_doc.proofs.Existence.{one_document}
-use Rattle.pickle_holes.specs.Holes.{in_file}
+use Rattle.pickle_io.specs.Holes.{in_file}
 use Rattle.pickle_lenient.specs.declared.taken.Frames.{Frames}
 use Rattle.pickle_lenient.specs.declared.taken.Frames.TheVariants as frames
 use Rattle.pickle_show.specs.declared.naming.Detail.{Detail}

@@ -8,7 +8,7 @@ use Rattle.pickle_names.specs.Renamed.{Import, renamed}
 use Rattle.pickle_ops.specs.Object.{Object}
 use Rattle.pickle_doc.specs.Document.{Contents}
 use Rattle.pickle_doc.specs.Place.{ops_of, offset_of}
-use Rattle.pickle_holes.specs.Holes.{in_file}
+use Rattle.pickle_io.specs.Holes.{in_file}
 use Rattle.pickle_machine.specs.State.{State}
 use Rattle.pickle_show.specs.Column.{right_aligned, newline}
 use Rattle.pickle_show.specs.ObjectText.{id_text}

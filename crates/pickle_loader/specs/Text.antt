@@ -6,8 +6,8 @@ use Rattle.pickle_doc.specs.Document.{Contents, ReadsAs, AreBytes, document_byte
 use Rattle.pickle_doc.specs.Place.{ops_of}
 use Rattle.pickle_machine.specs.State.{State, start}
 use Rattle.pickle_machine.specs.Run.{run}
-use Rattle.pickle_holes.specs.declared.hole.Hole.{Hole}
-use Rattle.pickle_holes.specs.Holes.{in_file}
+use Rattle.pickle_io.specs.declared.hole.Hole.{Hole}
+use Rattle.pickle_io.specs.Holes.{in_file}
 use Rattle.pickle_lenient.specs.declared.taken.Frames.{Frames}
 use Rattle.pickle_lenient.specs.declared.taken.Frames.TheVariants as frames
 use Rattle.pickle_show.specs.declared.naming.Detail.{Detail}

@@ -7,12 +7,12 @@ use Rattle.pickle_io.specs.declared.sink.Failed.{Failed}
 use Rattle.pickle_io.specs.Device.{Told, KeepsOrForgets, Broke}
 use Rattle.pickle_io.proofs.Devices.{Wrote-none}
 use Rattle.pickle_session.specs.Allowed.{SessionState}
-use Rattle.pickle_script.specs.declared.line.Line.{Line}
-use Rattle.pickle_script.specs.declared.line.Syntax.{Syntax}
+use Rattle.pickle_script.specs.declared.conversation.line.Line.{Line}
+use Rattle.pickle_script.specs.declared.conversation.line.Syntax.{Syntax}
 use Rattle.pickle_script.specs.Script.{last_line, lines_of}
 use Rattle.pickle_script.specs.Transcript.{IsRead, PrintsAll, up_to_quit}
 use Rattle.pickle_script.specs.Conversation.{Gave, Finishes, StopsReading, most_at_once, BrokeSince, StopsWriting}
-use Rattle.pickle_script.specs.declared.outcome.Outcome.{Outcome}
+use Rattle.pickle_script.specs.declared.conversation.outcome.Outcome.{Outcome}
 use Rattle.pickle_script.specs.Inside.Progress.{was_refused, Pending, line_start, WritesLine, SoFar, HasQuit, BreaksInLine, HasBroken, IsComplete, IsBroken}
 use Rattle.pickle_script.proofs.Cuts.{nothing, IsCut-none}
 use Rattle.pickle_script.proofs.Feeding.{pend, shortened-nil, nil-shortened, Runs-push, Wrote-push, up_to_quit-none, up_to_quit-last, up_to_quit-more, gives_so, refused_so, last_breaks}

@@ -10,16 +10,16 @@ use Rattle.std.proofs.lemmas.List.Folds.{concat-append, list_any-append}
 use Rattle.pickle_io.specs.Device.{Told, AppendsPrefix, Wrote, Broke}
 use Rattle.pickle_io.specs.declared.sink.Failed.{Failed}
 use Rattle.pickle_session.specs.Allowed.{SessionState}
-use Rattle.pickle_script.specs.declared.line.Line.{Line}
-use Rattle.pickle_script.specs.declared.line.Line.TheVariants as line
-use Rattle.pickle_script.specs.declared.line.Syntax.{Syntax}
-use Rattle.pickle_script.specs.declared.line.Syntax.TheVariants as syntax
+use Rattle.pickle_script.specs.declared.conversation.line.Line.{Line}
+use Rattle.pickle_script.specs.declared.conversation.line.Line.TheVariants as line
+use Rattle.pickle_script.specs.declared.conversation.line.Syntax.{Syntax}
+use Rattle.pickle_script.specs.declared.conversation.line.Syntax.TheVariants as syntax
 use Rattle.pickle_script.specs.Grammar.{AnswersWords, longest, words_of, words_say, line_says}
 use Rattle.pickle_script.specs.Transcript.{PrintsBy, IsRead, Prints, PrintsAll, quits, is_quit, has_quit, up_to_quit, is_refusal}
 use Rattle.pickle_script.specs.Conversation.{AppendsBeyond, BrokeBeyond}
-use Rattle.pickle_script.specs.declared.outcome.Outcome.{Outcome}
-use Rattle.pickle_script.specs.declared.outcome.Flow.{Flow}
-use Rattle.pickle_script.specs.declared.outcome.Flow.TheVariants as flow
+use Rattle.pickle_script.specs.declared.conversation.outcome.Outcome.{Outcome}
+use Rattle.pickle_script.specs.declared.conversation.outcome.Flow.{Flow}
+use Rattle.pickle_script.specs.declared.conversation.outcome.Flow.TheVariants as flow
 use Rattle.pickle_script.specs.Inside.Progress.{was_refused, Pending, line_start, longer, WritesLine, SoFar, HasQuit, BreaksInLine, HasBroken, Fed}
 use Rattle.pickle_script.proofs.Cuts.{after, ended, lengthened, IsCut-more, IsCut-newline, IsCut-byte, some_cut}
 

@@ -8,12 +8,12 @@ use Rattle.pickle_io.specs.declared.sink.Failed.{Failed}
 use Rattle.pickle_io.specs.Device.{Told, AppendsPrefix, Wrote, Broke}
 use Rattle.pickle_io.proofs.Devices.{Wrote-trans, Broke-after}
 use Rattle.pickle_session.specs.Allowed.{SessionState}
-use Rattle.pickle_script.specs.declared.line.Line.{Line}
-use Rattle.pickle_script.specs.declared.line.Syntax.{Syntax}
+use Rattle.pickle_script.specs.declared.conversation.line.Line.{Line}
+use Rattle.pickle_script.specs.declared.conversation.line.Syntax.{Syntax}
 use Rattle.pickle_script.specs.Script.{Cut, HasNoNewline, IsCut, joined}
 use Rattle.pickle_script.specs.Transcript.{PrintsAll, IsTranscript, is_quit, has_quit, up_to_quit}
 use Rattle.pickle_script.specs.Conversation.{AppendsBeyond, BrokeBeyond}
-use Rattle.pickle_script.specs.declared.outcome.Outcome.{Outcome}
+use Rattle.pickle_script.specs.declared.conversation.outcome.Outcome.{Outcome}
 use Rattle.pickle_script.specs.Inside.Progress.{Pending, WritesLine, SoFar, HasQuit, BreaksInLine, HasBroken}
 use Rattle.pickle_script.proofs.Cuts.{is_newline}
 use Rattle.pickle_script.proofs.Feeding.{concat-push, up_to-last, up_to_quit-none}

@@ -15,10 +15,10 @@ use Rattle.pickle_show.specs.Manner.{Manner, whole}
 use Rattle.pickle_show.specs.declared.stop.TextStop.TheVariants as cut
 use Rattle.pickle_script.specs.declared.stop.Stop.{Stop}
 use Rattle.pickle_script.specs.declared.stop.Stop.TheVariants as stop
-use Rattle.pickle_script.specs.declared.texts.Text.{Text}
-use Rattle.pickle_script.specs.declared.texts.Text.TheVariants as text
-use Rattle.pickle_holes.specs.declared.hole.Hole.{Hole}
-use Rattle.pickle_holes.specs.Holes.{first_outside}
+use Rattle.pickle_script.specs.declared.texts.written.Text.{Text}
+use Rattle.pickle_script.specs.declared.texts.written.Text.TheVariants as text
+use Rattle.pickle_io.specs.declared.hole.Hole.{Hole}
+use Rattle.pickle_io.specs.Holes.{first_outside}
 use Rattle.pickle_script.specs.Output.{StopsText, AnswersText, outside_line, IsCallsOfFile, CompletesFile, CutsFile, AnswersCalls}
 
 -- nothing is a beginning of any text

@@ -4,13 +4,13 @@ use Rattle.pickle_io.specs.declared.sink.Failed.{Failed}
 use Rattle.pickle_io.specs.Device.{Told, Wrote, Broke}
 use Rattle.pickle_doc.specs.Place.{IsPlaceAt}
 use Rattle.pickle_session.specs.Allowed.{SessionState}
-use Rattle.pickle_script.specs.declared.line.Line.TheVariants as line
-use Rattle.pickle_script.specs.declared.line.Place.TheVariants as place
-use Rattle.pickle_script.specs.declared.line.Action.{Action}
+use Rattle.pickle_script.specs.declared.conversation.line.Line.TheVariants as line
+use Rattle.pickle_script.specs.declared.conversation.line.Place.TheVariants as place
+use Rattle.pickle_script.specs.declared.conversation.line.Action.{Action}
 use Rattle.pickle_script.specs.Grammar.{command_at}
 use Rattle.pickle_script.specs.ReplyText.{no_item_line}
-use Rattle.pickle_script.specs.declared.outcome.Outcome.{Outcome}
-use Rattle.pickle_script.specs.declared.outcome.Outcome.TheVariants as outcome
+use Rattle.pickle_script.specs.declared.conversation.outcome.Outcome.{Outcome}
+use Rattle.pickle_script.specs.declared.conversation.outcome.Outcome.TheVariants as outcome
 use Rattle.pickle_script.specs.Inside.Progress.{WritesLine}
 use Rattle.pickle_script.proofs.Refusals.{no_item_refuses}
 

@@ -8,15 +8,15 @@ use Rattle.pickle_machine.specs.State.{State}
 use Rattle.pickle_session.specs.Session.{Session, state_at}
 use Rattle.pickle_session.specs.Allowed.{SessionState}
 use Rattle.pickle_show.specs.Show.{show_text}
-use Rattle.pickle_script.specs.declared.line.Line.TheVariants as line
-use Rattle.pickle_script.specs.declared.line.Query.{Query}
-use Rattle.pickle_script.specs.declared.line.Query.TheVariants as query
-use Rattle.pickle_script.specs.declared.line.Syntax.TheVariants as syntax
+use Rattle.pickle_script.specs.declared.conversation.line.Line.TheVariants as line
+use Rattle.pickle_script.specs.declared.conversation.line.Query.{Query}
+use Rattle.pickle_script.specs.declared.conversation.line.Query.TheVariants as query
+use Rattle.pickle_script.specs.declared.conversation.line.Syntax.TheVariants as syntax
 use Rattle.pickle_script.specs.ReplyText.{syntax_line, no_object_line}
 use Rattle.pickle_script.specs.Query.{shown, query_text, asks_memory}
 use Rattle.pickle_script.specs.Transcript.{is_refusal}
-use Rattle.pickle_script.specs.declared.outcome.Outcome.{Outcome}
-use Rattle.pickle_script.specs.declared.outcome.Outcome.TheVariants as outcome
+use Rattle.pickle_script.specs.declared.conversation.outcome.Outcome.{Outcome}
+use Rattle.pickle_script.specs.declared.conversation.outcome.Outcome.TheVariants as outcome
 use Rattle.pickle_script.specs.Inside.Progress.{was_refused, WritesQuery, WritesLine}
 use Rattle.pickle_script.proofs.Refusals.{line_refuses, missing_refuses, show_accepts}
 

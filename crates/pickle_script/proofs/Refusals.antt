@@ -18,7 +18,7 @@ use Rattle.pickle_session.specs.Session.{Session, len_of}
 use Rattle.pickle_session.specs.declared.reply.Fault.{Fault}
 use Rattle.pickle_session.specs.declared.reply.Why.{Why}
 use Rattle.pickle_session.specs.declared.reply.Reply.TheVariants as reply
-use Rattle.pickle_script.specs.declared.line.Syntax.{Syntax}
+use Rattle.pickle_script.specs.declared.conversation.line.Syntax.{Syntax}
 use Rattle.pickle_script.specs.PlaceText.{sign_if, session_line, session_line_at, items_text, cursor_text, where_text}
 use Rattle.pickle_script.specs.ReplyText.{refused_command, ran_text, placed_text, reply_text, syntax_line, no_object_line, no_item_line}
 use Rattle.pickle_script.specs.Transcript.{is_refusal}

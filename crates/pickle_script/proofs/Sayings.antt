@@ -1,12 +1,12 @@
 -- Lines without an operation are answered as they are said.
 use Rattle.std.proofs.Common.{◌≡◌, ℕ, List, [], ◌∷◌, None, Result, Ok, Err, refl}
-use Rattle.pickle_script.specs.declared.line.Line.{Line}
-use Rattle.pickle_script.specs.declared.line.Line.TheVariants as line
-use Rattle.pickle_script.specs.declared.line.Query.TheVariants as query
-use Rattle.pickle_script.specs.declared.line.Place.{Place}
-use Rattle.pickle_script.specs.declared.line.Action.TheVariants as action
-use Rattle.pickle_script.specs.declared.line.Syntax.{Syntax}
-use Rattle.pickle_script.specs.declared.keyword.PlaceWord.{PlaceWord}
+use Rattle.pickle_script.specs.declared.conversation.line.Line.{Line}
+use Rattle.pickle_script.specs.declared.conversation.line.Line.TheVariants as line
+use Rattle.pickle_script.specs.declared.conversation.line.Query.TheVariants as query
+use Rattle.pickle_script.specs.declared.conversation.line.Place.{Place}
+use Rattle.pickle_script.specs.declared.conversation.line.Action.TheVariants as action
+use Rattle.pickle_script.specs.declared.conversation.line.Syntax.{Syntax}
+use Rattle.pickle_script.specs.declared.conversation.keyword.PlaceWord.{PlaceWord}
 use Rattle.pickle_script.specs.Grammar.{op_in, alone, number_first, place_first, show_says, place_says, frame_says, and_then, AnswersWords}
 
 -- a line without an operation

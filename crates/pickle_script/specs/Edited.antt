@@ -5,7 +5,7 @@ use Rattle.pickle_io.specs.Device.{Told}
 use Rattle.pickle_doc.specs.Document.{Contents, document_bytes}
 use Rattle.pickle_script.specs.declared.stop.Stop.{Stop}
 use Rattle.pickle_script.specs.declared.stop.Stop.TheVariants as stop
-use Rattle.pickle_script.specs.declared.texts.Text.{Text}
+use Rattle.pickle_script.specs.declared.texts.written.Text.{Text}
 use Rattle.pickle_script.specs.Output.{AnswersText}
 
 -- the text of the document's bytes, in its mode

@@ -13,20 +13,20 @@ use Rattle.pickle_ops.specs.declared.fault.OpFault.TheVariants as fault
 use Rattle.pickle_doc.specs.declared.edit.Edit.TheVariants as edit
 use Rattle.pickle_session.specs.declared.command.Command.{Command}
 use Rattle.pickle_session.specs.declared.command.Command.TheVariants as command
-use Rattle.pickle_script.specs.declared.line.Query.{Query}
-use Rattle.pickle_script.specs.declared.line.Query.TheVariants as query
-use Rattle.pickle_script.specs.declared.line.Place.{Place}
-use Rattle.pickle_script.specs.declared.line.Place.TheVariants as place
-use Rattle.pickle_script.specs.declared.line.Action.{Action}
-use Rattle.pickle_script.specs.declared.line.Action.TheVariants as action
-use Rattle.pickle_script.specs.declared.line.Line.{Line}
-use Rattle.pickle_script.specs.declared.line.Line.TheVariants as line
-use Rattle.pickle_script.specs.declared.line.Syntax.{Syntax}
-use Rattle.pickle_script.specs.declared.line.Syntax.TheVariants as syntax
-use Rattle.pickle_script.specs.declared.keyword.PlaceWord.{PlaceWord}
-use Rattle.pickle_script.specs.declared.keyword.PlaceWord.TheVariants as placed
-use Rattle.pickle_script.specs.declared.keyword.OpWord.{OpWord}
-use Rattle.pickle_script.specs.declared.keyword.OpWord.TheVariants as op
+use Rattle.pickle_script.specs.declared.conversation.line.Query.{Query}
+use Rattle.pickle_script.specs.declared.conversation.line.Query.TheVariants as query
+use Rattle.pickle_script.specs.declared.conversation.line.Place.{Place}
+use Rattle.pickle_script.specs.declared.conversation.line.Place.TheVariants as place
+use Rattle.pickle_script.specs.declared.conversation.line.Action.{Action}
+use Rattle.pickle_script.specs.declared.conversation.line.Action.TheVariants as action
+use Rattle.pickle_script.specs.declared.conversation.line.Line.{Line}
+use Rattle.pickle_script.specs.declared.conversation.line.Line.TheVariants as line
+use Rattle.pickle_script.specs.declared.conversation.line.Syntax.{Syntax}
+use Rattle.pickle_script.specs.declared.conversation.line.Syntax.TheVariants as syntax
+use Rattle.pickle_script.specs.declared.conversation.keyword.PlaceWord.{PlaceWord}
+use Rattle.pickle_script.specs.declared.conversation.keyword.PlaceWord.TheVariants as placed
+use Rattle.pickle_script.specs.declared.conversation.keyword.OpWord.{OpWord}
+use Rattle.pickle_script.specs.declared.conversation.keyword.OpWord.TheVariants as op
 
 -- ---- words
 

@@ -8,6 +8,7 @@ pub mod Transcript
 pub mod Conversation
 pub mod FormText
 pub mod Grammar
+pub mod GivenHoles
 pub mod FaultText
 pub mod ReplyText
 pub mod PlaceText

@@ -8,8 +8,8 @@ use Rattle.pickle_show.specs.Output.{Output, Completes, Breaks, Begins}
 use Rattle.pickle_show.specs.Listing.{listing}
 use Rattle.pickle_show.specs.Written.{IsListed}
 use Rattle.pickle_show.specs.Report.{IsReported, BreaksReport}
-use Rattle.pickle_holes.specs.declared.hole.Hole.{Hole}
-use Rattle.pickle_holes.specs.Holes.{first_outside, without}
+use Rattle.pickle_io.specs.declared.hole.Hole.{Hole}
+use Rattle.pickle_io.specs.Holes.{first_outside, without}
 use Rattle.pickle_show.specs.Column.{newline}
 use Rattle.pickle_show.specs.Manner.{Manner, whole}
 use Rattle.pickle_show.specs.declared.stop.TextStop.{TextStop}
@@ -19,8 +19,8 @@ use Rattle.pickle_further.specs.CallsText as further
 use Rattle.pickle_script.specs.FormText.{form_output}
 use Rattle.pickle_script.specs.declared.stop.Stop.{Stop}
 use Rattle.pickle_script.specs.declared.stop.Stop.TheVariants as stop
-use Rattle.pickle_script.specs.declared.texts.Text.{Text}
-use Rattle.pickle_script.specs.declared.texts.Text.TheVariants as text
+use Rattle.pickle_script.specs.declared.texts.written.Text.{Text}
+use Rattle.pickle_script.specs.declared.texts.written.Text.TheVariants as text
 
 -- ---- whole
 

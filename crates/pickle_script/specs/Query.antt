@@ -8,9 +8,9 @@ use Rattle.pickle_show.specs.ObjectText.{objects_text}
 use Rattle.pickle_show.specs.StackText.{stack_text}
 use Rattle.pickle_show.specs.MemoText.{memo_text}
 use Rattle.pickle_show.specs.Show.{show_text}
-use Rattle.pickle_script.specs.declared.line.Query.{Query}
-use Rattle.pickle_script.specs.declared.line.Query.TheVariants as query
-use Rattle.pickle_script.specs.declared.line.Syntax.TheVariants as syntax
+use Rattle.pickle_script.specs.declared.conversation.line.Query.{Query}
+use Rattle.pickle_script.specs.declared.conversation.line.Query.TheVariants as query
+use Rattle.pickle_script.specs.declared.conversation.line.Syntax.TheVariants as syntax
 use Rattle.pickle_script.specs.PlaceText.{items_text, where_text}
 use Rattle.pickle_script.specs.ReplyText.{syntax_line, no_object_line}
 

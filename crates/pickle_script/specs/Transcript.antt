@@ -11,13 +11,13 @@ use Rattle.pickle_session.specs.declared.reply.Reply.{Reply}
 use Rattle.pickle_session.specs.declared.reply.Reply.TheVariants as reply
 use Rattle.pickle_session.specs.Session.{state_at}
 use Rattle.pickle_session.specs.Allowed.{SessionState, Answers, Goes, Stays, IsFree, IsFreeAgain, goes_beyond, is_at_place}
-use Rattle.pickle_script.specs.declared.line.Line.{Line}
-use Rattle.pickle_script.specs.declared.line.Line.TheVariants as line
-use Rattle.pickle_script.specs.declared.line.Query.{Query}
-use Rattle.pickle_script.specs.declared.line.Place.{Place}
-use Rattle.pickle_script.specs.declared.line.Place.TheVariants as place
-use Rattle.pickle_script.specs.declared.line.Action.{Action}
-use Rattle.pickle_script.specs.declared.line.Syntax.{Syntax}
+use Rattle.pickle_script.specs.declared.conversation.line.Line.{Line}
+use Rattle.pickle_script.specs.declared.conversation.line.Line.TheVariants as line
+use Rattle.pickle_script.specs.declared.conversation.line.Query.{Query}
+use Rattle.pickle_script.specs.declared.conversation.line.Place.{Place}
+use Rattle.pickle_script.specs.declared.conversation.line.Place.TheVariants as place
+use Rattle.pickle_script.specs.declared.conversation.line.Action.{Action}
+use Rattle.pickle_script.specs.declared.conversation.line.Syntax.{Syntax}
 use Rattle.pickle_script.specs.Grammar as grammar
 use Rattle.pickle_script.specs.ReplyText.{reply_text, syntax_line, no_item_line}
 use Rattle.pickle_script.specs.Query.{IsQueryText}

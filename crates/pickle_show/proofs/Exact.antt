@@ -27,7 +27,7 @@ use Rattle.pickle_show.specs.declared.event.Before.{Before}
 use Rattle.pickle_show.specs.declared.event.Event.{Event}
 use Rattle.pickle_show.specs.declared.event.Event.TheVariants as event
 use Rattle.pickle_show.specs.Event.{before_of, event_of, made_event, made_as, is_view, top_of, taken_count}
-use Rattle.pickle_holes.specs.Holes.{in_file}
+use Rattle.pickle_io.specs.Holes.{in_file}
 use Rattle.pickle_show.specs.Manner.{Manner}
 use Rattle.pickle_show.specs.CallsLine.{event_line, line_of}
 use Rattle.pickle_show.specs.Calls.{CountedText, naming_at, entry_at}

@@ -31,7 +31,7 @@ use Rattle.pickle_machine.specs.Move.{deep, object_meets, push, last_of, without
 use Rattle.pickle_machine.specs.Run.{after, run}
 use Rattle.pickle_machine.proofs.Single.{single_fresh, run_single}
 use Rattle.pickle_show.specs.declared.event.Before.{Before}
-use Rattle.pickle_holes.specs.Holes.{in_file}
+use Rattle.pickle_io.specs.Holes.{in_file}
 use Rattle.pickle_show.specs.Manner.{Manner}
 use Rattle.pickle_show.specs.declared.naming.Naming.{Naming}
 use Rattle.pickle_show.specs.Naming.{naming_after}

@@ -18,7 +18,7 @@ use Rattle.pickle_machine.proofs.HeapGrowth.{fresh_heap}
 use Rattle.pickle_show.specs.Column.{right_aligned, newline}
 use Rattle.pickle_show.specs.ObjectText.{id_text}
 use Rattle.pickle_show.specs.declared.event.Event.TheVariants as event
-use Rattle.pickle_holes.specs.Holes.{in_file}
+use Rattle.pickle_io.specs.Holes.{in_file}
 use Rattle.pickle_show.specs.Manner.{Manner}
 use Rattle.pickle_show.specs.declared.naming.Naming.{Naming}
 use Rattle.pickle_show.specs.Event.{made_event, is_view}

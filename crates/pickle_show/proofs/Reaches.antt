@@ -34,7 +34,7 @@ use Rattle.pickle_show.proofs.Walks.{one_line}
 use Rattle.pickle_show.specs.Column.{right_aligned, newline}
 use Rattle.pickle_show.specs.declared.event.Event.{Event}
 use Rattle.pickle_show.specs.Event.{before_of, top_of, is_view, made_event, filled_event, event_of}
-use Rattle.pickle_holes.specs.Holes.{in_file}
+use Rattle.pickle_io.specs.Holes.{in_file}
 use Rattle.pickle_show.specs.Manner.{Manner}
 use Rattle.pickle_show.specs.CallsLine.{event_text, event_line, line_of}
 use Rattle.pickle_show.specs.declared.naming.Naming.{Naming}

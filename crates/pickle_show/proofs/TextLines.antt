@@ -24,7 +24,7 @@ use Rattle.pickle_show.specs.declared.end.Ending.{Ending}
 use Rattle.pickle_show.specs.declared.end.Ending.TheVariants as ending
 use Rattle.pickle_show.specs.declared.event.Event.{Event}
 use Rattle.pickle_show.specs.Event.{before_of, event_of}
-use Rattle.pickle_holes.specs.Holes.{in_file}
+use Rattle.pickle_io.specs.Holes.{in_file}
 use Rattle.pickle_show.specs.Manner.{Manner, ending_in}
 use Rattle.pickle_show.specs.declared.naming.Naming.{Naming}
 use Rattle.pickle_show.specs.declared.begins.TheConstants.{CONTAINERS}

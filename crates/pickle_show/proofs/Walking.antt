@@ -46,7 +46,7 @@ use Rattle.pickle_show.specs.declared.event.Event.TheVariants as event
 use Rattle.pickle_show.specs.declared.course.Course.{Course}
 use Rattle.pickle_show.specs.Event.{before_of, event_of, object_is}
 use Rattle.pickle_show.specs.CallsLine.{line_of, imports_of, calls_of, calls_end_text, ending_status, one_if, is_import, is_call}
-use Rattle.pickle_holes.specs.Holes.{in_file}
+use Rattle.pickle_io.specs.Holes.{in_file}
 use Rattle.pickle_show.specs.Manner.{Manner, ending_in}
 use Rattle.pickle_show.specs.declared.naming.Naming.{Naming}
 use Rattle.pickle_show.specs.Naming.{begin, naming_after}

@@ -2,7 +2,7 @@
 
 ghost use Rattle.pickle_io.specs.Text.{◌⧺◌};
 ghost use Rattle.std.specs.Prelude.{◌≡◌, drop};
-ghost use Rattle.pickle_holes.specs.Holes.{in_file};
+ghost use Rattle.pickle_io.specs.Holes.{in_file};
 ghost use Rattle.pickle_names.specs.Value.{whole_text};
 ghost use Rattle.pickle_ops.specs.KindRef.{kind_view, looked};
 ghost use Rattle.pickle_io.specs.Device.{Writes};
@@ -18,8 +18,7 @@ use crate::name::{
 use crate::naming::Naming;
 use crate::number::write_right;
 use crate::words::{write_id, write_with_id, write_with_number, write_with_signed};
-use pickle_holes::Holes;
-use pickle_io::{Failed, Page, write_all};
+use pickle_io::{Failed, Holes, Page, write_all};
 use pickle_machine::Inspect;
 use pickle_names::{Coding, write_text};
 use pickle_ops::{Filling, KindRef, Look, ObjId};

@@ -13,8 +13,7 @@ use crate::course::Course;
 use crate::line::write_kept_line;
 use crate::report::{Closing, status_of, write_closing};
 use crate::stop::TextStop;
-use pickle_holes::Holes;
-use pickle_io::{Failed, Page, write_all, write_decimal};
+use pickle_io::{Failed, Holes, Page, write_all, write_decimal};
 
 /// How the lines of a document end.
 #[derive(Clone, Copy)]

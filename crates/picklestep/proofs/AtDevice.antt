@@ -13,8 +13,8 @@ use Rattle.pickle_show.specs.Manner.{Manner, manner}
 use Rattle.pickle_further.specs.declared.way.Pickles.{Pickles}
 use Rattle.pickle_script.specs.declared.stop.Stop.{Stop}
 use Rattle.pickle_script.specs.declared.stop.Stop.TheVariants as stop
-use Rattle.pickle_script.specs.declared.texts.Text.{Text}
-use Rattle.pickle_script.specs.declared.texts.Text.TheVariants as text
+use Rattle.pickle_script.specs.declared.texts.written.Text.{Text}
+use Rattle.pickle_script.specs.declared.texts.written.Text.TheVariants as text
 use Rattle.pickle_script.specs.FormText.{form_output}
 use Rattle.pickle_script.specs.Output.{AnswersText, AnswersCalls, IsCallsOfFile, StopsText}
 use Rattle.pickle_session.specs.Allowed.{SessionState}

@@ -6,8 +6,8 @@ use Rattle.std.specs.Option.{unwrap_or}
 use Rattle.std.proofs.lemmas.Slice.Eq.{bytes_eq-Decides}
 use Rattle.clap.specs.Words.{App, HasMatchesOf, Row, Text, TriesOne, all_of, fault_of, first_of, is_simple, is_simple_and_free, kind_of, subcommand_of, subcommand_rows_of, takes}
 use Rattle.clap.specs.declared.parser.matches.ArgMatches.{ArgMatches}
-use Rattle.pickle_holes.specs.declared.hole.Hole.{Hole}
-use Rattle.pickle_holes.specs.Text.{holes_of}
+use Rattle.pickle_io.specs.declared.hole.Hole.{Hole}
+use Rattle.pickle_script.specs.GivenHoles.{holes_of}
 use Rattle.clap.specs.declared.error.Error.{Error}
 use Rattle.clap.specs.declared.error.kind.ErrorKind.TheVariants as kind
 use Rattle.picklestep.specs.declared.task.Task.{Task}

@@ -13,9 +13,9 @@ use Rattle.pickle_show.specs.Report.{IsReport}
 use Rattle.pickle_further.specs.CallsText.{IsCallsText}
 use Rattle.pickle_script.specs.declared.stop.Stop.{Stop}
 use Rattle.pickle_script.specs.declared.stop.Stop.TheVariants as stop
-use Rattle.pickle_script.specs.declared.texts.Text.{Text}
+use Rattle.pickle_script.specs.declared.texts.written.Text.{Text}
 use Rattle.pickle_script.specs.Stop.{stop_of_read}
-use Rattle.pickle_script.specs.declared.texts.Text.TheVariants as text
+use Rattle.pickle_script.specs.declared.texts.written.Text.TheVariants as text
 use Rattle.pickle_show.specs.Manner.{manner, whole}
 use Rattle.pickle_script.specs.FormText.{form_output}
 use Rattle.pickle_script.specs.Output.{IsCallsOfFile}

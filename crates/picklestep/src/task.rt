@@ -3,14 +3,15 @@
 ghost use Rattle.std.specs.Prelude.{◌≡◌, ◌≤◌, IsTrue, ℕ, [], Option, Some, None, Ok, IfOk, IfErr, IfSome, map, option_map, true, codes};
 ghost use Rattle.std.specs.String.{string_bytes};
 ghost use Rattle.clap.specs.Words.{found_of, first_of, one_of, rows_of, fault_of, subcommand_of, subcommand_rows_of, takes};
-ghost use Rattle.pickle_holes.specs.Text.{holes_of};
+ghost use Rattle.pickle_script.specs.GivenHoles.{holes_of};
 ghost use Rattle.picklestep.specs.CommandLine.{program, most_records, GivesReading, HasReading, HasInput, HasDetail, HasCallsOptions, skips_of, HasOptions, IsWindow, IsNamed, FitsOptions, NamesTask, IsBounded, IsMemory};
 
 use crate::command_line::{MOST_RECORDS, command_line};
 use clap::error::ErrorKind;
 use clap::{ArgMatches, Error};
 use pickle_further::Pickles;
-use pickle_holes::{Holes, first_unfit};
+use pickle_io::Holes;
+use pickle_script::first_unfit;
 use pickle_show::Detail;
 use std::alloc::{AllocError, Global};
 
@@ -199,8 +200,8 @@ fn holes_of(alloc: Global, found: &ArgMatches<'_>) -> Result<Option<Holes>, Allo
     ensures { IfOk result (λ holes. holes ≡ holes_of (skips_of (rows_of (found_of found.now)))) }
 {
     match found.get_strs("skip") {
-        Some(texts) => pickle_holes::holes_of(alloc, texts),
-        None => pickle_holes::holes_of(alloc, &[]),
+        Some(texts) => pickle_script::holes_of(alloc, texts),
+        None => pickle_script::holes_of(alloc, &[]),
     }
 }
 

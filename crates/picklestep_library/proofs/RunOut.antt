@@ -4,7 +4,7 @@ use Rattle.std.proofs.lemmas.List.{take_all}
 use Rattle.std.specs.Prelude.{◌||◌, eqb, codes}
 use Rattle.std.specs.List.{starts_with}
 use Rattle.pickle_io.specs.Text as texts
-use Rattle.pickle_script.specs.declared.line.Syntax.TheVariants as syntax
+use Rattle.pickle_script.specs.declared.conversation.line.Syntax.TheVariants as syntax
 use Rattle.pickle_script.specs.ReplyText.{syntax_line, syntax_words, syntax_rest}
 use Rattle.picklestep_library.specs.Answer.{has_run_out}
 

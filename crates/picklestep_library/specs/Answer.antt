@@ -4,7 +4,7 @@ use Rattle.std.specs.Prelude.{◌≡◌, ◌≢◌, ◌≤◌, ◌<◌, ◌↔�
 use Rattle.std.specs.List.{starts_with}
 use Rattle.pickle_io.specs.Device.{Told}
 use Rattle.pickle_doc.specs.Document.{size_limit, document_bytes}
-use Rattle.pickle_holes.specs.declared.hole.Hole.{Hole}
+use Rattle.pickle_io.specs.declared.hole.Hole.{Hole}
 use Rattle.pickle_session.specs.Opening.{IsOpenedIn}
 use Rattle.pickle_session.specs.Allowed.{SessionState}
 use Rattle.pickle_show.specs.declared.naming.Detail.{Detail}
@@ -13,8 +13,8 @@ use Rattle.pickle_further.specs.declared.way.Pickles.{Pickles}
 use Rattle.pickle_script.specs.Output.{CompletesText, CompletesFile}
 use Rattle.pickle_script.specs.Conversation.{Finishes}
 use Rattle.pickle_script.specs.ReplyText.{syntax_line}
-use Rattle.pickle_script.specs.declared.line.Syntax.TheVariants as syntax
-use Rattle.pickle_script.specs.declared.texts.Text.{Text}
+use Rattle.pickle_script.specs.declared.conversation.line.Syntax.TheVariants as syntax
+use Rattle.pickle_script.specs.declared.texts.written.Text.{Text}
 use Rattle.picklestep_library.specs.declared.fill.Written.{Written}
 use Rattle.picklestep_library.specs.Asked.{are_modes}
 

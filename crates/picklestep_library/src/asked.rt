@@ -1,12 +1,12 @@
 //! What a caller asks for by options, a bit each, and by the holes that it gives.
 
 ghost use Rattle.std.specs.Prelude.{◌≡◌, ◌≢◌, ◌+◌, [], ◌∷◌, ◌++◌, true, None, OnOk, IfOk};
-ghost use Rattle.pickle_holes.specs.Holes.{end_of};
-ghost use Rattle.pickle_holes.specs.Text.{may_follow};
+ghost use Rattle.pickle_io.specs.Holes.{end_of};
+ghost use Rattle.pickle_io.specs.Holes.{may_follow};
 ghost use Rattle.picklestep_library.specs.Asked.{is_given, is_many, is_loose, are_modes, pickles_by, pickles_of, pickles_of_input, pickles_left, detail_of, hole_of, stand_from, holes_of};
 
 use pickle_further::Pickles;
-use pickle_holes::{Hole, Holes};
+use pickle_io::{Hole, Holes};
 use pickle_show::Detail;
 use std::alloc::{AllocError, Global};
 
@@ -22,9 +22,6 @@ const MEMO_KEPT: u32 = 8;
 const FULL: u32 = 16;
 /// All of these.
 const ALL: u32 = 31;
-
-/// No hole ends behind this offset.
-const MOST: u64 = 1 << 62;
 
 /// Bytes of an input that are left out.
 #[repr(C)]
@@ -109,13 +106,6 @@ pub fn detail_of(options: u32) -> Detail
     }
 }
 
-/// Whether a hole begins at or behind this offset, and there are files that are long enough for it.
-fn may_follow(from: u64, hole: Hole) -> bool
-    ensures { result ≡ may_follow from hole }
-{
-    from <= hole.offset && hole.offset <= MOST && hole.size <= MOST - hole.offset
-}
-
 /// The hole that is given.
 fn hole_of(given: GivenHole) -> Hole
     ensures { result ≡ hole_of given }
@@ -126,14 +116,14 @@ fn hole_of(given: GivenHole) -> Hole
     }
 }
 
-/// Whether each begins at or behind the end of the one before it, and ends at `MOST` at most.
+/// Whether each begins at or behind the end of the one before it, and there are files that are long enough for it.
 fn are_in_order(given: &[GivenHole]) -> bool
     ensures { result ≡ stand_from 0 given.now }
 {
     let mut from = 0;
     for one in given {
         let hole = hole_of(*one);
-        if !may_follow(from, hole) {
+        if !hole.may_follow(from) {
             return false;
         }
         from = hole.offset + hole.size;

@@ -4,7 +4,7 @@ ghost use Rattle.std.specs.Prelude.{◌≡◌, [], false, IfOk};
 ghost use Rattle.pickle_doc.specs.Document.{document_bytes};
 ghost use Rattle.pickle_show.specs.declared.naming.Detail.TheVariants as detail;
 ghost use Rattle.pickle_script.specs.Output.{CompletesText};
-ghost use Rattle.pickle_script.specs.declared.texts.Text.TheVariants as asked_text;
+ghost use Rattle.pickle_script.specs.declared.texts.written.Text.TheVariants as asked_text;
 ghost use Rattle.picklestep_library.specs.Asked.{is_many, is_loose, pickles_of, detail_of};
 ghost use Rattle.picklestep_library.specs.Answer.{took, has_run_out, IsTextAfter, Fills, FillsIn, FillsOf};
 

@@ -16,7 +16,7 @@ mod texts;
 
 ghost use Rattle.pickle_further.specs.declared.way.Pickles.TheVariants as pickles;
 ghost use Rattle.pickle_show.specs.declared.naming.Detail.TheVariants as detail;
-ghost use Rattle.pickle_script.specs.declared.texts.Text.TheVariants as asked_text;
+ghost use Rattle.pickle_script.specs.declared.texts.written.Text.TheVariants as asked_text;
 ghost use Rattle.std.specs.Prelude.{false};
 ghost use Rattle.picklestep_library.specs.Asked.{is_many, is_loose, pickles_of, pickles_left, detail_of, holes_of};
 ghost use Rattle.picklestep_library.specs.Answer.{IsTextOf, IsCallsOf, IsTalkOf, IsTextAfter, Fills, FillsIn, FillsOf};

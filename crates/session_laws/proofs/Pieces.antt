@@ -27,7 +27,7 @@ use Rattle.pickle_show.specs.declared.note.Note.{Note}
 use Rattle.pickle_show.specs.declared.note.Note.TheVariants as note
 use Rattle.pickle_show.specs.Column.{newline, blanks, left_aligned}
 use Rattle.pickle_show.specs.ListingColumn.{code_text}
-use Rattle.pickle_holes.specs.declared.hole.Hole.{Hole}
+use Rattle.pickle_io.specs.declared.hole.Hole.{Hole}
 use Rattle.pickle_script.specs.Output.{hole_text, outside_words, outside_line}
 use Rattle.pickle_show.specs.Line.{offset_column, code_column, mark_text, as_text, note_text, described, named, item_line, refused_line, left_text, kept_words, kept_text, protocol_words, protocol_text}
 use Rattle.pickle_show.specs.ObjectText.{id_text, kind_text, next_text, some_parts, parts_text, set_text, change_text, object_text, object_line}

@@ -8,9 +8,9 @@ use Rattle.pickle_ops.specs.declared.fault.FrontFault.TheVariants as at_front
 use Rattle.pickle_ops.specs.Spelling.{Operation, Whole, IsFront, IsSpelled, alone_fault, or_too_long, FailsAsArg, HasArgFault}
 use Rattle.pickle_ops.specs.Table.{code_of}
 use Rattle.pickle_ops.proofs.Fronts.{found_front}
-use Rattle.pickle_script.specs.declared.line.Line.{Line}
-use Rattle.pickle_script.specs.declared.line.Syntax.{Syntax}
-use Rattle.pickle_script.specs.declared.line.Syntax.TheVariants as syntax
+use Rattle.pickle_script.specs.declared.conversation.line.Line.{Line}
+use Rattle.pickle_script.specs.declared.conversation.line.Syntax.{Syntax}
+use Rattle.pickle_script.specs.declared.conversation.line.Syntax.TheVariants as syntax
 use Rattle.pickle_script.specs.Grammar.{AnswersWords, IsSpelledOp, OpFails, op_in}
 
 -- ---- the fault of an argument

@@ -31,7 +31,7 @@ use Rattle.pickle_show.proofs.Moves.{MarkStep, Stays, IsSet, Goes, move_marks}
 use Rattle.pickle_show.specs.declared.naming.Naming.{Naming}
 use Rattle.pickle_show.specs.Naming.{naming_after}
 use Rattle.pickle_show.specs.Event.{before_of, event_of}
-use Rattle.pickle_holes.specs.Holes.{in_file}
+use Rattle.pickle_io.specs.Holes.{in_file}
 use Rattle.pickle_show.specs.declared.naming.Detail.{Detail}
 use Rattle.pickle_show.specs.Manner.{Manner}
 use Rattle.pickle_show.specs.Calls.{entry_at, entry_on, naming_at, naming_on, counted_text}

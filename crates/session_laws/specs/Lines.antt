@@ -14,7 +14,7 @@ use Rattle.pickle_machine.specs.declared.refusal.Refusal.{Refusal}
 use Rattle.pickle_machine.specs.Move.{refusal_at}
 use Rattle.pickle_machine.specs.Run.{run}
 use Rattle.pickle_machine.specs.State.{State, start}
-use Rattle.pickle_holes.specs.declared.hole.Hole.{Hole}
+use Rattle.pickle_io.specs.declared.hole.Hole.{Hole}
 use Rattle.pickle_script.specs.Script.{IsCut}
 use Rattle.pickle_script.specs.Output.{outside_line}
 use Rattle.pickle_show.specs.declared.note.Note.{Note}

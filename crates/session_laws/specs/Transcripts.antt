@@ -5,7 +5,7 @@ use Rattle.std.specs.List.{AllByRecursion}
 use Rattle.pickle_doc.specs.Document.{AreBytes}
 use Rattle.pickle_session.specs.Allowed.{SessionState}
 use Rattle.pickle_session.specs.Opening.{IsOpenedIn}
-use Rattle.pickle_script.specs.declared.line.Syntax.TheVariants as syntax
+use Rattle.pickle_script.specs.declared.conversation.line.Syntax.TheVariants as syntax
 use Rattle.pickle_script.specs.ReplyText.{syntax_line}
 use Rattle.pickle_script.specs.Transcript.{IsTranscript}
 

@@ -7,14 +7,14 @@ use Rattle.pickle_io.specs.Device.{Told, Wrote, Writes}
 use Rattle.pickle_machine.specs.State.{State}
 use Rattle.pickle_session.specs.Session.{Session}
 use Rattle.pickle_session.specs.Allowed.{SessionState}
-use Rattle.pickle_script.specs.declared.line.Line.{Line}
-use Rattle.pickle_script.specs.declared.line.Query.{Query}
-use Rattle.pickle_script.specs.declared.line.Syntax.{Syntax}
+use Rattle.pickle_script.specs.declared.conversation.line.Line.{Line}
+use Rattle.pickle_script.specs.declared.conversation.line.Query.{Query}
+use Rattle.pickle_script.specs.declared.conversation.line.Syntax.{Syntax}
 use Rattle.pickle_script.specs.Grammar.{longest}
-use Rattle.pickle_script.specs.declared.outcome.Outcome.{Outcome}
-use Rattle.pickle_script.specs.declared.outcome.Outcome.TheVariants as outcome
-use Rattle.pickle_script.specs.declared.outcome.Flow.{Flow}
-use Rattle.pickle_script.specs.declared.outcome.Flow.TheVariants as flow
+use Rattle.pickle_script.specs.declared.conversation.outcome.Outcome.{Outcome}
+use Rattle.pickle_script.specs.declared.conversation.outcome.Outcome.TheVariants as outcome
+use Rattle.pickle_script.specs.declared.conversation.outcome.Flow.{Flow}
+use Rattle.pickle_script.specs.declared.conversation.outcome.Flow.TheVariants as flow
 use Rattle.pickle_script.specs.Query.{IsQueryText}
 use Rattle.pickle_script.specs.Script.{Cut, IsCut, lines_of}
 use Rattle.pickle_script.specs.Transcript.{PrintsBy, PrintsAll, IsTranscript, has_quit, is_refusal, status_of}

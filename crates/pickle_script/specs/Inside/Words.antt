@@ -4,8 +4,8 @@ use Rattle.std.specs.List.{list_all}
 use Rattle.hex.specs.Hex.{is_hex_digit}
 use Rattle.pickle_ops.specs.declared.fault.OpFault.{OpFault}
 use Rattle.pickle_ops.specs.declared.fault.OpFault.TheVariants as fault
-use Rattle.pickle_script.specs.declared.line.Syntax.{Syntax}
-use Rattle.pickle_script.specs.declared.line.Syntax.TheVariants as syntax
+use Rattle.pickle_script.specs.declared.conversation.line.Syntax.{Syntax}
+use Rattle.pickle_script.specs.declared.conversation.line.Syntax.TheVariants as syntax
 
 -- whether a word is hexadecimal digits of both cases, two a byte
 abbrev pub is_hex : List ℕ → Bool

@@ -5,7 +5,7 @@ use Rattle.pickle_doc.specs.Document.{Contents, items_of, ReadsAs, ends_with_sto
 use Rattle.pickle_doc.specs.Place.{ops_of, offset_of}
 use Rattle.pickle_doc.specs.Stream.{HasRead}
 use Rattle.pickle_doc.specs.Unread.{Unread}
-use Rattle.pickle_holes.specs.declared.hole.Hole.{Hole}
+use Rattle.pickle_io.specs.declared.hole.Hole.{Hole}
 use Rattle.pickle_machine.specs.State.{State, start}
 use Rattle.pickle_machine.specs.Run.{run}
 use Rattle.pickle_show.specs.declared.calls.SoFar.{SoFar}

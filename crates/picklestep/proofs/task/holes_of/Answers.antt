@@ -1,8 +1,8 @@
 use Rattle.std.proofs.Common.{◌≡◌, ℕ, List, Option, IfOk, sym, subst, ◌∙◌, codes}
 use Rattle.clap.proofs.WalkLemmas.{raw_values-rows}
 use Rattle.clap.specs.Words.{found_of, rows_of}
-use Rattle.pickle_holes.specs.declared.hole.Hole.{Hole}
-use Rattle.pickle_holes.specs.Text.{holes_of}
+use Rattle.pickle_io.specs.declared.hole.Hole.{Hole}
+use Rattle.pickle_script.specs.GivenHoles.{holes_of}
 use Rattle.picklestep.proofs.Named.{skips_are, no_skips}
 use Rattle.picklestep.proofs.task.holes_of.Goals as goal
 

@@ -1,5 +1,5 @@
 use Rattle.std.proofs.Common.{◌≡◌, true, ◌++◌, drop}
-use Rattle.pickle_holes.specs.Holes.{end_of}
+use Rattle.pickle_io.specs.Holes.{end_of}
 use Rattle.picklestep_library.specs.Asked.{stand_from, holes_of}
 use Rattle.picklestep_library.proofs.asked.holes_of.Given as goal
 

@@ -1,5 +1,0 @@
-pub mod Gets
-pub mod Placed
-pub mod Kept
-pub mod Cutting
-pub mod Added
