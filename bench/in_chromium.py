@@ -14,7 +14,6 @@ import os
 import pickle
 import random
 import sys
-import tempfile
 import threading
 import time
 from pathlib import Path

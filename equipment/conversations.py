@@ -1,7 +1,7 @@
 """Runs the conversations that a page shows, and says of each what is wrong.
 
 A conversation on the page is a block of lines, indented or not, that begins with `pickle` and the bytes of a pickle in
-hexadecimal. After `pickles` they are of several pickles, and every command has the option --many; after `unframed` it has --unframed. Then comes a line of the
+hexadecimal, or with the command that makes `a.pickle` of these (then each command is written as a user types it). After `pickles` they are of several pickles, and every command has the option --many; after `unframed` it has --unframed. Then comes a line of the
 script after `debug> `, then the lines that answer it, and so on. `$ list`, `$ objects`, `$ calls` (with options: `$ calls --first`) or `$ form` comes
 before what that command writes. A last line `saved` has the bytes that the pickle is saved as. The block ends at an empty line, or at the end of the page.
 
@@ -26,6 +26,9 @@ Done = subprocess.CompletedProcess[bytes]
 WINDOWS: list[list[str]] = [[], ["--window", "1"], ["--window", "2"]]
 # the first line of a block; its first word, and the options that it gives to every command
 START = re.compile(r" *(pickles?|unframed)((?: [0-9a-f]+)*)")
+# the same as a user types it, and the commands after it
+TYPED = re.compile(r" *(\$) echo '([0-9a-f ]+)' \| xxd -r -p >a\.pickle")
+WORD = re.compile(r"\$ (?:picklestep (\w+) a\.pickle(?: --save b\.pickle)?((?: [\w-]+)*)|xxd -p b\.pickle|(.*))")
 OPTIONS: dict[str, list[str]] = {"pickle": [], "pickles": ["--many"], "unframed": ["--unframed"]}
 # the lines with which a command has status 1
 REFUSED = ("refused: ", "fault: ")
@@ -43,20 +46,31 @@ class Block:
     answers: list[str] = field(default_factory=list)
     written: dict[str, list[str]] = field(default_factory=dict)
     saved: bytes | None = None
+    dump: list[str] = field(default_factory=list)  # (stays empty: what comes after `xxd -p b.pickle` is `saved`)
 
     def __post_init__(self) -> None:
         self.output = self.answers
 
     def take(self, line: str) -> None:
+        word = WORD.fullmatch(line)
         if line.startswith("debug> "):
             self.script.append(line[len("debug> "):])
             self.output = self.answers
-        elif line.startswith("$ "):
-            self.output = self.written.setdefault(line[2:], [])
-        elif line.startswith("saved "):
-            self.saved = bytes.fromhex(line[len("saved "):])
+        elif word is not None:
+            self.output = self.output_of(word)
+        elif line.startswith("saved ") or self.output is self.dump:
+            self.saved = bytes.fromhex(line.removeprefix("saved "))
         else:
             self.output.append(line)
+
+    def output_of(self, word: re.Match[str]) -> list[str]:
+        """Where the lines go that come after a command."""
+        typed, options, short = word.groups()
+        if short is None and typed is None:
+            return self.dump
+        if typed == "debug":
+            return self.answers
+        return self.written.setdefault(short or typed + options, [])
 
 
 @dataclass
@@ -87,10 +101,10 @@ def blocks_of(page: str) -> Iterator[Block]:
     margin = 0
     above = Above()
     for line in [*page.splitlines(), ""]:
-        start = START.fullmatch(line)
+        start = START.fullmatch(line) or (TYPED.fullmatch(line) if block is None else None)
         if start is not None:
             margin = start.start(1)
-            block = Block(above.name(), OPTIONS[start[1]], bytes.fromhex(start[2]))
+            block = Block(above.name(), OPTIONS.get(start[1], []), bytes.fromhex(start[2]))
         elif block is None:
             above.take(line)
         elif line.strip():
@@ -100,14 +114,14 @@ def blocks_of(page: str) -> Iterator[Block]:
             block = None
 
 
-def runs_of(block: Block) -> Iterator[tuple[list[str], bytes]]:
-    """What is run of a conversation: words without those of the files, and the script. Its pickle is also asked as one of several."""
+def runs_of(block: Block) -> Iterator[tuple[list[str], bytes, list[str]]]:
+    """What is run of a conversation: words without those of the files, the script, and what is answered. Its pickle is also asked as one of several."""
     for mode in [block.options] if block.options else [[], ["--many"]]:
-        for command in block.written:
-            yield [*command.split(), *([] if "--" in command else mode)], b""
+        for command, answer in block.written.items():
+            yield [*command.split(), *([] if "--" in command else mode)], b"", answer
         if block.script or block.saved is not None:
             script = "".join(line + "\n" for line in block.script).encode()
-            yield from ((["debug", *mode, *options], script) for options in WINDOWS)
+            yield from ((["debug", *mode, *options], script, block.answers) for options in WINDOWS)
 
 
 def run(program: str, words: list[str], script: bytes) -> tuple[Done, str]:

@@ -1,6 +1,6 @@
 """Counts what each real pickle imports and calls, by Python's pickletools, and compares it with what the program counts.
 
-The stored listing says how many opcodes of a pickle are accepted. Of these the imports and calls are counted on a stack that knows of an
+Its listing (python_listing.py) says how many opcodes of a pickle are accepted. Of these the imports and calls are counted on a stack that knows of an
 object only whether it is opaque: whether it came from elsewhere or from a call. What an opcode takes and leaves there is `stack_before`
 and `stack_after` of `pickletools`.
 """
@@ -15,7 +15,8 @@ import subprocess
 from dataclasses import dataclass, field
 from typing import Dict, List, Tuple
 
-from real_pickles.answers import Read, genops, without_interpretation
+from python_listing import Read, expected, genops
+from real_pickles.answers import without_interpretation
 from trials.trial import Trial
 
 IMPORTS = {"GLOBAL", "STACK_GLOBAL", "INST", "EXT1", "EXT2", "EXT4"}
@@ -103,12 +104,12 @@ class Counts:
     """What was counted of all pickles."""
 
     program: str
-    listings: pathlib.Path
+    kept: pathlib.Path
     imports: int = 0
     calls: int = 0
 
     def fault(self, pickle: pathlib.Path) -> str:
-        listing = (self.listings / f"{pickle.stem}.txt").read_text()
+        listing = expected(pickle, self.kept).decode()
         imports, calls = counts(pickle.read_bytes(), listing)
         self.imports, self.calls = self.imports + imports, self.calls + calls
         return fault_of(self.program, pickle, listing, imports, calls)

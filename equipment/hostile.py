@@ -1,7 +1,7 @@
 """Gives the program and the library inputs that are cut short, deep or long, with a stack of 256 KiB.
 
-Each real pickle is cut at each of its first 2,000 bytes and listed, and at some of them with --unframed. What a listing of a cut
-says follows from the listing of the whole: the opcodes that are whole in it, and the fault of what is left, by the sizes that pickletools gives.
+The library, which answers in this process, lists each real pickle cut at each of its first 2,000 bytes, and at some of them with --unframed. The
+program, of which each answer is a process, lists one cut in ten. What a listing of a cut says follows from the listing of the whole: the opcodes that are whole in it, and the fault of what is left, by the sizes that pickletools gives.
 """
 
 from __future__ import annotations
@@ -22,6 +22,7 @@ from trials.trial import Trial
 
 MOST = 2000
 UNFRAMED_STEP = 7
+STEP_OF_PROGRAM = 10
 STACK = 256 * 1024
 OPCODES = {opcode.name: opcode for opcode in pickletools.opcodes}
 ITEM = re.compile(r" *(\d+): \S+ +(\S+)(?: +(\d+))?")
@@ -97,25 +98,29 @@ class Listing:
         return ["F1 ended" if cut == start else "F3 truncated"]
 
 
-def try_pickle(program: str, folder: pathlib.Path, path: pathlib.Path) -> tuple[int, str]:
+def try_pickle(program: str, folder: pathlib.Path, path: pathlib.Path, number: int) -> tuple[int, str]:
+    """How many cuts of a pickle were listed, and what was wrong. The pickle's number says where the first of them is."""
     pickled = path.read_bytes()
     cut = folder / f"{os.getpid()}.pickle"
+    count = 0
     for options, step in ([], 1), (["--unframed"], UNFRAMED_STEP):
         text, _ = answer(program, ["list", *options, str(path)])
         listing = Listing(text, len(pickled), bool(options))
-        for size in range(0, min(len(pickled), MOST), step):
+        step *= 1 if is_library(program) else STEP_OF_PROGRAM
+        for size in range(number % step, min(len(pickled), MOST), step):
+            count += 1
             cut.write_bytes(pickled[:size])
             found = answer(program, ["list", *options, str(cut)])
             if found not in listing.of_cut(size):
-                return size, f"{path.name} cut at {size}, {options}: {found!r} and not {listing.of_cut(size)!r}"[:600]
-    return min(len(pickled), MOST), ""
+                return count, f"{path.name} cut at {size}, {options}: {found!r} and not {listing.of_cut(size)!r}"[:600]
+    return count, ""
 
 
 def try_pickles(program: str, folder: pathlib.Path, pickles: pathlib.Path) -> tuple[int, str]:
     paths = sorted(pickles.glob("*.pickle"), key=lambda path: -path.stat().st_size)
     count = 0
     with concurrent.futures.ProcessPoolExecutor(os.cpu_count()) as pool:
-        for tried, why in pool.map(try_pickle, [program] * len(paths), [folder] * len(paths), paths):
+        for tried, why in pool.map(try_pickle, [program] * len(paths), [folder] * len(paths), paths, range(len(paths))):
             count += tried
             if why:
                 return count, why
@@ -275,7 +280,8 @@ class Hostile:
 
 def trials_of(hostile: Hostile, program: str, by: str) -> list[Trial]:
     rows = [Trial(f"{name}{by}", functools.partial(hostile.row_fault, program, row, count)) for name, row, count in ROWS]
-    return [*rows, Trial(f"the real pickles, cut at each byte{by}", functools.partial(hostile.cuts_fault, program))]
+    cuts = "cut at each byte" if is_library(program) else "cut at one byte in ten"
+    return [*rows, Trial(f"the real pickles, {cuts}{by}", functools.partial(hostile.cuts_fault, program))]
 
 
 def trials(hostile: Hostile) -> list[Trial]:

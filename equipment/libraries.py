@@ -1,4 +1,7 @@
-"""Tries the library in each of its forms: each answer is, byte for byte, what the program prints. The examples of docs/LIBRARY.md run."""
+"""Tries the library in each of its forms: each answer is, byte for byte, what the program prints. The examples of docs/LIBRARY.md run.
+
+One form gets all rows and real pickles: the shared library for x86-64, which the package asks. The others get a sample (sample.py).
+"""
 
 from __future__ import annotations
 
@@ -12,7 +15,8 @@ from dataclasses import dataclass, replace
 from pathlib import Path
 from typing import Callable
 
-from machines import KINDS, Answer, Asked, Machines, large
+from machines import Answer, Asked, Machines, large
+from sample import rows, sample_of
 from trials.room import beginning
 from trials.trial import Lack, Noted, Trial
 
@@ -101,25 +105,26 @@ class Libraries(Machines):
             yield Answer(2, b"", OF_STOPS[answer]) if answer else Answer(status, (folder / str(number)).read_bytes(), b"")
 
     @functools.cached_property
-    def conversations(self) -> list[Asked]:
-        """The rows of conversations.txt that the library has a function for."""
-        return [replace(asked, saves=False) for asked in self.rows() if asked.words in TASKS]
+    def rows(self) -> list[Asked]:
+        """The rows that the library has a function for."""
+        return [replace(asked, saves=False) for asked in self.asked_of(row for row in rows() if row.words in TASKS)]
 
     @functools.cached_property
-    def few(self) -> list[Asked]:
-        """Some of all, with each task among them."""
-        return [*self.real[:: 4 * len(self.tasks) + 1], *self.conversations[::40]]
+    def sample(self) -> list[Asked]:
+        """A sample of these rows, and a few of the real pickles, which are larger."""
+        chosen = self.asked_of(sample_of(row for row in rows() if row.words in TASKS))
+        return [*(replace(asked, saves=False) for asked in chosen), *self.some]
 
-    @functools.cached_property
-    def edited(self) -> tuple[list[Asked], list[Asked]]:
-        """What is asked of the files that the program saves after a script, and the same of what the script leaves."""
+    def edited(self, every: int) -> tuple[list[Asked], list[Asked]]:
+        """What is asked of the files that the program saves after a script, and the same of what the script leaves: of each real pickle, or of one in so
+        many."""
         folder = self.folder / "saved"
         folder.mkdir(parents=True, exist_ok=True)
         saved: list[Asked] = []
         runs: list[Asked] = []
-        for file in sorted(self.pickles.glob("*.pickle")):
+        for file in sorted(self.pickles.glob("*.pickle"))[::every]:
             for modes in ((), ("--many",), ("--unframed",)):
-                out = folder / f"{len(saved)}.pickle"
+                out = folder / f"{len(saved)}_of_{every}.pickle"
                 subprocess.run([self.program, "debug", file, *modes, "--save", out], input=EDITS, capture_output=True, timeout=300, check=False)
                 calls = [task for task in TASKS if task[0] == "calls" and not modes and "--skip" not in task]
                 words = [("list", *modes), ("objects", *modes), *calls]
@@ -225,7 +230,7 @@ def compared(libraries: Libraries, way: str, kind: str) -> Noted:
 
 def of_edits(libraries: Libraries, way: str) -> Noted:
     """The texts of what a script leaves are those of the bytes that the program saves after it."""
-    saved, runs = libraries.edited
+    saved, runs = libraries.edited(1 if way == WHOLE else 10)
     return libraries.compare_answers(saved, libraries.asked(getattr(libraries, way)(), runs))
 
 
@@ -243,7 +248,7 @@ def limits(libraries: Libraries, way: str) -> str:
     tasks are asked in one way, and some in the others."""
     command = getattr(libraries, way)()
     tasks = [words for words in TASKS if words[0] not in ("debug", "form") and "--skip" not in words]
-    runs = [Asked(words, large(libraries, LARGE).file) for words in (tasks if way == "static" else tasks[::3])]
+    runs = [Asked(words, large(libraries, LARGE).file) for words in (tasks if way == WHOLE else tasks[::3])]
     for limit in LIMITS:
         for run, found in zip(runs, libraries.asked(command, runs, limit), strict=True):
             if found != Answer(2, b"", OF_STOPS[1]):
@@ -305,22 +310,23 @@ def build_nothing(libraries: Libraries, source: Path, made: Path) -> None:
     """A script is not compiled."""
 
 
+WHOLE = "shared"
 WAYS = {
-    "static": "x86-64, static",
     "shared": "x86-64, shared",
+    "static": "x86-64, static",
     "musl": "x86-64, static, with musl",
+    "musl_shared": "x86-64, shared, with musl",
     "arm": "ARM, under an emulator",
+    "arm_shared": "ARM, shared, under an emulator",
     "module": "the module in Node",
 }
-# (one process answers all that is asked in such a way: a few show that it is loaded and finds what it needs of the C library)
-MORE_WAYS = {"musl_shared": "x86-64, shared, with musl", "arm_shared": "ARM, shared, under an emulator"}
 ROWS: list[tuple[str, Callable[[Libraries], "str | Noted"]]] = [
     ("the library: its functions", functions_of),
     ("the library: the header in C++", in_cxx),
-    *((f"the library, {name}: {text}", functools.partial(compared, way=way, kind=kind)) for kind, text in KINDS.items() for way, name in WAYS.items()),
-    *((f"the library, {name}: a few of all", functools.partial(compared, way=way, kind="few")) for way, name in MORE_WAYS.items()),
-    *((f"the library, {WAYS[way]}: what edits leave", functools.partial(of_edits, way=way)) for way in ("static", "module")),
-    *((f"the library, {WAYS[way]}: options of no task", functools.partial(no_tasks, way=way)) for way in ("static", "module")),
+    *((f"the library, {WAYS[WHOLE]}: all {text}", functools.partial(compared, way=WHOLE, kind=kind)) for kind, text in (("real", "real pickles"), ("rows", "rows"))),
+    *((f"the library, {name}: the sample", functools.partial(compared, way=way, kind="sample")) for way, name in WAYS.items() if way != WHOLE),
+    *((f"the library, {WAYS[way]}: what edits leave", functools.partial(of_edits, way=way)) for way in (WHOLE, "module")),
+    *((f"the library, {WAYS[way]}: options of no task", functools.partial(no_tasks, way=way)) for way in (WHOLE, "module")),
     ("the library: random pickles and scripts", fuzzed),
     *((f"the library, {WAYS[way]}: out of memory is an answer", functools.partial(limits, way=way)) for way in ("static", "shared", "musl", "arm")),
     ("the library: too large is an answer", too_large),

@@ -272,3 +272,52 @@ def rows(seed: int, count: int) -> Iterator[bytes]:
                 pickle = b"\x95" + struct.pack("<Q", len(pickle) + len(rest)) + pickle + rest
             pickles.append(pickle)
         yield b"".join(pickles)
+
+
+# What files show ahead at once: a member of a zip file, a buffered file, and what the unpickler in C asks for; and sizes around these.
+SHOWN = [100, 400, 505, 511, 520, 4090, 8180, 8190, 8200, 20000, 66000, 131060, 131072, 140000]
+
+
+def _padding(chance: random.Random) -> bytes:
+    """Opcodes of many bytes that leave the stack as it is."""
+    size = chance.choice(SHOWN if chance.random() < 0.5 else [200, 500, 1000, 9000]) + chance.randrange(12)
+    four, eight = struct.pack("<I", size), struct.pack("<Q", size)
+    return chance.choice([
+        b"B" + four + bytes(size), b"X" + four + b"N" * size, b"\x8e" + eight + (b"cos\nx\n" * size)[:size], b"N0" * (size // 2) + b"N",
+        b"V" + b"a" * size + b"\n", b"\x96" + eight + b"(" * size, b"T" + four + b"y" * size,
+    ]) + b"0"
+
+
+def wide(seed: int, count: int) -> Iterator[bytes]:
+    """Pickles that are larger than what files show ahead."""
+    chance = random.Random(f"wide {seed}")
+    for _ in range(count):
+        odd = chance.choice([0, 0, 0.05, 0.15, 0.4])
+        maker = Maker(chance, odd)
+        maker.pickle(chance.choice([8, 16, 30]), False)
+        for _ in range(chance.choice([1, 2, 4])):
+            maker.opcodes.insert(chance.randrange(len(maker.opcodes)), _padding(chance))
+        yield b"".join(framed(chance, maker.opcodes, odd) if chance.random() < 0.7 else maker.opcodes)
+
+
+def _crossed(chance: random.Random) -> bytes:
+    """A frame that is crossed. To go on, a loader takes the first kind as from bytes and the second as a buffer; the third is no frame."""
+    how = chance.randrange(3)
+    if how == 0:
+        return b"\x95" + struct.pack("<Q", 3) + b"NX\x01\0\0\0a00"
+    if how == 1:
+        body = b"N0" * chance.choice([5, 300, 300, 5000, 70000]) + b"X\xff\xff\xff"
+        return b"\x95" + struct.pack("<Q", len(body)) + body + b"\x01\0\0\0a0"
+    return b"c" + chance.choice(MODULES) + b"\n" + chance.choice(MEMBERS) + b"\n" + chance.choice([b"0", b")R0", b"q\x00Na0"])
+
+
+def mixed(seed: int, count: int) -> Iterator[bytes]:
+    """Pickles whose frames are crossed on purpose, with acts between."""
+    chance = random.Random(f"mixed {seed}")
+    for _ in range(count):
+        parts = []
+        for _ in range(chance.choice([1, 2, 3, 4])):
+            parts.append(_crossed(chance))
+            if chance.random() < 0.2:
+                parts.append(b"B" + struct.pack("<I", 500) + bytes(500) + b"0")
+        yield b"".join(parts) + b"clast\nact\n)R."

@@ -1,18 +1,18 @@
 #!/usr/bin/env python3
 """Gives pickles to real unpicklers, one load after another, and writes down what they do. Nothing that a pickle names is imported.
 
-    load_worker.py CASES OUT [--one] [--bytes]
+    load_worker.py CASES OUT [--one] [--bytes] [--all]
 
 CASES has pickles, each behind its length (4 bytes). Each line of OUT is JSON: for each unpickler its name and its acts, each as what is
 done, to which thing (by the number of the act that brought it), and with what. With --one the same unpickler loads again and again, with
---bytes what STRING, BINSTRING and SHORT_BINSTRING make is bytes.
+--bytes what STRING, BINSTRING and SHORT_BINSTRING make is bytes, with --all there are all readers and not four of them. It runs in each Python
+from 3.8 on.
 """
 
 from __future__ import annotations
 
 import _compat_pickle
 import copyreg
-import io
 import json
 import pickle
 import resource
@@ -21,8 +21,12 @@ import sys
 from collections.abc import Callable, Iterator
 from typing import Any, Optional
 
+import load_readers
+import whole_loads
+
 MOST_ACTS = 3000
 MOST_MEMORY = 3 << 30
+MOST_IN_PIECES = 5000
 EXTENSIONS = (-1, 0, 1, 2, 256, 0x7FFFFFFF)
 
 acts: list[list[Any]] = []
@@ -147,41 +151,42 @@ class FromPython(pickle._Unpickler):
     find_class, persistent_load = brought, persistent
 
 
-class Peeking(io.BytesIO):
-    """A file that shows all that is left of it, as `pickle.loads` has it."""
-
-    def peek(self, count: int) -> bytes:
-        return self.getvalue()[self.tell():]
-
-
-LOADERS: dict[str, tuple[Any, Callable[[bytes], Any]]] = {
-    "C from bytes": (FromC, Peeking),
-    "C from BytesIO": (FromC, io.BytesIO),
-    "C from a buffered file": (FromC, lambda data: io.BufferedReader(io.BytesIO(data))),
-    "Python": (FromPython, io.BytesIO),
-}
-
-
-def has_more(file: Any) -> bool:
-    return bool(file.peek(1)[:1]) if hasattr(file, "peek") else file.tell() < len(file.getvalue())
-
-
 def load_all(name: str, data: bytes, is_one: bool, encoding: str) -> list[list[Any]]:
-    """What an unpickler does with all pickles of some bytes."""
-    kind, opened = LOADERS[name]
+    """What an unpickler does with all pickles of some bytes; `pickle.loads` only with the first."""
     acts.clear()
     copyreg._extension_cache.clear()  # type: ignore[attr-defined]
-    file = opened(data)
     try:
-        unpickler = kind(file, buffers=buffers(), encoding=encoding)
-        unpickler.load()
-        while is_one or has_more(file):  # (one unpickler may still hold bytes where its file has no more)
-            if not is_one:
-                unpickler = kind(file, buffers=buffers(), encoding=encoding)
-            unpickler.load()
+        if name == load_readers.LOADS:
+            whole_loads.loads(data, lambda module, member: brought(None, module, member), buffers(), encoding)
+        else:
+            _load_file(name, data, is_one, encoding)
     except (Exception, TooMany):
         pass  # (it ends there)
     return list(acts)
+
+
+def kind_of(name: str) -> Any:
+    """The unpickler that a reader is for."""
+    return FromPython if name.startswith("Python") else FromC
+
+
+def _load_file(name: str, data: bytes, is_one: bool, encoding: str) -> None:
+    kind = kind_of(name)
+    with load_readers.READERS[name](data) as file:
+        unpickler = kind(file, buffers=buffers(), encoding=encoding)
+        unpickler.load()
+        while is_one or load_readers.has_more(file, len(data)):  # (one unpickler may still hold bytes where its file has no more)
+            if not is_one:
+                unpickler = kind(file, buffers=buffers(), encoding=encoding)
+            unpickler.load()
+
+
+def readers_for(length: int, is_one: bool, is_all: bool) -> list[str]:
+    """The readers of a case. Where all are asked for, `pickle.loads` loads once, and few bytes come in pieces."""
+    if not is_all:
+        return list(load_readers.FEW)
+    names = [name for name in load_readers.ALL if "short reads" not in name or length <= MOST_IN_PIECES]
+    return names if is_one else [load_readers.LOADS, *names]
 
 
 def cases_of(path: str) -> Iterator[bytes]:
@@ -194,10 +199,13 @@ def main() -> None:
     resource.setrlimit(resource.RLIMIT_AS, (MOST_MEMORY, MOST_MEMORY))
     for code in EXTENSIONS:
         copyreg._inverted_registry[code] = ("extension", str(code))  # type: ignore[attr-defined]
-    is_one, encoding = "--one" in sys.argv, "bytes" if "--bytes" in sys.argv else "ASCII"
+    is_one, encoding, is_all = "--one" in sys.argv, "bytes" if "--bytes" in sys.argv else "ASCII", "--all" in sys.argv
+    if is_all:
+        whole_loads.listen()
     with open(sys.argv[2], "w") as out:
         for data in cases_of(sys.argv[1]):
-            print(json.dumps([[name, load_all(name, data, is_one, encoding)] for name in LOADERS]), file=out)
+            names = readers_for(len(data), is_one, is_all)
+            print(json.dumps([[name, load_all(name, data, is_one, encoding)] for name in names]), file=out)
 
 
 if __name__ == "__main__":

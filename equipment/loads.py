@@ -39,6 +39,7 @@ FILLS = ("append", "set", "add")
 ODDITY = re.compile(r"(stopped|[FSU][0-9]+) +(.*?) {2,}([0-9a-f*]+(?: [0-9a-f*]+)*)")
 BUFFERED = "a loader that buffers frames may go on"
 HELD = "a loader that keeps its buffer may go on"
+LOST = re.compile(r"^unsure: U2 rest of a frame is lost at ([0-9]+)$", re.MULTILINE)
 
 
 @dataclass
@@ -64,7 +65,8 @@ class Reader:
 
     def up_to(self, end: float) -> "Reader":
         """What was brought by objects of lower numbers than this."""
-        return Reader({number: line for number, line in self.brought.items() if number < end}, dict(self.extensions))
+        extensions = {code: line for code, line in self.extensions.items() if (line.reach.number or 0) < end}
+        return Reader({number: line for number, line in self.brought.items() if number < end}, extensions)
 
     def lines(self, reaches: Iterable[Reach]) -> list[Line]:
         return [line for reach in reaches for line in self._lines(reach)]
@@ -106,20 +108,20 @@ def _count(reach: Reach) -> Optional[int]:
     return len(reach.value.items) + reach.value.more if isinstance(reach.value, Briefs) else None
 
 
-def _is_text(part: object, text: str) -> bool:
+def is_text(part: object, text: str) -> bool:
     return isinstance(part, Ref) or part == text.encode("utf-8", "surrogatepass")
 
 
-def _is_import(reach: Reach, module: str, name: str, imported: Optional[Sequence[str]]) -> bool:
+def is_import(reach: Reach, module: str, name: str, imported: Optional[Sequence[str]]) -> bool:
     """Whether a line is of this import: what stands in the pickle, and what Python 3 imports for it."""
     if isinstance(reach.name, Extension):
         return (module, name) == ("extension", str(reach.name.code))
     said = reach.said or reach.name
     if not isinstance(said, Global) or not isinstance(reach.name, Global):
         return False
-    if imported is not None and not (_is_text(reach.name.module, imported[0]) and _is_text(reach.name.name, imported[1])):
+    if imported is not None and not (is_text(reach.name.module, imported[0]) and is_text(reach.name.name, imported[1])):
         return False
-    return _is_text(said.module, module) and _is_text(said.name, name)
+    return is_text(said.module, module) and is_text(said.name, name)
 
 
 class Match:
@@ -157,7 +159,7 @@ class Match:
         if ("call" if what == "new" else what) != line.what:
             return False
         if what == "import":
-            return _is_import(line.reach, *rest)
+            return is_import(line.reach, *rest)
         if what in ("persistent", "buffer"):
             return True
         brought = self.pairs[target]
@@ -177,8 +179,8 @@ class Match:
         return brought.what == "import" and line.reach.name == brought.reach.name
 
 
-def without_line(text: str, acts: Sequence[Sequence[Any]]) -> str:
-    """What of an unpickler's acts has no line; an empty text where all have one."""
+def matched(text: str, acts: Sequence[Sequence[Any]]) -> tuple[str, list[Line]]:
+    """What of an unpickler's acts has no line, or an empty text where all have one; and the line of each act as far as there are some."""
     answer = Calls(text)
     reader = Reader()
     strict = reader.lines(answer)
@@ -187,14 +189,24 @@ def without_line(text: str, acts: Sequence[Sequence[Any]]) -> str:
     behind = reader.lines(reach for heading, part in parts.items() if heading not in (BUFFERED, HELD) for reach in part)
     match = Match(acts)
     if match.go_on([*strict, *behind]):
-        return ""
+        return "", match.pairs
     pairs = match.pairs
     # (Behind a loss the numbers of a part are its own.)
-    lost = [reach.number for reach in answer if reach.number is not None and answer.end.offset is not None and reach.offset >= answer.end.offset]
-    readers = (reader, before, before.up_to(min(lost, default=math.inf)))
+    places = [answer.end.offset, *map(int, LOST.findall(text))]
+    readers = (reader, before, *(before.up_to(_first_number(answer, place)) for place in places if place is not None))
     if any(heading in parts and _is_buffered(parts[heading], readers, match, pairs) for heading in (BUFFERED, HELD)):
-        return ""
-    return f"{acts[len(pairs)]} has no line"
+        return "", match.pairs
+    return f"{acts[len(pairs)]} has no line", pairs
+
+
+def _first_number(answer: Calls, place: int) -> float:
+    """The lowest number of an object that was brought from some offset on."""
+    return min((reach.number for reach in answer if reach.number is not None and reach.offset >= place), default=math.inf)
+
+
+def without_line(text: str, acts: Sequence[Sequence[Any]]) -> str:
+    """What of an unpickler's acts has no line; an empty text where all have one."""
+    return matched(text, acts)[0]
 
 
 def _is_buffered(part: Iterable[Reach], readers: Iterable[Reader], match: Match, pairs: Sequence[Line]) -> bool:
@@ -226,11 +238,11 @@ class Loads:
             return ""
         return done.stdout.decode("ascii")
 
-    def done(self, name: str, cases: Sequence[bytes], options: Sequence[str]) -> Iterator[list[tuple[str, list[Any]]]]:
-        """What the unpicklers do with each case."""
+    def done(self, name: str, cases: Sequence[bytes], options: Sequence[str], python: str = sys.executable) -> Iterator[list[tuple[str, list[Any]]]]:
+        """What the unpicklers of a Python do with each case. The options are those of load_worker.py."""
         given, out = self.folder / f"{name}.cases", self.folder / f"{name}.acts"
         given.write_bytes(b"".join(struct.pack("<I", len(case)) + case for case in cases))
-        words = [sys.executable, "-W", "ignore", "-B", str(ROOT / "equipment" / "load_worker.py"), str(given), str(out)]
+        words = [python, "-X", "utf8", "-W", "ignore", "-B", str(ROOT / "equipment" / "load_worker.py"), str(given), str(out)]
         subprocess.run([*words, *options], check=True, timeout=600)
         with out.open() as lines:
             for line in lines:
@@ -253,7 +265,7 @@ class Loads:
         return Noted(f"{len(found)} differences, first {shown}" if found else "", f": {len(cases)} cases, {count} acts")
 
     def closing(self) -> str:
-        return f"{self.acts} acts of four unpicklers with {self.cases} cases, seed {SEED}"
+        return f"{self.acts} acts of unpicklers with {self.cases} cases, seed {SEED}"
 
 
 @dataclass(frozen=True)
@@ -299,7 +311,7 @@ def trials(loads: Loads, pickles: pathlib.Path) -> list[Trial]:
     for number in range(2):
         made.append(Trial(f"rows {number} of seed {SEED} in loaders", functools.partial(_tried, loads, "rows", number, real)))
     made.append(Trial(f"rows of seed {SEED} in loaders that keep their memo", functools.partial(_tried, loads, "kept", 0, real)))
-    return [*made, Trial("names of Python 2", _old_names)]
+    return [*made, Trial("names of Python 2", old_names)]
 
 
 def _tried(loads: Loads, kind: str, number: int, real: Sequence[bytes], base: int = SEED) -> Noted:
@@ -309,8 +321,9 @@ def _tried(loads: Loads, kind: str, number: int, real: Sequence[bytes], base: in
     return loads.fault(f"{kind}{number}", list(load_cases.rows(seed, EACH)), ["--one"] if kind == "kept" else [])
 
 
-def _old_names() -> Noted:
-    words = [sys.executable, "-B", str(ROOT / "equipment" / "old_names.py")]
+def old_names(python: str = sys.executable) -> Noted:
+    """Whether the names of Python 2 are those that a Python has."""
+    words = [python, "-B", str(ROOT / "equipment" / "old_names.py")]
     done = subprocess.run(words, capture_output=True, text=True, check=False)
     said = (done.stdout or done.stderr).strip()
     return Noted("" if done.returncode == 0 else said or "it says nothing", f": {said}" if done.returncode == 0 else "")

@@ -1,50 +1,39 @@
-"""Tries the released programs: each gives, byte for byte, what the program gives that the proofs built."""
+"""Tries the released programs: of the sample (sample.py) each gives, byte for byte, what the program gives that the proofs built.
+
+The static program for x86-64 gets all that the other groups try. All released programs are compiled of the same build as it.
+"""
 
 from __future__ import annotations
 
 import filecmp
 import functools
+import hashlib
 import json
 import os
-import random
 import shutil
 import subprocess
 import sys
 import threading
-from collections import Counter
 from collections.abc import Iterable, Iterator, Sequence
 from concurrent.futures import ThreadPoolExecutor
 from dataclasses import dataclass, field
 from pathlib import Path
+from random import Random
 from typing import Callable, NamedTuple
 
 import c_files
+import fuzz
 import saves
-from conversations import blocks_of, runs_of
 from roots import Root, like_alpine, put
+from sample import RowRun, fault_of_sample, rows, sample_of
 from trials.room import beginning, text_difference
 from trials.samples import HOSTILE
 from trials.trial import Lack, Noted, Trial
 
 STATIC, ARM, MODULE, SCRIPTED = "linux-x86_64-static/picklestep", "linux-aarch64/picklestep", "picklestep.wasm", "picklestep.mjs"
 BUILT = "linux-x86_64/picklestep"
-PAGE = Path(__file__).with_name("conversations.txt")
-LINES_OF_A_WORD = 4
-
-
-def each_word() -> bytes:
-    """The first lines of each word of the debugger among the conversations, in their order, and `quit`. Some are refused."""
-    chosen: list[str] = []
-    counts: Counter[str] = Counter()
-    for line in [line for block in blocks_of(PAGE.read_text("utf-8")) for line in block.script]:
-        word = line.split()[0]
-        counts[word] += 1
-        if counts[word] <= LINES_OF_A_WORD and word != "quit":
-            chosen.append(line)
-    return "".join(line + "\n" for line in [*chosen, "quit"]).encode()
-
-
-SCRIPT = each_word()
+# What is asked of a real pickle in a conversation. (`nonsense` is refused.)
+SCRIPT = b"run\nstack\nmemo\nobjects\nback\nwhere\nnonsense\ninsert 0 NONE\nitems\nundo\nquit\n"
 TASKS = (
     ("list",),
     ("list", "--many"),
@@ -61,8 +50,7 @@ TASKS = (
     ("debug",),
     ("debug", "--window", "3"),
 )
-CASES = 2000
-SEED = 1
+RANDOM = 56  # (each task four times)
 AT_ONCE = 4
 # (a static program of Debian's glibc or musl needs no other file: it names neither a loader nor a library)
 NEEDS_OTHERS = ("INTERP", "NEEDED")
@@ -96,27 +84,6 @@ class Asked:
         return [*self.words, str(self.file), *(["--save", str(saved)] if self.saves else [])]
 
 
-def in_turn(runs: list[Asked]) -> list[Asked]:
-    """Of each file each word once, with its options in turn. (An emulator takes twenty times as long as a processor.)"""
-    kinds: dict[tuple[Path, str], list[Asked]] = {}
-    for asked in runs:
-        kinds.setdefault((asked.file, asked.words[0]), []).append(asked)
-    turns: Counter[str] = Counter()
-    chosen = []
-    for (_, word), same in kinds.items():
-        chosen.append(same[turns[word] % len(same)])
-        turns[word] += 1
-    return chosen
-
-
-def one_each(runs: list[Asked]) -> list[Asked]:
-    """A run of each file, with its words in turn."""
-    files: dict[Path, list[Asked]] = {}
-    for asked in runs:
-        files.setdefault(asked.file, []).append(asked)
-    return [same[number % len(same)] for number, same in enumerate(files.values())]
-
-
 def taken(file: Path) -> bytes:
     """The content of a file that is there no more, or nothing."""
     content = file.read_bytes() if file.exists() else b""
@@ -124,11 +91,12 @@ def taken(file: Path) -> bytes:
     return content
 
 
-def ask(program: list[str], asked: Asked, memory: str | None = None) -> Answer:
+def ask(program: list[str], asked: Asked, memory: str | None = None, root: Root | None = None) -> Answer:
+    """What a program answers, which is started in a root where there is one."""
     saved = Path(f"{asked.file}.{threading.get_ident()}.saved")
     limited = [] if memory is None else ["sh", "-c", 'ulimit -v "$1"; shift; exec "$@"', "sh", memory]
     done = subprocess.run([*limited, *program, *asked.command(saved)], input=asked.given, capture_output=True, timeout=300, check=False)
-    return Answer(done.returncode, done.stdout, done.stderr, taken(saved) if asked.saves else b"")
+    return Answer(done.returncode, done.stdout, done.stderr, taken(root.path(saved) if root else saved) if asked.saves else b"")
 
 
 def put_inputs(runs: list[Asked], folder: Path, there: Path) -> Iterator[tuple[str, list[str]]]:
@@ -183,35 +151,25 @@ class Machines:
         return self.real[:: 10 * len(self.tasks) + 1]
 
     @functools.cached_property
-    def random(self) -> list[Asked]:
-        """Pieces of real pickles with some bytes changed. The seed is always the same."""
-        chance = random.Random(SEED)
-        folder = self.folder / "random"
-        folder.mkdir(parents=True, exist_ok=True)
-        sources = [content for file in sorted(self.pickles.glob("*.pickle")) if (content := file.read_bytes()[:2000])]
-        made = []
-        for number in range(CASES):
-            case = bytearray(chance.choice(sources)[: chance.randrange(2, 400)])
-            for _ in range(chance.randrange(4)):
-                case[chance.randrange(len(case))] = chance.randrange(256)
-            file = folder / f"{number}.pickle"
-            file.write_bytes(case)
-            made.append(Asked(chance.choice(self.tasks), file))
-        return made
+    def sample(self) -> list[Asked]:
+        """The sample of the rows, pickles made by chance, and a few of the real pickles, which are larger."""
+        return [*self.asked_of([*sample_of(rows()), *self.by_chance()]), *self.some]
 
-    @functools.cached_property
-    def conversations(self) -> list[Asked]:
-        return self.rows()
+    def by_chance(self) -> Iterator[RowRun]:
+        """Each task with pickles that the fuzzer makes. They are the same in each run."""
+        for number in range(RANDOM):
+            made = fuzz.make_pickle(Random(f"1 {number}"), [])
+            yield RowRun(TASKS[number % len(TASKS)], made, SCRIPT, "")
 
-    def rows(self) -> list[Asked]:
-        """The rows of conversations.txt, in all windows."""
-        folder = self.folder / "conversations"
+    def asked_of(self, rows: Iterable[RowRun]) -> list[Asked]:
+        """These rows, with their pickles as files."""
+        folder = self.folder / "rows"
         folder.mkdir(parents=True, exist_ok=True)
         made = []
-        for number, block in enumerate(blocks_of((self.root / "equipment/conversations.txt").read_text("utf-8"))):
-            file = folder / f"{number}.pickle"
-            file.write_bytes(block.pickle)
-            made += [Asked(tuple(words), file, script, saves=words[0] == "debug") for words, script in runs_of(block)]
+        for row in rows:
+            file = folder / f"{hashlib.sha256(row.pickle).hexdigest()[:16]}.pickle"
+            file.write_bytes(row.pickle)
+            made.append(Asked(row.words, file, row.script, saves=row.words[0] == "debug"))
         return made
 
     def compare(self, asked: Asked, found: Answer) -> str:
@@ -224,10 +182,14 @@ class Machines:
         why = next(filter(None, (text_difference(*pair) for pair in pairs)), f"status {found.status}")
         return f"{' '.join(asked.words)} {asked.file.name}: {why}, with errors that begin: {beginning(found.errors)}"
 
-    def compare_all(self, program: list[str], runs: list[Asked]) -> Noted:
+    def compare_all(self, program: list[str], runs: list[Asked], root: Root | None = None) -> Noted:
         """Each run is a process of its own, and some are there at once."""
         with ThreadPoolExecutor(AT_ONCE) as pool:
-            return self.compare_answers(runs, pool.map(functools.partial(ask, program), runs))
+            return self.compare_answers(runs, pool.map(functools.partial(ask, program, root=root), runs))
+
+    def compare_in(self, root: Root, program: list["str | Path"], runs: list[Asked]) -> Noted:
+        """The same of a program that is started in a root."""
+        return self.compare_all(root.start(*program), runs, root)
 
     def compare_answers(self, runs: list[Asked], answers: Iterable[Answer]) -> Noted:
         new = [asked for asked in runs if asked not in self.answers]
@@ -238,10 +200,6 @@ class Machines:
             if why:
                 return Noted(why, "")
         return Noted("", f": {len(runs)} runs")
-
-    def compare_module(self, runs: list[Asked]) -> Noted:
-        """The same in Node: one process has an instance of the module for each run."""
-        return self.compare_answers(runs, self.in_node(runs))
 
     def in_node(self, runs: list[Asked], pages: int = 0, root: Root | None = None) -> Iterator[Answer]:
         """What the module answers, with at most so many pages of memory, and in a root where one is given."""
@@ -287,9 +245,11 @@ class Machines:
     # --- Roots with nothing else in them ---
 
     def new_root(self, name: str) -> Root:
-        """A root with the real pickles."""
-        root = Root(self.folder / "roots" / name)
-        root.add(sorted(self.pickles.glob("*.pickle")))
+        """A root with what is asked about."""
+        return self.with_files(Root(self.folder / "roots" / name))
+
+    def with_files(self, root: Root) -> Root:
+        root.add(sorted({asked.file for asked in self.sample}))
         return root
 
     @functools.cached_property
@@ -318,8 +278,7 @@ class Machines:
     @functools.cached_property
     def alpine_root(self) -> Root:
         """With a clone that has the files as they lie here, out of which it is installed."""
-        root = like_alpine(self.folder / "roots" / "alpine")
-        root.add(sorted(self.pickles.glob("*.pickle")))
+        root = self.with_files(like_alpine(self.folder / "roots" / "alpine"))
         clone = ["git", "-c", "safe.directory=*", "clone", "-q", str(self.root), str(root.at / "clone")]
         for words in (clone, root.start("/clone/install", "/usr/local")):
             if words is not clone:
@@ -384,7 +343,7 @@ def alone(machines: Machines, file: str) -> str:
 
 
 def in_empty_root(machines: Machines) -> Noted:
-    return machines.compare_all(machines.empty_root.start("/picklestep"), machines.real)
+    return machines.compare_in(machines.empty_root, ["/picklestep"], machines.sample)
 
 
 def on_alpine(machines: Machines) -> Noted:
@@ -395,8 +354,8 @@ def on_alpine(machines: Machines) -> Noted:
     if refused.returncode != 127:
         return Noted(f"the root has a glibc: status {refused.returncode}, errors {beginning(refused.stderr)}", "")
     program = "/usr/local/lib/picklestep/picklestep/bin/picklestep"
-    for start, runs in (("/clone/picklestep", machines.some), ("/usr/local/bin/picklestep", one_each(machines.real)), (program, machines.real)):
-        found = machines.compare_all(root.start(start), runs)
+    for start, runs in (("/clone/picklestep", machines.some), ("/usr/local/bin/picklestep", machines.some), (program, machines.sample)):
+        found = machines.compare_in(root, [start], runs)
         if found.why:
             break
     return found
@@ -408,22 +367,21 @@ def on_plain(machines: Machines) -> Noted:
     refused = subprocess.run([*plain, str(machines.dist / BUILT), "list"], capture_output=True, check=False)
     if refused.returncode != 127:
         return Noted(f"the processor has more: status {refused.returncode}, errors {beginning(refused.stderr)}", "")
-    return machines.compare_all([*plain, str(machines.dist / STATIC)], machines.real[:: len(machines.tasks) + 1])
+    return machines.compare_all([*plain, str(machines.dist / STATIC)], machines.sample)
 
 
 def in_arm_root(machines: Machines) -> Noted:
-    """Each is asked once in a process of its own, and with each word in children of one."""
-    root, runs = machines.arm_root, in_turn(machines.real)
-    found = machines.compare_all(root.start(*machines.arm()), one_each(runs))
-    return found if found.why else machines.compare_answers(runs, machines.in_emulator(runs, root))
+    """A few in a process of their own, and all in children of one."""
+    root = machines.arm_root
+    found = machines.compare_in(root, [*machines.arm()], machines.some)
+    return found if found.why else machines.compare_answers(machines.sample, machines.in_emulator(machines.sample, root))
 
 
 def in_node_root(machines: Machines) -> Noted:
     """The module, and some of them as a user starts it."""
     root = machines.node_root
-    started = root.start(machines.tool("node", "Node 20 or later"), machines.dist / SCRIPTED)
-    found = machines.compare_all(started, machines.some)
-    return found if found.why else machines.compare_answers(machines.real, machines.in_node(machines.real, root=root))
+    found = machines.compare_in(root, [machines.tool("node", "Node 20 or later"), machines.dist / SCRIPTED], machines.some)
+    return found if found.why else machines.compare_answers(machines.sample, machines.in_node(machines.sample, root=root))
 
 
 def large(machines: Machines, count: int = 1_000_000) -> Asked:
@@ -573,46 +531,25 @@ def size_of_all(machines: Machines) -> str:
     return "" if size < MOST_BYTES else f"dist has {size} bytes"
 
 
-def compared(machines: Machines, way: str, kind: str) -> Noted:
-    """All answers of one kind of a program."""
-    runs: list[Asked] = getattr(machines, kind)
-    if way == "module":
-        return machines.compare_module(runs)
-    if way == "arm":
-        some = in_turn(runs)
-        return machines.compare_answers(some, machines.in_emulator(some))
-    return machines.compare_all([str(machines.dist / STATIC)], runs)
-
-
 Row = tuple[str, Callable[[Machines], "str | Noted"]]
-KINDS = {"real": "all real pickles", "random": "random cases", "conversations": "conversations"}
-
-
-def comparisons(way: str, name: str) -> list[Row]:
-    """(The real pickles are compared in roots.)"""
-    return [(f"{name}: {KINDS[kind]}", functools.partial(compared, way=way, kind=kind)) for kind in ("random", "conversations")]
-
-
 ROWS: list[Row] = [
+    ("the sample meets each word, option, opcode and code", lambda machines: fault_of_sample(machines.root)),
     ("further machines: made again, each is the released one", made_again),
     ("further machines: tools of another version are noted", other_tools),
     ("further machines: dist is under 8 MB", size_of_all),
     ("x86-64, static: needs no other file", lambda machines: alone(machines, STATIC)),
-    ("x86-64, static: all real pickles in an empty root", in_empty_root),
-    ("x86-64, static: all real pickles on what is like an Alpine", on_alpine),
-    ("x86-64, static: on the plainest processor, under an emulator", on_plain),
-    *comparisons("static", "x86-64, static"),
+    ("x86-64, static: the sample in an empty root", in_empty_root),
+    ("x86-64, static: the sample on what is like an Alpine", on_alpine),
+    ("x86-64, static: the sample on the plainest processor, under an emulator", on_plain),
     ("x86-64, static: out of memory is an answer", memory_of_static),
     ("ARM: needs no other file", lambda machines: alone(machines, ARM)),
-    ("ARM, under an emulator: all real pickles in a root with nothing else", in_arm_root),
-    *comparisons("arm", "ARM, under an emulator"),
+    ("ARM, under an emulator: the sample in a root with nothing else", in_arm_root),
     ("ARM, under an emulator: out of memory is an answer", memory_of_arm),
     ("the module in Node: as it is started", started_in_node),
     ("the module in Node: the files that paths lead to", found_in_node),
     ("the module in Node: files that may only be read, and pipes", opened_in_node),
     ("the module in Node: saves", saved_in_node),
-    ("the module in Node: all real pickles in a root with nothing else", in_node_root),
-    *comparisons("module", "the module in Node"),
+    ("the module in Node: the sample in a root with nothing else", in_node_root),
     ("the module in Node: out of memory is an answer", memory_of_module),
 ]
 

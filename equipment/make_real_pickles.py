@@ -1,18 +1,15 @@
 #!/usr/bin/python3
-"""Writes the real pickles that this repository keeps as test data, and what Python answers about them.
+"""Writes the real pickles that this repository keeps as test data, and what Python reads of them.
 
 Run it as /usr/bin/python3 of Debian 12 (Python 3.11) with the packages python3-numpy, python3-pandas, python3-sklearn and
 libpython3.11-testsuite, from anywhere, without arguments. It writes
 
     crates/real_pickles/data/NAME.pickle    the pickles
     crates/real_pickles/args, stdout        their names, and what the program real_pickles is to print
-    equipment/listings/NAME.txt             the listing of each without the texts of arguments
-    equipment/python_refusals.txt           where Python refuses, and the rules by which this project may stop before
-    equipment/real_pickles/TABLE.md         which pickles there are, and where Python and this project differ
 
-and removes what it wrote before under other names. Nothing of this project is run, and no hostile pickle is loaded: the
-answers are those of Python's pickletools, and where this project differs, those of the rules in real_pickles/answers.py.
-The same versions of the packages write the same bytes.
+and removes what it wrote before under other names. Nothing of this project is run, and no hostile pickle is loaded: the items
+are those of Python's pickletools, and where this project ends its reading elsewhere, real_pickles/answers.py says why. The same
+versions of the packages write the same bytes.
 """
 
 from __future__ import annotations
@@ -32,57 +29,35 @@ sys.dont_write_bytecode = True
 ROOT = Path(__file__).resolve().parent.parent
 sys.path.insert(0, str(ROOT / 'equipment' / 'real_pickles'))
 
-import explain
 import from_cpython_tests
 import hostile
 import written_by_libraries
 import written_by_python
-from answers import Answer
+from answers import document_of
 
-KINDS: list[tuple[str, Any]] = [
-    ('Written by Python', written_by_python),
-    ('Written by libraries', written_by_libraries),
-    ("From CPython's own tests", from_cpython_tests),
-    ('Written byte by byte: hostile, broken, or read otherwise', hostile),
-]
+KINDS: tuple[Any, ...] = (written_by_python, written_by_libraries, from_cpython_tests, hostile)
 
 
-def emptied(folder: Path, ending: str) -> Path:
-    folder.mkdir(parents=True, exist_ok=True)
-    for old in folder.glob('*' + ending):
-        old.unlink()
-    return folder
+def printed_of(data: bytes) -> list[str]:
+    """What the program real_pickles prints of the document: the items, and how reading ended."""
+    items, fault = document_of(data)
+    end = 'stopped' if fault is None else 'not stopped: %s at %d' % (fault[1].split()[0], fault[0])
+    return [*('%d %s' % (read.start, read.name) for read in items), end]
 
 
 def main() -> None:
-    data = emptied(ROOT / 'crates' / 'real_pickles' / 'data', '.pickle')
-    listings = emptied(ROOT / 'equipment' / 'listings', '.txt')
-    names: list[str] = []
-    expected: list[str] = []
-    refusals: list[str] = []
-    sections: list[explain.Section] = []
-    for kind, module in KINDS:
-        rows: list[tuple[str, bytes, str, Answer]] = []
-        for name, content, what in module.pickles():
-            assert name not in names, name
-            names.append(name)
-            answer = Answer(name, content)
-            (data / (name + '.pickle')).write_bytes(content)
-            (listings / (name + '.txt')).write_text('\n'.join(answer.lines) + '\n', encoding='ascii')
-            expected += [name + '.pickle', *answer.document_lines(), 'same']
-            if answer.python is not None:
-                refusals.append(' '.join([name, str(answer.python[0]), *answer.earlier()]))
-            rows.append((name, content, what, answer))
-        sections.append((kind, rows))
     program = ROOT / 'crates' / 'real_pickles'
-    (program / 'args').write_text(''.join(name + '.pickle\n' for name in names), encoding='ascii')
-    (ROOT / 'equipment' / 'python_refusals.txt').write_text(''.join(line + '\n' for line in refusals), encoding='ascii')
-    (program / 'stdout').write_text(''.join(line + '\n' for line in expected), encoding='ascii')
-    (ROOT / 'equipment' / 'real_pickles' / 'TABLE.md').write_text(explain.page(sections), encoding='ascii')
-    listed = {read.name for _, written in sections for row in written for read in row[3].items}
+    for old in (program / 'data').glob('*.pickle'):
+        old.unlink()
+    pickles = [(name + '.pickle', content) for module in KINDS for name, content, _ in module.pickles()]
+    assert len(dict(pickles)) == len(pickles), 'two pickles of one name'
+    for name, content in pickles:
+        (program / 'data' / name).write_bytes(content)
+    printed = [line for name, content in pickles for line in (name, *printed_of(content), 'same')]
+    (program / 'args').write_text(''.join(name + '\n' for name, _ in pickles), encoding='ascii')
+    (program / 'stdout').write_text(''.join(line + '\n' for line in (*printed, 'edits: same', 'cuts: same')), encoding='ascii')
+    listed = {read.name for _, content in pickles for read in document_of(content)[0]}
     assert len(listed) == len(pickletools.opcodes), 'an opcode that no pickle has'
-    for kind, written in sections:
-        print('%s: %d pickles, %d bytes' % (kind, len(written), sum(len(row[1]) for row in written)))
 
 
 main()

@@ -4,13 +4,16 @@
 
 Without classes all of them. Each module (or each class `--alone`, or that is named) is an interpreter of its own, at most four at once; each
 prints how many of its tests passed, were skipped and failed, and its processor time. What cannot run there is in `NOT_THERE`, with its reason. The
-gate runs the others but for `DEAR`, and so does this with `--gate`. Status 1 where a test failed.
+gate runs a sample of the others, and so does this with `--gate`. A test is in the sample where it names what no test before it named: a word, an
+option or a code, or what it takes of the package or of the system. Status 1 where a test failed.
 """
 
 from __future__ import annotations
 
 import argparse
+import ast
 import os
+import re
 import shutil
 import subprocess
 import sys
@@ -55,7 +58,7 @@ NOT_THERE = {
     "test_view_alone": "the page is a browser's, and asks no program",
     "test_view_browser": "the page is a browser's; what it asks is tried by test_view",
 }
-# Beginnings of what the gate leaves out, with the processor seconds that it takes: rules of Python alone, which are the same on each machine
+# Beginnings of what is in no sample, with the processor seconds that it takes: rules of Python alone, which are the same on each machine
 # where the answers are (others try that), and terminals and clusters, which Windows has not.
 DEAR = {
     "test_answers.CallLines.test_the_offset_of_a_refused_opcode": 5,
@@ -100,7 +103,10 @@ DEAR = {
     "test_stores_files.Bytes": 110,
     "test_stores_files.Libraries": 33,
 }
-IN_GATE = {**NOT_THERE, **{name: f"the gate leaves out what takes {seconds} s" for name, seconds in DEAR.items()}}
+HELP, TESTS = ROOT / "python/picklestep/help", ROOT / "python/tests"
+NAMED = re.compile(r"--[a-z][a-z-]+|\b[CEFSUVX]\d+\b")
+# The modules whose members count by their names.
+TAKEN = frozenset(("picklestep", "os", "signal", "subprocess", "tempfile", "stat", "sys", "select", "threading", "socket"))
 # (the clock counts as processor time there: with more of them than processors, files would be noted for their time)
 AT_ONCE = min(4, os.cpu_count() or 1)
 SECONDS = 7200
@@ -129,6 +135,61 @@ def prepare(interpreter: Path) -> None:
     (interpreter.parent / "node.exe").symlink_to(str(shutil.which("node")))
 
 
+# --- The sample ---
+
+
+def words_of_help() -> set[str]:
+    """The words of the package, and their options."""
+    pages = list(HELP.glob("*.txt"))
+    return {page.stem for page in pages} | {option for page in pages for option in re.findall(r"(?m)^  (--[a-z][a-z-]+)", page.read_text("utf-8"))}
+
+
+def named_by(test: ast.AST, words: set[str], taken: frozenset[str]) -> set[str]:
+    """What the code of a test names."""
+    found: set[str] = set()
+    for node in ast.walk(test):
+        if isinstance(node, ast.Constant) and isinstance(node.value, (str, bytes)):
+            text = node.value if isinstance(node.value, str) else node.value.decode("latin-1")
+            found.update(NAMED.findall(text), words & {text})
+        elif isinstance(node, ast.Name) and node.id in taken:
+            found.add(node.id)
+        elif isinstance(node, ast.Attribute) and isinstance(node.value, ast.Name) and node.value.id in taken:
+            found.add(f"{node.value.id}.{node.attr}")
+    return found
+
+
+def tests_with_names() -> Iterator[tuple[str, set[str]]]:
+    """Each test that can be in the sample, with what it names."""
+    words = words_of_help()
+    for file in sorted(TESTS.glob("test_*.py")):
+        tree = ast.parse(file.read_text("utf-8"))
+        imports = [node for node in tree.body if isinstance(node, ast.ImportFrom) and (node.module or "").startswith("picklestep")]
+        taken = TAKEN | {alias.asname or alias.name for node in imports for alias in node.names}
+        for case in tree.body:
+            if isinstance(case, ast.ClassDef):
+                for test in (node for node in case.body if isinstance(node, ast.FunctionDef) and node.name.startswith("test")):
+                    name = f"{file.stem}.{case.name}.{test.name}"
+                    if not any(f"{name}.".startswith(f"{beginning}.") for beginning in (*NOT_THERE, *DEAR)):
+                        yield name, named_by(test, words, taken)
+
+
+def sample() -> list[str]:
+    """The tests that name something for the first time. Each word and each option of the help has to be named by one."""
+    known: set[str] = set()
+    chosen = []
+    for name, found in tests_with_names():
+        if not found <= known:
+            known |= found
+            chosen.append(name)
+    lacking = words_of_help() - known
+    if lacking:
+        raise LookupError(f"no test of the sample names {', '.join(sorted(lacking))}")
+    return chosen
+
+
+# --- The runs ---
+
+
 def classes(interpreter: Path, without: dict[str, str]) -> list[str]:
     """All classes of tests of which something is left without what has these beginnings."""
     words = [str(interpreter), "-B", str(ROOT / "equipment/packages.py"), "--names"]
@@ -142,10 +203,10 @@ def environment(interpreter: Path, system: str) -> dict[str, str]:
     return {**own_environment(), "PYTHONDONTWRITEBYTECODE": "1", "PYTHONPATH": str(ROOT / "python/tests"), "PATH": path, "PICKLESTEP_LESSER": system}
 
 
-def run_group(interpreter: Path, system: str, name: str, names: list[str], without: dict[str, str], folder: Path) -> Tried:
-    """Runs classes of one module in one interpreter."""
+def run_group(interpreter: Path, system: str, name: str, names: list[str], folder: Path) -> Tried:
+    """Runs classes or tests of one module in one interpreter."""
     lines, log, skipped = (folder / f"{name}.{kind}" for kind in ("lines", "log", "skipped"))
-    skipped.write_text("".join(f"{test}\t{reason}\n" for test, reason in without.items()))
+    skipped.write_text("".join(f"{test}\t{reason}\n" for test, reason in NOT_THERE.items()))
     words = [str(interpreter), str(ROOT / "equipment/packages.py"), "--run", str(lines), "--skip", str(skipped), *(f"python {one}" for one in names)]
     with open(log, "wb") as out:
         process = subprocess.Popen(words, env=environment(interpreter, system), cwd=folder, stdin=subprocess.DEVNULL, stdout=out, stderr=out)
@@ -168,13 +229,13 @@ def ended(process: subprocess.Popen[bytes]) -> tuple[int, float]:
     return process.returncode, used.ru_utime + used.ru_stime
 
 
-def run_classes(interpreter: Path, system: str, names: list[str], without: dict[str, str], folder: Path, alone: bool = False) -> Iterator[Tried]:
-    """What became of the classes, of each module or of each class `alone`, as they end."""
+def run_classes(interpreter: Path, system: str, names: list[str], folder: Path, alone: bool = False) -> Iterator[Tried]:
+    """What became of the classes or tests, of each module or of each class `alone`, as they end."""
     groups: dict[str, list[str]] = {}
     for name in names:
         groups.setdefault(name if alone else name.split(".")[0], []).append(name)
     with ThreadPoolExecutor(AT_ONCE) as pool:
-        yield from pool.map(lambda group: run_group(interpreter, system, *group, without, folder), groups.items())
+        yield from pool.map(lambda group: run_group(interpreter, system, group[0], group[1], folder), groups.items())
 
 
 def main() -> int:
@@ -183,15 +244,14 @@ def main() -> int:
     parser.add_argument("--system", choices=("windows", "macos"), default="windows")
     parser.add_argument("names", nargs="*", metavar="CLASS")
     parser.add_argument("--alone", action="store_true", help="each class in an interpreter of its own")
-    parser.add_argument("--gate", action="store_true", help="what the gate runs")
+    parser.add_argument("--gate", action="store_true", help="the sample that the gate runs")
     words = parser.parse_args()
-    without = IN_GATE if words.gate else NOT_THERE
     with tempfile.TemporaryDirectory() as name:
         folder = Path(name)
         interpreter = Path(wheels.Wheels(ROOT, ROOT / wheels.RELEASED, folder).lesser())
         failed = 0
-        names = words.names or classes(interpreter, without)
-        for tried in run_classes(interpreter, words.system, names, without, folder, bool(words.names) or words.alone):
+        names = words.names or (sample() if words.gate else classes(interpreter, NOT_THERE))
+        for tried in run_classes(interpreter, words.system, names, folder, bool(words.names) or words.alone):
             print(tried, *tried.faults, sep="\n    ", flush=True)
             failed += len(tried.faults)
     return 1 if failed else 0

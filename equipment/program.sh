@@ -106,12 +106,12 @@ page_fault() {
     python3 -I -B "$root/targets/page.py" --check "$further" 2>&1
 }
 
-# Names the released program for this machine, in `fits`; where there is none, the module, which Node runs, or what Python may have.
+# Names the released program for this machine, in `fits`; where there is none, the module, which Node runs.
 find_fitting() {
     case $(uname -sm) in
     'Linux x86_64') fits=$further/linux-x86_64-static/picklestep ;;
     'Linux aarch64') fits=$further/linux-aarch64/picklestep ;;
-    *) fits=$further/picklestep.mjs && { command -v node || command -v python3; } >/dev/null ;;
+    *) fits=$further/picklestep.mjs && command -v node >/dev/null ;;
     esac
 }
 

@@ -14,7 +14,8 @@ from collections.abc import Callable, Iterator, Sequence
 from dataclasses import dataclass, field
 from typing import Any
 
-from load_worker import EXTENSIONS, LOADERS, EqualToItself, has_more
+from load_readers import READERS, has_more
+from load_worker import EXTENSIONS, EqualToItself, kind_of
 
 # Codes of extensions, those too that only the unpickler in Python takes.
 CODES = frozenset(EXTENSIONS)
@@ -222,14 +223,13 @@ class Buffers:
 def load(name: str, data: bytes, plan: Plan, encoding: str, pickles: str = "All") -> Record:
     """What an unpickler does with the pickles of some bytes: the `First`, `All`, or all by one unpickler that keeps its `OneMemo`."""
     record = Record(plan)
-    kind, opened = LOADERS[name]
     copyreg._extension_cache.clear()  # type: ignore[attr-defined]
-    file = opened(data)
-    loader = _loader(kind, record)
+    file = READERS[name](data)
+    loader = _loader(kind_of(name), record)
     try:
         unpickler = None
         # (One unpickler may still hold bytes where its file has no more: it loads until it raises.)
-        while unpickler is None or pickles == "OneMemo" or pickles == "All" and has_more(file):
+        while unpickler is None or pickles == "OneMemo" or pickles == "All" and has_more(file, len(data)):
             if unpickler is None or pickles == "All":
                 unpickler = loader(file, encoding=encoding, buffers=Buffers(record))
             value = unpickler.load()

@@ -250,21 +250,34 @@ def starts_read_only(releases: Releases) -> str:
 
 
 def is_refused(releases: Releases, at: pathlib.Path, says: str) -> str:
-    """What is wrong where neither the check nor a start may take the released program for that of the sources."""
-    check = releases.run("./release", "--check", at=at)
-    if check.status != 1 or says not in check.errors or "run ./release" not in check.errors:
-        return f"the check: status {check.status}, errors {check.errors[:200]!r}"
-    hostile = str(releases.folder / "hostile.pickle")
-    starts = [["./picklestep", *words, hostile] for words in (["list"], [], ["scan"], ["source"], ["shell"])]
-    for words in (*starts, ["./install", str(releases.folder / "nowhere")]):
-        start = releases.run_stand_in(*words, at=at)
-        is_sentence = start.errors.count("\n") == 1 and says in start.errors and "./build" in start.errors
-        if start.status != 2 or start.output or not is_sentence or releases.called.exists():
-            return f"{' '.join(words)}: status {start.status}, output {start.output[:60]!r}, errors {start.errors[:200]!r}"
+    """What is wrong where neither the check nor a start may take the released program for that of the sources, nor an installation, nor ./test."""
+    words = ([], ["scan"], ["source"], ["shell"])
+    why = is_seen(releases, at, says) or next(filter(None, (starts_nothing(releases, at, says, "./picklestep", *each) for each in words)), "")
+    why = why or starts_nothing(releases, at, says, "./install", str(releases.folder / "nowhere"))
+    if why:
+        return why
     gate = releases.run_stand_in("./test", at=at)
     if gate.status != 1 or not gate.output.endswith("\n0 passed, 1 failed\n") or "run ./release" not in gate.output:
         return f"./test: status {gate.status}, output {gate.output[-200:]!r}"
     return "./test went on to the proofs" if releases.called.exists() else ""
+
+
+def is_seen(releases: Releases, at: pathlib.Path, says: str) -> str:
+    """What is wrong where the check and a start have to see a change."""
+    check = releases.run("./release", "--check", at=at)
+    if check.status != 1 or says not in check.errors or "run ./release" not in check.errors:
+        return f"the check: status {check.status}, errors {check.errors[:200]!r}"
+    return starts_nothing(releases, at, says, "./picklestep", "list")
+
+
+def starts_nothing(releases: Releases, at: pathlib.Path, says: str, entrance: str, *words: str) -> str:
+    """What is wrong where a start has to say in a sentence why there is no program."""
+    asked = [entrance, *words, *([str(releases.folder / "hostile.pickle")] if entrance == "./picklestep" else [])]
+    start = releases.run_stand_in(*asked, at=at)
+    is_sentence = start.errors.count("\n") == 1 and says in start.errors and "./build" in start.errors
+    if start.status == 2 and not start.output and is_sentence and not releases.called.exists():
+        return ""
+    return f"{' '.join(asked)}: status {start.status}, output {start.output[:60]!r}, errors {start.errors[:200]!r}"
 
 
 def builds_to_test(releases: Releases, at: pathlib.Path) -> str:
@@ -277,11 +290,13 @@ def builds_to_test(releases: Releases, at: pathlib.Path) -> str:
 
 
 def source_changed(releases: Releases) -> str:
+    """One change is tried with each start, and the others with one, since the same sum sees them."""
     at = releases.copy("source")
     for file in ("crates/picklestep/src/main.rt", "crates/pickle_io/src/lib.rt", "crates/pickle_ops/specs/Table.antt"):
         was = (at / file).read_bytes()
         change_byte(at / file)
-        why = is_refused(releases, at, "SOURCES") or builds_to_test(releases, at)
+        is_first = file.endswith("main.rt")
+        why = is_refused(releases, at, "SOURCES") or builds_to_test(releases, at) if is_first else is_seen(releases, at, "SOURCES")
         if why:
             return f"a byte of {file}: {why}"
         (at / file).write_bytes(was)
@@ -289,12 +304,12 @@ def source_changed(releases: Releases) -> str:
         if why:
             return f"{file} as it was: {why}"
     (at / "crates/pickle_io/src/more.rt").write_bytes(b"")
-    why = is_refused(releases, at, "SOURCES")
+    why = is_seen(releases, at, "SOURCES")
     if why:
         return f"a further file: {why}"
     (at / "crates/pickle_io/src/more.rt").unlink()
     (at / "crates/pickle_io/src/lib.rt").rename(at / "crates/pickle_io/src/other.rt")
-    return is_refused(releases, at, "SOURCES")
+    return is_seen(releases, at, "SOURCES")
 
 
 def program_changed(releases: Releases) -> str:
@@ -306,7 +321,7 @@ def program_changed(releases: Releases) -> str:
     if why:
         return why
     (at / RELEASED).unlink()
-    why = is_refused(releases, at, "SHA256SUMS")
+    why = is_seen(releases, at, "SHA256SUMS")
     if why:
         return why
     (at / RELEASED).write_bytes(was)
@@ -340,7 +355,7 @@ def crates_changed(releases: Releases) -> str:
         return f"a crate of tests: {why}"
     lines = re.sub(r"^(picklestep|pickle_script): ", r"\1: another ", text + "another: pickle_ops\n", flags=re.M)
     (at / "crates.txt").write_text(lines)
-    return is_refused(releases, at, "SOURCES")
+    return is_seen(releases, at, "SOURCES")
 
 
 def other_machine(releases: Releases) -> str:
@@ -350,11 +365,10 @@ def other_machine(releases: Releases) -> str:
         start = releases.run_elsewhere("./picklestep", "list", str(releases.folder / "hostile.pickle"), at=at)
         if (start.status, start.output, start.errors) != (0, LISTING, ""):
             return f"with Node: status {start.status}, errors {start.errors[:200]!r}"
-    # (Python may have what runs the module. It knows the machine without the stand-in for uname.)
-    for without, says in ((("node",), "the Python package wasmtime"), (("node", "python3"), "no program for this machine (Plan9 mips)")):
-        start = releases.run_elsewhere("./picklestep", "list", "x", at=at, PATH=str(releases.commands("without " + " ".join(without), *without)))
-        if start.status != 2 or start.output or releases.called.exists() or start.errors.count("\n") != 1 or says not in start.errors:
-            return f"without {without}: status {start.status}, errors {start.errors[:200]!r}"
+    start = releases.run_elsewhere("./picklestep", "list", "x", at=at, PATH=str(releases.commands("without node", "node")))
+    is_said = start.errors.count("\n") == 1 and "no program for this machine (Plan9 mips)" in start.errors
+    if start.status != 2 or start.output or releases.called.exists() or not is_said:
+        return f"without Node: status {start.status}, errors {start.errors[:200]!r}"
     return ""
 
 
@@ -375,27 +389,16 @@ def on_mac(releases: Releases) -> str:
         start = releases.run(*words, "list", hostile, at=folder, PATH=path, NODE_OPTIONS="--require ./gone.js")
         if (start.status, start.output, start.errors) != (0, LISTING, ""):
             return f"{words}: status {start.status}, output {start.output[:60]!r}, errors {start.errors[:200]!r}"
-    why = over_wasmtime(releases, at, prefix)
-    if why:
-        return why
-    change_byte(at / "dist/picklestep.wasm")
-    for place in (path, releases.mac):
-        start = releases.run("./picklestep", "list", hostile, at=at, PATH=place)
-        if start.status != 2 or start.errors.count("\n") != 1 or "./release" not in start.errors:
-            return f"a module that was changed: status {start.status}, errors {start.errors[:200]!r}"
-    return ""
-
-
-def over_wasmtime(releases: Releases, at: pathlib.Path, prefix: pathlib.Path) -> str:
-    """Without Node Python starts the module, where it has the package wasmtime (here what stands in for it); else a sentence says it."""
-    hostile = str(releases.folder / "hostile.pickle")
-    stand_in = {"PYTHONPATH": str(at / "python/tests/lesser/stand_in"), "WASMTIME_STAND_IN": f"{releases.node}/node"}
     for entrance in (str(at / "picklestep"), str(prefix / "bin/picklestep")):
-        for settings, wanted in ((stand_in, (0, LISTING)), ({}, (2, ""))):
-            start = releases.run(entrance, "list", hostile, PATH=releases.mac, PYTHONDONTWRITEBYTECODE="1", **settings)
-            is_said = not start.errors if settings else start.errors.count("\n") == 1 and "the Python package wasmtime" in start.errors
-            if (start.status, start.output) != wanted or not is_said:
-                return f"{entrance} without Node: status {start.status}, output {start.output[:60]!r}, errors {start.errors[:200]!r}"
+        for words in (["list", hostile], ["calls", hostile]):
+            start = releases.run(entrance, *words, PATH=releases.mac, PYTHONDONTWRITEBYTECODE="1")
+            is_said = start.errors.count("\n") == 1 and "Node 20 or later on the path" in start.errors
+            if (start.status, start.output) != (2, "") or not is_said:
+                return f"{entrance} {words[0]} without Node: status {start.status}, errors {start.errors[:200]!r}"
+    change_byte(at / "dist/picklestep.wasm")
+    start = releases.run("./picklestep", "list", hostile, at=at, PATH=path)
+    if start.status != 2 or start.errors.count("\n") != 1 or "./release" not in start.errors:
+        return f"a module that was changed: status {start.status}, errors {start.errors[:200]!r}"
     return ""
 
 
@@ -503,11 +506,7 @@ def stands_beside_it(releases: Releases) -> str:
     names = sorted(os.listdir(dist))
     if names != ["SHA256SUMS", "SOURCES", "TOOLCHAIN", "picklestep"]:
         return f"there is {names}"
-    if releases.run("sha256sum", "--check", "--status", "SHA256SUMS", at=dist).status != 0:
-        return "the sum"
-    toolchain = (dist / "TOOLCHAIN").read_text().strip()
-    readme = " ".join((releases.clone / "README.md").read_text().split())
-    return "" if toolchain in readme else f"README.md does not name {toolchain}"
+    return "" if releases.run("sha256sum", "--check", "--status", "SHA256SUMS", at=dist).status == 0 else "the sum"
 
 
 # --- Installed ---

@@ -1,8 +1,8 @@
 """Gives the program real pickles one after another in one input, with --many, and goes there and back.
 
-Every pickle comes twice in a row, and three at random come in a row. What is listed follows from the stored listings, which come from
-Python's pickletools: each up to its STOP with its offsets moved, up to the first refusal or fault.
-Of some files twice in a row no stored listing says what is listed: those that are cut, so that the first goes on in the second, those with
+Every pickle comes twice in a row, and three at random come in a row. What is listed follows from their listings, which come from
+Python's pickletools (python_listing.py): each up to its STOP with its offsets moved, up to the first refusal or fault.
+Of some files twice in a row no such listing says what is listed: those that are cut, so that the first goes on in the second, those with
 bytes after STOP, and one with a frame that goes on after its STOP. They come twice in a row as they are. Their items are those of Python's
 pickletools, and the conversation ends as the listing does. The cut ones come after a whole one, too.
 A conversation goes to the end of each pickle, and back over the same places, where the same has to be shown.
@@ -21,6 +21,7 @@ import re
 import subprocess
 from collections.abc import Sequence
 
+from python_listing import expected
 from trials.listings import listing_difference, reply_to_run
 from trials.trial import Trial
 
@@ -34,7 +35,7 @@ LASTING = ("F2", "F4", "F5", "F6", "F8")
 
 @dataclasses.dataclass(frozen=True)
 class Pickle:
-    """A real pickle up to its STOP, and its stored listing in parts."""
+    """A real pickle up to its STOP, and its listing in parts."""
 
     name: str
     data: bytes
@@ -60,8 +61,8 @@ def first_pickle(data: bytes, items: Sequence[str]) -> bytes | None:
     return data[:end]
 
 
-def read_pickle(path: pathlib.Path, listings: pathlib.Path) -> Pickle | None:
-    lines = (listings / f"{path.stem}.txt").read_text("utf-8", "surrogateescape").splitlines()
+def read_pickle(path: pathlib.Path, kept: pathlib.Path) -> Pickle | None:
+    lines = expected(path, kept).decode().splitlines()
     items = [line for line in lines if ITEM.match(line)]
     broken = [line for line in lines if line.startswith(("refused: ", "fault: "))]
     highest = [int(line.rsplit(" ", 1)[1]) for line in lines if line.startswith("highest ")]
@@ -276,9 +277,9 @@ def inputs_of(pickles: Sequence[Pickle]) -> list[tuple[str, list[Pickle]]]:
     return inputs
 
 
-def trials(inputs: Inputs, data: pathlib.Path, listings: pathlib.Path) -> list[Trial]:
+def trials(inputs: Inputs, data: pathlib.Path, kept: pathlib.Path) -> list[Trial]:
     paths = sorted(data.glob("*.pickle"))
-    found = [read_pickle(path, listings) for path in paths]
+    found = [read_pickle(path, kept) for path in paths]
     pickles = [pickle for pickle in found if pickle is not None]
     stand = {pickle.name: pickle.data for pickle in pickles if pickle.ends()}
     files = {path.stem: path.read_bytes() for path in paths}

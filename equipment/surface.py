@@ -18,6 +18,7 @@ if __name__ == "__main__":
 
 from trials.trial import Trial
 
+WRONG = "wrong "  # (begins a line of surface.txt with the name of a wrong body)
 ITEM = r"(?m)^ *pub (?:struct|enum|trait|type|fn) ({name})\b"
 # (`pub use` and `use` with one name or a group, over lines)
 USES = re.compile(r"(?m)^ *(pub )?use (\w+)::(?:(\w+)::)?(?:\{([^}]*)\}|(\w+));")
@@ -104,10 +105,14 @@ class Surface:
     def rows(self) -> list[Row]:
         return list(rows_of(self.page))
 
+    @functools.cached_property
+    def lines(self) -> list[str]:
+        return (self.source.root / "equipment" / "surface.txt").read_text(encoding="utf-8").splitlines()
+
     def names(self) -> Iterator[tuple[str, Optional[str], str]]:
         """Each specified name: its crate, the type whose call it is, and the name."""
-        for line in (self.source.root / "equipment" / "surface.txt").read_text(encoding="utf-8").splitlines():
-            if line and not line.startswith("#"):
+        for line in self.lines:
+            if line and not line.startswith(("#", WRONG)):
                 crate, kind, *calls = line.split()
                 if kind != "-":
                     yield crate, None, kind
@@ -133,6 +138,12 @@ class Surface:
         lacking = [f"{crate} {kind + '::' if kind else ''}{name}" for crate, kind, name in self.names() if not self.found(crate, kind, name)]
         return f"neither in the source nor in docs/DECISIONS.md: {', '.join(lacking)}" if lacking else ""
 
+    def fault_of_wrong_bodies(self) -> str:
+        """Each wrong body has a row, which names an edit or a test."""
+        here = {cells[1].strip() for line in self.page.splitlines() if len(cells := line.split("|")) == 4 and cells[2].strip()}
+        lacking = [line[len(WRONG) :] for line in self.lines if line.startswith(WRONG) and line[len(WRONG) :] not in here]
+        return f"no row of docs/DECISIONS.md: {', '.join(lacking)}" if lacking else ""
+
     def fault_of_page(self) -> str:
         """The page names no edit and no call that is not there."""
         edits = [edit for edit in re.findall(r"`(\w+/\w+)`", self.page) if not (self.source.root / "crates" / edit.replace("/", "/must-fail/")).with_suffix(".edit").exists()]
@@ -156,6 +167,7 @@ def trials(root: Path) -> list[Trial]:
     surface = Surface(Source(root))
     return [
         Trial("each name of the specification is found", surface.fault_of_names),
+        Trial("each wrong body of the specification has an edit or a test", surface.fault_of_wrong_bodies),
         Trial("what docs/DECISIONS.md names is there", surface.fault_of_page),
         Trial("the product imports from where a thing is made", surface.fault_of_imports),
     ]

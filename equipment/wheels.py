@@ -1,5 +1,6 @@
 """Tries the wheels of each machine and the source distribution: each is built, installed into a fresh environment without a network, and
-asked. Another program that is tried takes the place of the one that the wheel for its machine carries. The tests of the package run over the module in Node, with all hidden that other systems have not."""
+asked. Another program that is tried takes the place of the one that the wheel for its machine carries. A sample of the tests of the package
+runs over the module in Node, with all hidden that other systems have not."""
 
 from __future__ import annotations
 
@@ -12,7 +13,7 @@ from dataclasses import dataclass
 from pathlib import Path
 from typing import Callable
 
-from over_node import IN_GATE, classes, prepare, run_classes
+from over_node import prepare, run_classes, sample
 from packages import LICENCES, NO_BUILDER, builder, own_environment
 from trials.room import beginning
 from trials.trial import Lack, Noted, Trial
@@ -182,14 +183,13 @@ def from_sources(wheels: Wheels) -> str:
 
 
 def over_node(wheels: Wheels) -> Noted:
-    """The tests of the package, with the wheel for any machine, and without what other systems have not."""
+    """A sample of the tests of the package, with the wheel for any machine, and without what other systems have not."""
     if shutil.which("node") is None:
         raise Lack("there is no Node (equipment/install_servers)")
     interpreter = Path(wheels.lesser())
-    names = classes(interpreter, IN_GATE)
-    tried = list(run_classes(interpreter, "windows", names, IN_GATE, wheels.folder))
+    tried = list(run_classes(interpreter, "windows", sample(), wheels.folder))
     faults = [fault for one in tried for fault in one.faults]
-    return Noted(beginning("; ".join(faults).encode()), f": {sum(one.passed for one in tried)} tests of {len(names)} classes")
+    return Noted(beginning("; ".join(faults).encode()), f": {sum(one.passed for one in tried)} tests of {len(tried)} modules")
 
 
 ROWS: list[tuple[str, Callable[[Wheels], "str | Noted"]]] = [
@@ -199,7 +199,7 @@ ROWS: list[tuple[str, Callable[[Wheels], "str | Noted"]]] = [
     ("wheels: for ARM, by its tags, under an emulator", functools.partial(by_tags, machine="aarch64")),
     ("wheels: for any machine, installed", functools.partial(installed, machine="any", in_process=True, program="picklestep.mjs")),
     ("wheels: the source distribution, installed", from_sources),
-    ("wheels: the tests of the package over the module in Node", over_node),
+    ("wheels: a sample of the tests of the package over the module in Node", over_node),
 ]
 
 

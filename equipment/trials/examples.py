@@ -17,7 +17,7 @@ COMMAND = "    $ "
 MARGIN = "    "
 COMMANDS = ("README.md", "docs/PICKLES.md", "docs/PROMISE.md", "docs/LOOK.md", "docs/LOADERS.md")
 PAGES = ("docs/USING.md", "equipment/conversations.txt", "equipment/texts.txt", "equipment/calls.txt")
-BLOCK = re.compile(r"^ *(?:pickles?|unframed)(?: [0-9a-f ]+)?$", re.MULTILINE)
+BLOCK = re.compile(r"^ *(?:(?:pickles?|unframed)(?: [0-9a-f ]+)?|\$ echo '[0-9a-f ]+' \| xxd -r -p >a\.pickle)$", re.MULTILINE)
 
 
 def examples_of(page: str) -> Iterator[tuple[str, str]]:

@@ -25,6 +25,8 @@ import surface
 import try_calls
 import try_definition
 import try_lines
+import try_others
+import try_readers
 import wheels
 
 from . import begins, examples, forms, large, listings, memory, options, program, usage
@@ -65,7 +67,8 @@ def random_trials(room: Room) -> list[Trial]:
 
 
 def loader_trials(loaded: loads.Loads, room: Room) -> list[Trial]:
-    return [*loads.trials(loaded, room.pickles), *try_definition.trials(room.pickles)]
+    tried = [*loads.trials(loaded, room.pickles), *try_readers.trials(loaded, room.pickles)]
+    return [*tried, *try_others.trials(loaded), *try_definition.trials(room.pickles)]
 
 
 def line_trials(room: Room) -> list[Trial]:
@@ -92,15 +95,14 @@ def of_program(room: Room) -> list[AnyGroup]:
 
 def of_pickles(room: Room) -> list[AnyGroup]:
     """What it does with the real pickles, and with large inputs."""
-    answers = room.equipment / "listings"
-    counts = count_calls.Counts(str(room.program), answers)
+    counts = count_calls.Counts(str(room.program), room.listings)
     inputs = several.Inputs(str(room.program), room.folder / "several")
     return [
         Group("listings", functools.partial(listings.trials, room)),
         Group("lines", functools.partial(line_trials, room)),
         Group("calls", functools.partial(count_calls.trials, counts, room.pickles), counts.closing),
         Group("there-and-back", functools.partial(listings.there_and_back, room)),
-        Group("several", functools.partial(several.trials, inputs, room.pickles, answers), inputs.closing),
+        Group("several", functools.partial(several.trials, inputs, room.pickles, room.listings), inputs.closing),
         Group("large", functools.partial(large.trials, room)),
     ]
 

@@ -1,8 +1,4 @@
-"""What the program lists of the real pickles, against the stored listings, which are made from Python's pickletools.
-
-A stored listing has no texts of arguments. Of each line that the program writes the text of the argument is left out too; a note
-`(MARK at n)` or `(as n)` stays. An argument's text ends in a quote, a digit or a letter, so that no argument looks like a note.
-"""
+"""What the program lists of the real pickles, against what Python's pickletools makes of them, or else the listings that are kept."""
 
 from __future__ import annotations
 
@@ -11,25 +7,18 @@ import re
 from collections.abc import Sequence
 from pathlib import Path
 
+from python_listing import ITEM, NOTE, behind, expected, kept_lines, outline, refusal_of
+from real_pickles.answers import closing_of, document_of, lenient
+
 from .room import Room, beginning, first_difference, lines_of
 from .trial import Trial
 
-# (an offset, the opcode's code in four places and a blank, the indented name, the argument with its note)
-ITEM = re.compile(rb"( *\d+: .{4} )( *[A-Z0-9_]*)(.*)", re.DOTALL)
-NOTE = re.compile(rb" \((MARK at|as) \d+\)\Z")
-
-
-def outline(line: bytes) -> bytes:
-    """A line without the text of the argument, where it is that of an item."""
-    item = ITEM.fullmatch(line)
-    if item is None:
-        return line
-    note = NOTE.search(item[3])
-    return item[1] + item[2] + (note[0] if note else b"")
+# What a rule of real_pickles/README.md lets a listing end before, where Python goes on and refuses the pickle later.
+EARLIER = {"frame_in_a_frame", "lines_with_carriage_returns", "objects_under_a_mark", "double_of_a_mark"}
 
 
 def listing_difference(listing: bytes, answer: bytes) -> str:
-    """The first line in which a listing is not what is stored of it, or an empty text."""
+    """The first line in which a listing is not what is expected of it, or an empty text."""
     return first_difference(map(outline, lines_of(listing)), lines_of(answer))
 
 
@@ -45,36 +34,65 @@ def reach_of(listing: bytes) -> int:
     return max(items[-1:] + faults, default=0)
 
 
-class Refusals:
-    """Where Python refuses a pickle, but for those that a rule of this project lets a listing end before."""
-
-    def __init__(self, page: Path) -> None:
-        rows = [line.split() for line in page.read_text("utf-8").splitlines()]
-        self.offsets = {row[0]: int(row[1]) for row in rows if len(row) == 2}
-
-    def fault(self, name: str, listing: bytes) -> str:
-        reach, offset = reach_of(listing), self.offsets.get(name, 0)
-        return f"it goes to {reach}, and Python to {offset}" if reach < offset else ""
+def refusal_fault(pickle: Path, listing: bytes) -> str:
+    """A listing goes as far as Python does, or to where Python refuses."""
+    refusal = refusal_of(pickle.read_bytes())
+    if refusal is None or reach_of(listing) >= refusal[0] or pickle.stem in EARLIER:
+        return ""
+    return f"it goes to {reach_of(listing)}, and Python to {refusal[0]}"
 
 
-def stored(room: Room, name: str) -> bytes:
-    return (room.equipment / "listings" / f"{name}.txt").read_bytes()
-
-
-def fault_of(room: Room, refusals: Refusals, pickle: Path) -> str:
-    answer = stored(room, pickle.stem)
+def fault_of(room: Room, pickle: Path) -> str:
+    answer = expected(pickle, room.listings)
     found = room.observe(room.start, "list", pickle)
     why = found.fault_of_status(int(is_broken(answer)))
     if not why and found.errors:
         why = f"errors, which begin: {beginning(found.errors)}"
-    return why or listing_difference(found.output, answer) or refusals.fault(pickle.stem, found.output)
+    return why or listing_difference(found.output, answer) or refusal_fault(pickle, found.output)
+
+
+def own_refusals(listing: bytes) -> list[bytes]:
+    """Why a listing ends at an opcode that Python goes on after."""
+    return [line for line in lines_of(listing) if line.startswith(b"refused: ")]
+
+
+def closing_lines(data: bytes, listing: bytes, items: int) -> list[bytes]:
+    """The lines of a kept listing after those of its items: what Python says of them, and only where Python goes on, the listing's own refusal."""
+    reads, lines, error = lenient(data)
+    is_all = 0 < items == sum(ITEM.fullmatch(line) is not None for line in lines)  # (dis has a line after the items where something is left)
+    said = closing_of(reads[items - 1], error) if error is not None and is_all else None
+    if b"refused: " in listing:
+        return [said] if said is not None and said.startswith(b"refused: ") else own_refusals(listing)
+    fault = document_of(data)[1]
+    if fault is not None:
+        return [f"fault: {fault[1]} at {fault[0]}".encode()]
+    return [*([said] if said is not None else []), *kept_lines(data, behind(reads))]
+
+
+def kept_difference(data: bytes, listing: bytes) -> str:
+    """A kept listing has the lines that pickletools makes, as far as it goes. A refused item has no note."""
+    reads, lines, _ = lenient(data)
+    items = len(re.findall(rb"^ *\d+: ", listing, re.MULTILINE))
+    meant = lines[:items]
+    if b"\nrefused: " in listing:
+        meant[-1] = NOTE.sub(b"", meant[-1])
+    protocols = [b"highest protocol among opcodes = %d" % max(read.protocol for read in reads[:items])] if items else []
+    return first_difference(lines_of(listing), [*meant, *closing_lines(data, listing, items), *protocols])
+
+
+def fault_of_kept(room: Room) -> str:
+    for file in sorted(room.listings.glob("*.txt")):
+        pickle = room.pickles / f"{file.stem}.pickle"
+        why = kept_difference(pickle.read_bytes(), file.read_bytes()) if pickle.exists() else "there is no pickle of this name"
+        if why:
+            return f"{file.name}: {why}"
+    return ""
 
 
 def trials(room: Room) -> list[Trial]:
-    refusals = Refusals(room.equipment / "python_refusals.txt")
     return [
-        Trial(f"the listing of {pickle.stem}", functools.partial(fault_of, room, refusals, pickle))
-        for pickle in sorted(room.pickles.glob("*.pickle"))
+        Trial("the listings that are kept, against pickletools", functools.partial(fault_of_kept, room)),
+        *(Trial(f"the listing of {pickle.stem}", functools.partial(fault_of, room, pickle)) for pickle in sorted(room.pickles.glob("*.pickle"))),
     ]
 
 
@@ -103,7 +121,7 @@ def reply_of(answer: bytes) -> str:
 
 def fault_there_and_back(room: Room, pickle: Path, window: Sequence[str]) -> str:
     """Runs a pickle to its end, goes back and runs it again. The stack is the same both times, and empty at the start."""
-    reply = reply_of(stored(room, pickle.stem))
+    reply = reply_of(expected(pickle, room.listings))
     found = room.observe(room.start, "debug", pickle, *window, given=THERE_AND_BACK.encode())
     second = found.output.split(b"\n")[1:2]
     stack = second[0].decode() if second and second[0].startswith(b"stack") else ""

@@ -20,10 +20,16 @@ FAILED = re.compile(r"\S+(?: \((?:tests|run)\))?")
 UNPROVED = re.compile(r"rt: (\w+)(: its tests are)? NOT PROVED")
 MEMORY = "memory"
 Chosen = list[tuple[AnyGroup, Optional[Set[str]]]]
+Costs = dict[str, float]  # processor seconds of each group
 
 
 class Unknown(Exception):
     """A name that is neither a trial's nor a group's."""
+
+
+def processor_seconds() -> float:
+    """What this process used, and what the processes that it started and waited for used."""
+    return sum(os.times()[:4])
 
 
 def broken(group: AnyGroup, fault: Exception) -> Verdict:
@@ -51,11 +57,12 @@ class Aside:
                 found.append(verdict)
         except Exception as fault:
             found.append(broken(self.group, fault))
-        sender.send(found)
+        sender.send((found, processor_seconds()))
 
-    def verdicts(self) -> Iterator[Verdict]:
+    def verdicts(self, costs: Costs) -> Iterator[Verdict]:
         try:
-            yield from self.receiver.recv()
+            found, costs[self.group.name] = self.receiver.recv()
+            yield from found
         except EOFError:
             self.process.join()
             why = f"its process ended with status {self.process.exitcode}"
@@ -82,16 +89,27 @@ def choose(room: Room, names: Sequence[str]) -> Chosen:
     return [(group, chosen[group.name]) for group in groups if group.name in chosen]
 
 
-def run_groups(chosen: Chosen, report: Report) -> None:
-    """Runs groups one after another, but those that run aside, which begin at once."""
+def run_groups(chosen: Chosen, report: Report) -> Costs:
+    """Runs groups one after another, but those that run aside, which begin at once. Returns what each took of the processors."""
     asides = {group.name: Aside(group, wanted) for group, wanted in chosen if group.aside is not None}
+    costs: Costs = {}
     for group, wanted in chosen:
-        found = asides[group.name].verdicts() if group.name in asides else group.verdicts(wanted)
+        is_aside, before = group.name in asides, processor_seconds()
+        found = asides[group.name].verdicts(costs) if is_aside else group.verdicts(wanted)
         try:
             for verdict in found:
                 report.take(verdict)
         except Exception as fault:  # (the next group still runs)
             report.take(broken(group, fault))
+        if not is_aside:
+            costs[group.name] = processor_seconds() - before
+    return costs
+
+
+def print_costs(costs: Costs) -> None:
+    """Prints what each group took of the processors, the dearest first."""
+    dearest = sorted(costs.items(), key=lambda each: -each[1])
+    print("processor seconds: " + ", ".join(f"{name} {seconds:.0f}" for name, seconds in dearest if seconds >= 0.5))
 
 
 def alone(name: str) -> str:
@@ -132,10 +150,11 @@ def run_all(room: Room, log: Path, status: int, seconds: int, lacks: Path) -> in
     else:
         report.take(Verdict("", "what the trials need is installed", "; ".join(lacks.read_text("utf-8", "replace").splitlines())))
         chosen = choose(room, [])
-        run_groups([pair for pair in chosen if pair[0].name != MEMORY], report)
+        costs = run_groups([pair for pair in chosen if pair[0].name != MEMORY], report)
         tried = time.monotonic()
         # Nothing else runs during these trials, so that none of them runs out of memory by chance.
-        run_groups([pair for pair in chosen if pair[0].name == MEMORY], report)
+        costs |= run_groups([pair for pair in chosen if pair[0].name == MEMORY], report)
+        print_costs(costs)
     print(f"memory: {room.requests} requests refused")
     of_memory = time.monotonic() - tried if tried > begin else 0
     print(f"time: rt ci {seconds} s, program {tried - begin:.0f} s, memory {of_memory:.0f} s")
@@ -144,7 +163,7 @@ def run_all(room: Room, log: Path, status: int, seconds: int, lacks: Path) -> in
 
 def run_named(room: Room, names: Sequence[str]) -> int:
     report = Report()
-    run_groups(choose(room, names), report)
+    print_costs(run_groups(choose(room, names), report))
     return report.close()
 
 

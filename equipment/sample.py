@@ -1,0 +1,94 @@
+"""The sample of the rows: what is asked of a program that is compiled of the same build as the one that gets all rows.
+
+A run of a row is in the sample where it meets something that no run before it met: an option, an opcode or a code of a word of the command line, or
+an option of a word of the debugger.
+"""
+
+from __future__ import annotations
+
+import pickletools
+import re
+from collections.abc import Iterable, Iterator
+from dataclasses import dataclass
+from pathlib import Path
+
+from conversations import REFUSALS, blocks_of, runs_of
+
+HERE = Path(__file__).resolve().parent
+TABLES = ("conversations.txt", "texts.txt", "calls.txt")
+# The words of the command line whose answers are proved, each with a page of help that has its options. (That of `debug` has its words, too.)
+WORDS = (*REFUSALS, "debug")
+CODE = re.compile(r"\b[CEFSUVX]\d+\b")
+# Codes that no row meets, since what they refuse is too large for a row.
+TOO_LARGE = frozenset(("E7", "E8", "X7"))
+
+
+@dataclass(frozen=True)
+class RowRun:
+    """A run of a row of the tables: its words without the files, the pickle, the script of a conversation, and what it answers."""
+
+    words: tuple[str, ...]
+    pickle: bytes
+    script: bytes
+    answer: str
+
+    def met(self) -> Iterator[tuple[str, str]]:
+        """Each word with what it meets."""
+        options = ["", *(word for word in self.words if word.startswith("--"))]
+        for each in (*options, *opcodes_of(self.pickle), *CODE.findall(self.answer)):
+            yield self.words[0], each
+        for line in self.script.decode().splitlines():
+            for option in options:
+                yield f"debug> {line.split()[0]}", option
+
+
+def opcodes_of(data: bytes) -> Iterator[str]:
+    """The names of the opcodes, as far as Python reads pickles one behind another."""
+    at = 0
+    try:
+        while at < len(data):
+            for opcode, _, last in pickletools.genops(data[at:]):
+                yield opcode.name
+            at += (last or 0) + 1
+    except Exception:  # (whatever a line of an argument is taken for)
+        return
+
+
+def rows() -> Iterator[RowRun]:
+    """The runs of all rows, in their order."""
+    for table in TABLES:
+        for block in blocks_of((HERE / table).read_text("utf-8")):
+            for words, script, answer in runs_of(block):
+                yield RowRun(tuple(words), block.pickle, script, "\n".join(answer))
+
+
+def sample_of(runs: Iterable[RowRun]) -> list[RowRun]:
+    """Those of the runs that meet something for the first time."""
+    known: set[tuple[str, str]] = set()
+    chosen = []
+    for row in runs:
+        met = set(row.met())
+        if not met <= known:
+            known |= met
+            chosen.append(row)
+    return chosen
+
+
+def named(root: Path) -> set[tuple[str, str]]:
+    """What a sample has to meet: each opcode that Python has, each code of docs/CODES.md, each word of the debugger, and each option of each word."""
+    codes = re.findall(r"(?m)^- \*\*([A-Z]\d+)\b", (root / "docs/CODES.md").read_text("utf-8"))
+    met = {("", name) for name in (*(opcode.name for opcode in pickletools.opcodes), *codes) if name not in TOO_LARGE}
+    pages = {word: (root / f"python/picklestep/help/{word}.txt").read_text("utf-8") for word in WORDS}
+    for word, page in pages.items():
+        met |= {(word, option) for option in re.findall(r"(?m)^  (--[a-z]+)", page) if option != "--save"}
+    lines = re.findall(r"(?m)^  ([a-z].*?)(?:   .*)?$", pages["debug"])
+    return met | {(f"debug> {name}", "") for line in lines for name in re.findall(r"\b[a-z]+\b", line)}
+
+
+def fault_of_sample(root: Path) -> str:
+    """What the pages name and the sample does not meet, or what a row meets and the sample does not."""
+    every = list(rows())
+    chosen = {pair for row in sample_of(every) for pair in row.met()}
+    lacking = {pair for row in every for pair in row.met()} - chosen
+    lacking |= named(root) - chosen - {("", what) for _, what in chosen}
+    return f"no run of the sample meets {', '.join(' '.join(pair).strip() for pair in sorted(lacking))}" if lacking else ""

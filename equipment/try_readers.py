@@ -1,0 +1,184 @@
+"""Has the unpicklers of each Python that is there load from all that programs load from: bytes, files, gzip, zip, sockets, and reads that come short.
+
+Each act has to have its line, but for two kinds that docs/LOADERS.md names, which are counted: from a file that shows some bytes ahead, where
+`calls` ends at a frame; and from reads that come short, in Python's unpickler. The Pythons are the one that runs this and, where the environment
+variable PYTHONS names a folder, all in it from 3.8 on (as pyenv has them: FOLDER/VERSION/bin/python3). How many lines are noticed when
+they are taken away is tried too: of a check that sees nothing no one would hear.
+
+    python3 -B try_readers.py PROGRAM SEED COUNT    other cases than the gate has, in all these Pythons
+"""
+
+from __future__ import annotations
+
+import collections
+import functools
+import json
+import os
+import pathlib
+import random
+import re
+import subprocess
+import sys
+import tempfile
+from collections.abc import Callable, Iterator, Sequence
+from dataclasses import dataclass, field
+from typing import Any
+
+import load_cases
+from load_readers import CUT_SHORT, SHOW_SOME
+from loads import BUFFERED, HELD, MOST_SHOWN, ROOT, SEED, Loads, matched, old_names, without_line
+from picklestep.answers import Calls
+from trials.trial import Noted, Trial
+
+COUNT = 600
+FIRST = (3, 8)
+# Where a frame may be crossed or left early: from a file that shows some bytes ahead a loader may then do what no line shows.
+AT_FRAMES = ("F3", "F6", "F7", "F8", "U1", "U2")
+# Of 100 lines that are taken away so many are noticed. (The rest are those of what has no effect that an unpickler notes: nothing is filled in.)
+NOTICED = 98
+LINES = 400
+Acts = Sequence[Sequence[Any]]
+
+
+@dataclass(frozen=True)
+class Kind:
+    """Some of the cases: which share they are, and the options of load_worker.py and of `calls`."""
+
+    share: float
+    make: Callable[[int, int, Sequence[bytes]], Iterator[bytes]]
+    options: tuple[str, ...] = ()
+
+    def words(self) -> list[str]:
+        return ["--memo", "kept"] if "--one" in self.options else []
+
+
+KINDS = {
+    "singles": Kind(0.3, load_cases.singles),
+    "strings as bytes": Kind(0.1, lambda seed, count, real: load_cases.singles(seed + 1, count, real), ("--bytes",)),
+    "rows": Kind(0.15, lambda seed, count, real: load_cases.rows(seed, count)),
+    "one unpickler": Kind(0.15, lambda seed, count, real: load_cases.rows(seed + 1, count), ("--one",)),
+    "wide": Kind(0.1, lambda seed, count, real: load_cases.wide(seed, count)),
+    "mixed": Kind(0.2, lambda seed, count, real: load_cases.mixed(seed, count)),
+}
+
+
+def version_of(python: str) -> tuple[int, ...]:
+    """The version of a Python, or nothing where it is none."""
+    words = [python, "-c", "import sys; print(*sys.version_info[:3])"]
+    try:
+        done = subprocess.run(words, capture_output=True, text=True, check=False, timeout=60)
+    except OSError:
+        return ()
+    return tuple(map(int, done.stdout.split())) if done.returncode == 0 else ()
+
+
+def pythons() -> dict[str, str]:
+    """The Pythons that are there, by their versions."""
+    folder = os.environ.get("PYTHONS")
+    others = sorted(pathlib.Path(folder).glob("*/bin/python3")) if folder else []
+    versions = {sys.executable: tuple(sys.version_info[:3]), **{str(path): version_of(str(path)) for path in others}}
+    ordered = sorted((version, path) for path, version in versions.items() if version >= FIRST)
+    return {".".join(map(str, version)): path for version, path in ordered}
+
+
+def is_known(reader: str, text: str) -> str:
+    """The kind of act without a line that the pages name, or an empty text where they name none."""
+    answer = Calls(text)
+    is_at_frame = answer.end.code in AT_FRAMES or "unsure: U2 " in text or any(part.heading in (BUFFERED, HELD) for part in answer.parts)
+    if reader in SHOW_SOME and is_at_frame:
+        return "mixes of frames"
+    return "short reads" if reader == CUT_SHORT else ""
+
+
+@dataclass
+class Tally:
+    loads: int = 0
+    acts: int = 0
+    known: collections.Counter[str] = field(default_factory=collections.Counter)
+    found: list[str] = field(default_factory=list)
+
+    def add(self, text: str, loads: Sequence[tuple[str, Acts]], case: bytes) -> None:
+        """Judges what the readers do with one case. Most do the same."""
+        judged: dict[str, str] = {}
+        for reader, acts in loads:
+            self.loads, self.acts = self.loads + 1, self.acts + len(acts)
+            key = json.dumps(acts)
+            if key not in judged:
+                judged[key] = without_line(text, acts) if text else "the program gives no answer"
+            known = is_known(reader, text) if judged[key] and text else ""
+            if known:
+                self.known[known] += 1
+            elif judged[key]:
+                self.found.append(f"{reader}: {judged[key]}: {case.hex()[:6000]}")
+
+
+def try_python(loads: Loads, version: str, python: str, seed: int, count: int, real: Sequence[bytes]) -> Noted:
+    """All readers of one Python."""
+    loads.folder.mkdir(parents=True, exist_ok=True)
+    tally = Tally()
+    cases = 0
+    for name, kind in KINDS.items():
+        given = list(kind.make(seed, round(count * kind.share), real))
+        cases += len(given)
+        for case, done in zip(given, loads.done(f"readers {version} {name}", given, ["--all", *kind.options], python)):
+            tally.add(loads.text(case, kind.words()), done, case)
+    shown = "; ".join(sorted(tally.found, key=len)[:MOST_SHOWN])
+    why = f"{len(tally.found)} differences, first {shown}" if tally.found else ""
+    # (A trial that never meets a mix would not see one that is new.)
+    why = why or "; ".join(f"no case has {what}" for what in ("mixes of frames", "short reads") if count >= COUNT and not tally.known[what])
+    known = ", ".join(f"{number} with {what}" for what, number in sorted(tally.known.items()))
+    return Noted(why, f": {cases} cases, {tally.loads} loads, {tally.acts} acts; without a line, as the pages say: {known or 'none'}")
+
+
+def _without(text: str, offset: int, line: str) -> str:
+    """A text without the lines of this opcode that say this."""
+    begin = re.compile(rf" *{offset}: ")
+    return "\n".join(each for each in text.split("\n") if not (begin.match(each) and each.endswith(line)))
+
+
+def try_noticed(loads: Loads, real: Sequence[bytes]) -> Noted:
+    """How many lines are noticed when they are taken away."""
+    loads.folder.mkdir(parents=True, exist_ok=True)
+    chance = random.Random(f"lines {SEED}")
+    cases = [*load_cases.singles(SEED, LINES, real)]
+    tried = 0
+    missed: list[str] = []
+    for case, done in zip(cases, loads.done("noticed", cases, [])):
+        text = loads.text(case, [])
+        acts: Acts = chance.choice(done)[1]
+        why, lines = matched(text, acts) if text else ("no answer", [])
+        if why or not acts:
+            continue
+        gone = chance.choice(lines).reach
+        tried += 1
+        if not without_line(_without(text, gone.offset, gone.text), acts):
+            missed.append(f"{gone.text}: {case.hex()[:400]}")
+    noticed = tried - len(missed)
+    why = "" if noticed * 100 >= tried * NOTICED > 0 else f"too few: {'; '.join(sorted(missed, key=len)[:MOST_SHOWN])}"
+    return Noted(why, f": {noticed} of {tried}")
+
+
+def trials(loads: Loads, pickles: pathlib.Path) -> list[Trial]:
+    real = [path.read_bytes() for path in sorted(pickles.glob("*.pickle"))]
+    made = [Trial("a line that is taken away is noticed", functools.partial(try_noticed, loads, real))]
+    for version, python in pythons().items():
+        made.append(Trial(f"all readers of Python {version}", functools.partial(try_python, loads, version, python, SEED, COUNT, real)))
+        if python != sys.executable:  # (of that one loads.py tries the names)
+            made.append(Trial(f"names of Python 2 in Python {version}", functools.partial(old_names, python)))
+    return made
+
+
+def main(program: str, seed: int, count: int) -> int:
+    """Tries other cases: the status is 1 where an act has no line."""
+    real = [path.read_bytes() for path in sorted((ROOT / "crates/real_pickles/data").glob("*.pickle"))]
+    is_right = True
+    with tempfile.TemporaryDirectory() as folder:
+        for version, python in pythons().items():
+            noted = try_python(Loads(program, pathlib.Path(folder)), version, python, seed, count, real)
+            print(f"{version}{noted.note} {noted.why}", flush=True)
+            is_right = is_right and not noted.why
+    return 0 if is_right else 1
+
+
+if __name__ == "__main__":
+    sys.exit(main(sys.argv[1], int(sys.argv[2]), int(sys.argv[3])))
