@@ -17,7 +17,7 @@ choose_program() {
     chosen=$package/bin/picklestep
     [ ! -e "$chosen" ] || return 0
     chosen=$chosen.mjs # (the module)
-    { command -v node || command -v python3; } >/dev/null && return
+    command -v node >/dev/null && return
     echo 'picklestep: the program is a module, which runs with Node 20 or later on the path (https://nodejs.org)' >&2
     return 1
 }

@@ -32,7 +32,8 @@ def main(words: List[str]) -> int:
     is_watched = words[0] == 'calls'
     try:
         command = [*program_words(find_program()), *words]
-        process = subprocess.Popen(command, env=environment, stdout=subprocess.PIPE if is_watched else None)
+        # (A file may be one that the shell has opened, as in `<(..)`: it stays open for the program.)
+        process = subprocess.Popen(command, env=environment, stdout=subprocess.PIPE if is_watched else None, close_fds=False)
     except PicklestepError as error:
         return _complain(reason(error))
     except OSError as error:

@@ -249,7 +249,7 @@ def run() -> None:
 
 
 def run_scan() -> None:
-    """The entry point of pip's `picklestep-scan`, the older name of `picklestep scan`."""
+    """The entry point of pip's `picklestep-scan`, which does the same as `picklestep scan`."""
     _open_streams()
     sys.exit(_finish(['scan', *sys.argv[1:]]))
 

@@ -15,8 +15,9 @@ FRAME = 'what is in that frame is not read: `picklestep {} --unframed FILE` does
 OF_FRAMES = ('F6', 'F7', 'F8')
 # joblib goes on by itself where such an object gets its state: it reads an array, whose numbers are no opcodes.
 _WRAPPER = 'NumpyArrayWrapper'
-# A line of `calls` that makes one, or gets its class, and one that gives an object its state.
-_MADE = re.compile(rf"^ *[0-9]+: (?!import )[a-z]+ .*{_WRAPPER}'.* as #([0-9]+)$", re.MULTILINE)
+# A line of `calls` that makes one, or gets its class, and one that gives an object its state. (A line with --full may have the name a hundred
+# thousand times: it is looked for once.)
+_MADE = re.compile(rf"^ *[0-9]+: (?!import )[a-z]+ (?=.*{_WRAPPER}').* as #([0-9]+)$", re.MULTILINE)
 _STATE = re.compile(r'^ *([0-9]+): state .* to #([0-9]+)$', re.MULTILINE)
 _FAULT = 'fault: F'
 _ENDED = re.compile(rf'^fault: ({"|".join(OF_FRAMES)}) ', re.MULTILINE)

@@ -1,7 +1,6 @@
 """Where the proved program is. This imports only what an interpreter has loaded when it starts, since the entrance uses it."""
 
 import os
-import sys
 
 __all__ = ['NOT_FOR_NODE', 'commit', 'files_of', 'find_library', 'find_program', 'is_module', 'node_path', 'on_path', 'program_words', 'toolchain_of']
 
@@ -10,9 +9,9 @@ _HERE = os.path.dirname(os.path.realpath(__file__))
 _FOLDERS = {('Linux', 'x86_64'): 'linux-x86_64-static', ('Linux', 'aarch64'): 'linux-aarch64'}
 # Among the released programs, the folder that has the name of the toolchain that built all of them.
 _BUILT = 'linux-x86_64'
-# What runs on any machine where there is Node: it starts the module beside it. The package `wasmtime` starts the module itself.
+# What runs on any machine where there is Node: it starts the module, which lies beside it.
 _MODULE = 'picklestep.mjs'
-_FOR_WASMTIME = 'picklestep.wasm'
+_STARTED = 'picklestep.wasm'
 _LIBRARY = 'libpicklestep.so'
 _MODULE_OF_LIBRARY = 'libpicklestep.wasm'
 # What Node does not get of the environment: certificates, which it reads longer than all the rest of its start takes, and options, with which
@@ -24,7 +23,7 @@ def find_program() -> str:
     """The path of the program: PICKLESTEP_PROGRAM, else the package's own copy, else that of the source tree.
 
     There it is the newer one of the program that was built and of the released one for this machine. Where there is none it is the start of
-    the module, if Node or the package wasmtime is there to run it. Raises ProgramError where nothing runs on this machine.
+    the module, if Node is there to run it. Raises ProgramError where nothing runs on this machine.
     """
     named = os.environ.get('PICKLESTEP_PROGRAM')
     if named:
@@ -45,17 +44,13 @@ def find_program() -> str:
 
 
 def program_words(program: str) -> 'list[str]':
-    """The words that start a program: where it is the module, Node or else the package wasmtime starts it. Raises ProgramError where neither is
-    there."""
+    """The words that start a program: where it is the module, Node starts it. Raises ProgramError where Node is not there."""
     if not is_module(program):
         return [program]
     node = node_path()
-    if node is not None:
-        return [node, program]
-    folder = _wasmtime_folder()
-    if folder is not None:
-        return [sys.executable, '-I', os.path.join(_HERE, 'in_wasmtime.py'), folder, files_of(program)[-1]]
-    raise _no_program('its module runs with Node 20 or later on the path (https://nodejs.org) or with the Python package wasmtime')
+    if node is None:
+        raise _no_program('its module runs with Node 20 or later on the path (https://nodejs.org)')
+    return [node, program]
 
 
 def _no_program(way: str) -> Exception:
@@ -66,11 +61,11 @@ def _no_program(way: str) -> Exception:
 
 def files_of(program: str) -> 'list[str]':
     """The files that a program is: where it is the module, its start and the module itself."""
-    return [program, os.path.join(os.path.dirname(program), _FOR_WASMTIME)] if is_module(program) else [program]
+    return [program, os.path.join(os.path.dirname(program), _STARTED)] if is_module(program) else [program]
 
 
 def is_module(program: str) -> bool:
-    """Whether a program is the module, which Node or wasmtime starts."""
+    """Whether a program is the module, which Node starts."""
     return program.endswith('.mjs')
 
 
@@ -108,14 +103,6 @@ def on_path(name: str) -> 'str | None':
         path = os.path.join(folder, name)
         if os.path.isabs(path) and os.access(path, os.X_OK):
             return path
-    return None
-
-
-def _wasmtime_folder() -> 'str | None':
-    """Where the package wasmtime is, if this interpreter has it. (The current folder does not count: it may be from elsewhere.)"""
-    for folder in sys.path:
-        if os.path.isabs(folder) and os.path.isfile(os.path.join(folder, 'wasmtime', '__init__.py')) and not os.path.samefile(folder, '.'):
-            return folder
     return None
 
 

@@ -8,7 +8,7 @@ When the interpreter is gone, its end is closed, and the system then sends the p
 thread, and unlike PR_SET_PDEATHSIG it does not end a session when the thread that opened it is done. (Only Linux does that. Elsewhere a
 program ends when its input or its output is closed.)
 
-The module is limited by what starts it (`picklestep.mjs` or `in_wasmtime.py`), to which the limit is given by the environment.
+The module is limited by what starts it (`picklestep.mjs`), to which the limit is given by the environment.
 """
 
 from __future__ import annotations

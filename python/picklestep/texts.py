@@ -733,17 +733,21 @@ def filled_in(text: str, start: int, end: int) -> Optional[Tuple[int, str]]:
 _GIVERS = {('copyreg', '__newobj__'): ('new', 0), ('copyreg', '__newobj_ex__'): ('new', 0), ('copyreg', '_reconstructor'): ('call', 1),
            ('numpy.random._pickle', '__bit_generator_ctor'): ('call', 0), ('numpy.random._pickle', '__generator_ctor'): ('call', 1),
            ('numpy.random._pickle', '__randomstate_ctor'): ('call', 1), ('torch._tensor', '_rebuild_from_type_v2'): ('call', 0)}
-_SIGNS_OF_GIVERS = ("'copyreg' '_", "_ctor' (", "'_rebuild_from_type_v2' (")
-_GIVING = re.compile(rf"^ *([0-9]+): (call '({'|'.join({re.escape(module) for module, _ in _GIVERS})})' '(\w+)' \((.*)\) as #[0-9]+)$", re.MULTILINE)
+_SIGNS_OF_GIVERS = ("'copyreg' '_", "_ctor' ", "'_rebuild_from_type_v2' ")
+# (INST calls as well. The arguments are no tuple but an object where a call made it.)
+_GIVING = re.compile(rf"^ *([0-9]+): ((?:call|inst) '({'|'.join({re.escape(module) for module, _ in _GIVERS})})' '(\w+)'(?: for {_QUOTED} {_QUOTED})? "
+                     r'(?:\((.*)\)|#[0-9]+) as #[0-9]+)$', re.MULTILINE)
 _GLOBAL = rf'global ({_QUOTED} {_QUOTED})'
-_UNIT = rf"(?:[a-z-]+ )?(?:{_QUOTED}(?: {_QUOTED})?|[^ ,']+)"
+# (The number says how many bytes of a text are left out.)
+_UNIT = rf"(?:[a-z-]+ )?(?:{_QUOTED}(?:\+[0-9]+| {_QUOTED})?|[^ ,']+)"
 _GIVEN = (re.compile(_GLOBAL), re.compile(rf'{_UNIT}, {_GLOBAL}'))
 # The first base of an object that is made so is this one, or another of Python's own.
 _OWN = "'builtins' "
 
 
 def given_in(text: str, start: int, end: int) -> Iterator[Tuple[int, str, str, str]]:
-    """What lines call through something that calls what it is given: the offset, the line, what is done, and the name in quotes.
+    """What lines call through something that calls what it is given: the offset, the line, what is done, and the name in quotes. The name is
+    empty where a call made the arguments, so that they are not shown.
 
     >>> line = "9: call 'copyreg' '__newobj__' (global 'a' 'B') as #5\\n"
     >>> list(given_in(line, 0, len(line)))
@@ -754,9 +758,11 @@ def given_in(text: str, start: int, end: int) -> Iterator[Tuple[int, str, str, s
     for match in _GIVING.finditer(text, start, end):
         offset, said, module, name, arguments = match.groups()
         what, at = _GIVERS.get((module, name), ('', 0))
-        found = _GIVEN[at].match(arguments) if what else None
+        found = _GIVEN[at].match(arguments or '') if what else None
         if found is not None and not found[1].startswith(_OWN):
             yield int(offset), said, what, found[1]
+        elif what and arguments is None:
+            yield int(offset), said, what, ''
 
 
 def made_by(text: str) -> Optional[int]:

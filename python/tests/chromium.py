@@ -87,7 +87,26 @@ class BrowserError(Exception):
     """What the browser could not do."""
 
 
-class Browser:
+class Page:
+    """What tests ask of a page, whatever browser shows it."""
+
+    def js(self, text: str) -> Any:
+        """The value of an expression on the page, which may be a promise."""
+        raise NotImplementedError
+
+    def wait(self, text: str, seconds: float = 100) -> Any:
+        """Waits until an expression is true, and answers it."""
+        deadline = time.monotonic() + seconds
+        while True:
+            value = self.js(text)
+            if value:
+                return value
+            if time.monotonic() > deadline:
+                raise BrowserError(f'never true: {text}; the page says {self.js("document.body.innerText.slice(0, 400)")!r}')
+            time.sleep(0.02)
+
+
+class Browser(Page):
     """A browser with one page."""
 
     def __init__(self, width: int = 1280, height: int = 800) -> None:
@@ -155,22 +174,10 @@ class Browser:
         self.call('Page.navigate', url=address)
 
     def js(self, text: str) -> Any:
-        """The value of an expression on the page, which may be a promise."""
         answer = self.call('Runtime.evaluate', expression=text, returnByValue=True, awaitPromise=True)
         if 'exceptionDetails' in answer:
             raise BrowserError(str(answer['exceptionDetails'].get('exception', {}).get('description', answer)))
         return answer['result'].get('value')
-
-    def wait(self, text: str, seconds: float = 100) -> Any:
-        """Waits until an expression is true, and answers it."""
-        deadline = time.monotonic() + seconds
-        while True:
-            value = self.js(text)
-            if value:
-                return value
-            if time.monotonic() > deadline:
-                raise BrowserError(f'never true: {text}; the page says {self.js("document.body.innerText.slice(0, 400)")!r}')
-            time.sleep(0.02)
 
     def key(self, key: str) -> None:
         """Presses a key."""

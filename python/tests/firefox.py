@@ -17,7 +17,7 @@ import time
 from pathlib import Path
 from typing import Any, Dict, List
 
-from chromium import BrowserError
+from chromium import BrowserError, Page
 
 PROGRAM = next((path for path in map(shutil.which, ('firefox-esr', 'firefox')) if path), None)
 KEYS = {'ArrowRight': '\ue014', 'ArrowLeft': '\ue012', 'ArrowDown': '\ue015', 'ArrowUp': '\ue013', 'Home': '\ue011', 'End': '\ue010',
@@ -75,7 +75,7 @@ def _masked_size(size: int) -> bytes:
     return struct.pack('>BH', 0xfe, size) if size < 1 << 16 else struct.pack('>BQ', 0xff, size)
 
 
-class Firefox:
+class Firefox(Page):
     """A browser with one page, which is asked as the Chromium of the other tests is."""
 
     def __init__(self, width: int = 1280, height: int = 800) -> None:
@@ -128,23 +128,11 @@ class Firefox:
         self.call('browsingContext.navigate', context=self._page, url=address, wait='complete')
 
     def js(self, text: str) -> Any:
-        """The value of an expression on the page, which may be a promise."""
         answer = self.call('script.evaluate', expression=f'(async () => JSON.stringify((await ({text})) ?? null))()', awaitPromise=True,
                            target={'context': self._page})
         if answer['type'] == 'exception':
             raise BrowserError(answer['exceptionDetails']['text'])
         return json.loads(answer['result']['value'])
-
-    def wait(self, text: str, seconds: float = 100) -> Any:
-        """Waits until an expression is true, and answers it."""
-        deadline = time.monotonic() + seconds
-        while True:
-            value = self.js(text)
-            if value:
-                return value
-            if time.monotonic() > deadline:
-                raise BrowserError(f'never true: {text}; the page says {self.js("document.body.innerText.slice(0, 400)")!r}')
-            time.sleep(0.02)
 
     def key(self, key: str) -> None:
         """Presses a key."""

@@ -8,20 +8,24 @@ from __future__ import annotations
 import base64
 import contextlib
 import io
+import os
 import pickle
+import subprocess
+import time
 import unittest
 from typing import List
 
 import picklestep
-from chromium import PROGRAM, Browser
 from picklestep import scan
-from picklestep.place import find_program
+from picklestep.hints import Watch
+from picklestep.place import find_program, is_module
 from picklestep.shell.shell import Shell
 from picklestep.view import main as view
 from picklestep.view.document import Document
 from pickles import REAL, chosen, known_opcodes
+from scan_support import environment
 from test_entrance import EntranceCase, ways
-from test_view_alone import MODELS, Driven
+from test_view_alone import MODELS, InChromium
 
 ARRAYS = (MODELS / 'joblib_arrays.joblib').read_bytes()
 # joblib 1.2: dump([numpy.arange(5.0), Computed()]), where the second is reduced to eval('1 + 1').
@@ -63,6 +67,13 @@ class Answers(unittest.TestCase):
         answer = picklestep.calls(SWALLOWED)
         self.assertEqual((answer.calls, answer.end.how, answer.array_at), (2, 'stopped', len(_WRAPPER)))
         self.assertEqual([picklestep.calls(data + b'\x01').array_at for data in OF_CLASS], list(map(len, OF_CLASS)))
+
+    def test_a_line_with_the_name_again_and_again(self) -> None:
+        """It takes the time of a line without it: it was tried from each of them on."""
+        watch, begin = Watch(), time.process_time()
+        watch.feed(f"9: state ({', '.join([repr('NumpyArrayWrapper')] * 20_000)}) to #2\n")
+        self.assertEqual((watch.hints, watch.array_at), ((), None))
+        self.assertLess(time.process_time() - begin, 3)
 
     def test_frames(self) -> None:
         self.assertEqual(picklestep.calls(CUT).end.code, 'F7')
@@ -144,6 +155,19 @@ class Entrance(EntranceCase):
                     self.assertEqual(len(run.stderr.splitlines()), int(bool(said)), run.stderr)
                     self.assertIn(said, run.stderr)
 
+    @unittest.skipIf(os.name == 'nt' or is_module(find_program()), 'files by descriptors are opened by the program itself')
+    def test_what_the_shell_has_opened(self) -> None:
+        """As in `picklestep calls <(..)`."""
+        with open(self.file('a.pkl', pickle.dumps(print, 4)), 'rb') as file:
+            for words in (['calls'], ['list', '--']):
+                path = f'/dev/fd/{file.fileno()}'
+                alone = subprocess.run([find_program(), *words, path], pass_fds=[file.fileno()], capture_output=True, check=True)
+                for way, entrance in ways().items():
+                    with self.subTest((way, words)):
+                        run = subprocess.run([*entrance, *words, path], cwd=self.folder, env=environment(), pass_fds=[file.fileno()], capture_output=True,
+                                             check=False)
+                        self.assertEqual((run.returncode, run.stdout), (0, alone.stdout), run.stderr)
+
     def test_other_words_say_what_the_program_says(self) -> None:
         self.file('a.joblib', HIDDEN)
         for word in ('list', 'objects', 'debug'):
@@ -153,17 +177,8 @@ class Entrance(EntranceCase):
                 self.assertEqual((run.returncode, run.stdout, run.stderr), (alone.returncode, alone.stdout, alone.stderr), (way, word))
 
 
-@unittest.skipIf(PROGRAM is None, "there is no Chromium: Debian's chromium has it")
-class InThePage(Driven):
+class InThePage(InChromium):
     """The page without a server says the same as the page with one, and writes the same source."""
-
-    browser: Browser
-
-    @classmethod
-    def setUpClass(cls) -> None:
-        cls.browser = Browser(1200, 800)
-        cls.browser.call('Network.enable')
-        cls.addClassCleanup(cls.browser.close)
 
     def test_what_is_said(self) -> None:
         self.load()

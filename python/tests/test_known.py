@@ -7,6 +7,7 @@ import bz2
 import gzip
 import io
 import json
+import pickle
 import tarfile
 import unittest
 import zipfile
@@ -17,6 +18,7 @@ from picklestep.scan import Judge, Options, look
 from picklestep.scan.known import known_names
 from picklestep.scan.looking import look_at_bytes
 from picklestep.scan.names import Names
+from picklestep.scan.results import from_json, to_json
 from scan_support import HARMLESS, HOSTILE, MODELS, ScanCase
 
 DATA = MODELS.parent
@@ -60,6 +62,17 @@ def array(data: bytes) -> bytes:
     return b'\x93NUMPY\x01\x00' + len(header).to_bytes(2, 'little') + header + data
 
 
+class Outer:
+    """A class with others in it."""
+
+    class Inner:
+        def method(self) -> None:
+            """Does nothing."""
+
+    class _Hidden:
+        pass
+
+
 SHELL = called('os', 'system', 'id') + b'.'
 FILES: Dict[str, bytes] = {
     # by each opcode that calls
@@ -96,6 +109,54 @@ FILES: Dict[str, bytes] = {
     'gzip': gzip.compress(SHELL), 'zip': zipped(**{'archive/data.pkl': SHELL}), 'tar': tarred(bz2.compress(SHELL)), 'npy': array(SHELL),
 }
 
+# A pickle that reaches the unpickler that loads it: real unpicklers called `os.getpid` by each, and `calls` has no line of that call, or one
+# with another name.
+TURNED = b'KN' + b'cpickle\n_Unpickler.load_stack_global\nsK\x88cpickle\n_Unpickler.load_reduce\ns' + text('os') + text('getpid') + b'N)\x88.'
+OTHER = b'C\x0fcos\ngetpid\nq\x00N.'
+REACHING: Dict[str, bytes] = {
+    # its table of opcodes, and that of joblib, from which it also takes what it puts in
+    'table': b'\x80\x04cpickle\n_Unpickler.dispatch\n' + TURNED,
+    'table of joblib': b'\x80\x04' + b''.join(part + b'cjoblib.numpy_pickle\nNumpyUnpickler.dispatch.__getitem__\nK' + code + b'\x85Rs' for part, code in (
+        (b'cjoblib.numpy_pickle\nNumpyUnpickler.dispatch\nKN', b'\x93'), (b'K\x88', b'R'))) + text('os') + text('getpid') + b'N)\x88.',
+    # its memo, among all objects
+    'memo': b'\x80\x04cjson\ndumps\nq\x000cgc\nget_objects\n)Rq\x010c_pickle\nUnpickler\ncio\nBytesIO\n' + OTHER + b'\x85R\x85Rq\x030'
+            + b'c_pickle\nUnpickler.load\nh\x03\x85R0' + called('operator', 'attrgetter', 'memo') + b'h\x03\x85Rq\x020coperator\ngetitem\nh\x01'
+            + b'coperator\nindexOf\ncbuiltins\nmap\ncbuiltins\ntype\nh\x01\x86Rc_pickle\nUnpickler\n\x86R\x86R' + b'N}' + text('memo') + b'h\x02s\x86bh\x00)R.',
+    # its stack, by a frame
+    'frame': b'\x80\x04csys\n_getframe\n)Rq\x000' + called('operator', 'attrgetter', 'f_locals') + b'h\x00\x85Rq\x010'
+             + called('operator', 'itemgetter', 'stack') + b'h\x01\x85Rq\x020cos\ngetpid\nq\x030cjson\ndumps\nh\x02K\x00h\x03s0)R.',
+    # its file: three bytes are skipped, so what is in a BINBYTES is read as opcodes
+    'file': b'\x80\x04cos\nlseek\nK\x03K\x03K\x01\x87R0C\x10cos\ngetpid\n)R0N.0N.',
+}
+# The names of the list in docs/LOADERS.md, and what others call the same.
+NAMES_THAT_REACH = (
+    'pickle._Unpickler pickle._Unpickler.dispatch pickle._Unframer pickle._Unframer.load_frame pickle.Unpickler pickle.Unpickler.load _pickle.Unpickler '
+    '_pickle.UnpicklerMemoProxy _pickle.load _pickle.loads joblib.numpy_pickle.NumpyUnpickler joblib.numpy_pickle.NumpyUnpickler.dispatch '
+    'joblib.numpy_pickle_compat.ZipNumpyUnpickler dill._dill.Unpickler pandas.compat.pickle_compat.Unpickler '
+    'pandas.compat.pickle_compat.Unpickler.dispatch pandas.compat.pickle_compat._class_locations_map torch._weights_only_unpickler.Unpickler '
+    'torch._weights_only_unpickler.Unpickler.load gc.get_objects gc.get_referrers gc.get_referents sys._getframe sys._current_frames sys.settrace '
+    'sys.setprofile inspect.currentframe inspect.stack inspect.getouterframes traceback.walk_stack logging.currentframe '
+    'copyreg._extension_registry copyreg._inverted_registry copyreg._extension_cache sys.modules _compat_pickle.NAME_MAPPING '
+    '_compat_pickle.IMPORT_MAPPING json.__dict__ os.lseek os.dup2 os.read os.set_blocking io.FileIO io.open builtins.open ctypes.CDLL builtins.eval '
+    'builtins.exec').split()
+
+
+class Reaching(ScanCase):
+    """Pickles that change the unpickler that loads them, and the names by which one can."""
+
+    def test_each_is_marked_before_its_effect(self) -> None:
+        for name, content in REACHING.items():
+            with self.subTest(name):
+                result = self.look(f'{name}.bin', content)
+                self.assertTrue([each for each in Judge().looks(result) if each.rule == 'known'])
+                self.file('reaching.pkl', content)
+                self.assertEqual(self.scan('reaching.pkl').returncode, 1)
+                self.assertTrue(result.pickles[0].end.is_stopped, result.pickles[0].end)
+
+    def test_each_name_is_marked(self) -> None:
+        for name in NAMES_THAT_REACH:
+            self.assertIsNotNone(Judge().mark(name), name)
+
 
 class Hostile(ScanCase):
     """All of them, without any list."""
@@ -119,6 +180,33 @@ class Hostile(ScanCase):
                     with self.subTest(name, number=number, why=why):
                         told = [look.text for look in judge.looks(result)]
                         self.assertTrue([text for text in told if text.startswith("import 'lib-dynload._ctypes' 'dlopen' once") and why in text], told)
+
+    def test_members_that_go_through_a_module(self) -> None:
+        """Modules that others import are marked by rule. What picklers write with a point, such as a class in a class, is not."""
+        for module, member, why in (
+                ('sklearn.base', 'np.load', 'goes through np'), ('torch.nn.modules.module', 'torch.load', 'goes through torch'),
+                ('sklearn.base', 'np', 'the module np'), ('inspect', 'os', 'the module os'), ('xml.sax.saxutils', 'io.open', ''),
+                ('app.models', 'Model.np.load', 'goes through np'), ('app.models', '_net.run', 'goes through _net'), ('app', 'PIL.x', 'goes through PIL'),
+                ('app', '_np', 'the module np'), ('app', '__loader__.x', ''), ('app', 'instance.method', 'goes through instance')):
+            with self.subTest(member, module=module):
+                result = look_at_bytes('a.pkl', b'\x80\x04' + by_text(module, member, 'a') + b'.')
+                for judge in (Judge(), Judge(Names([f'{module}.**', 'app.*.*'])), Judge(Names(['collections.*']))):
+                    told = [look.text for look in judge.looks(result)]
+                    self.assertTrue([text for text in told if text.startswith(f'import {module}.{member} once') and why in text], told)
+                for judge in (Judge(Names([f'{module}.{member}'])), Judge(Names(['**'])), Judge(with_known=False)):
+                    self.assertEqual([look for look in judge.looks(result) if look.name], [])
+
+    def test_members_that_picklers_write(self) -> None:
+        for value in (Outer.Inner, Outer.Inner(), Outer.Inner.method, Outer._Hidden):
+            result = look_at_bytes('a.pkl', pickle.dumps(value, 4))
+            self.assertTrue(result.pickles[0].imports[0].member.startswith('Outer.'))
+            self.assertEqual(from_json(json.loads(json.dumps(to_json(result)))), result)
+            self.assertEqual(list(Judge().looks(result)), [])
+            self.assertEqual(list(Judge(Names([f'{__name__}.Outer.*', f'{__name__}.Outer.*.*'])).looks(result)), [])
+        for name in ('PIL.Image.Image', 'datetime.datetime', 'numpy.random', 'array.array'):
+            self.assertIsNone(Judge().mark(name))
+        # (A class that begins with a small letter, of a set of the package.)
+        self.assertIsNone(Judge().mark('scipy.interpolate._interpolate.interp1d._call_linear', 'interp1d._call_linear'))
 
     def test_padding_behind_a_pickle_hides_nothing(self) -> None:
         for content in (HARMLESS + bytes(64) + SHELL, HARMLESS + SHELL, b'N.' * 64 + SHELL):

@@ -2,14 +2,17 @@
 
 from __future__ import annotations
 
+import io
 import os
+import pickle
 import random
 import re
 import stat
+import struct
 import unittest
 import unittest.mock
 from pathlib import Path
-from typing import Tuple
+from typing import Any, Tuple
 
 import picklestep
 from picklestep.scan import Judge, look_at_bytes, written
@@ -151,6 +154,54 @@ class Includes(ScanCase):
             self.assertEqual(self.scan(str(self.file('a.pkl', HARMLESS)), '--allow', 'ours').returncode, 1)
             with self.assertRaises(picklestep.NotAllowed):
                 picklestep.check(HARMLESS, allow=path)
+
+
+def _text(value: str) -> bytes:
+    return b'X' + struct.pack('<I', len(value)) + value.encode()
+
+
+_CTOR = b'cnumpy.random._pickle\n__randomstate_ctor\nq\x00'
+_PARTS = b''.join(_text(letter) + b'q' + bytes([key]) for key, letter in enumerate('bcde', 3))
+# Calls of what is only to be imported, through something that may be called: in all ways in which picklers write calls.
+THROUGH = {
+    'REDUCE': b'\x80\x02ccopyreg\n__newobj__\nq\x00ca\nX\nq\x01\x85q\x02Rq\x03.', 'INST': b'(ca\nX\np1\nicopyreg\n__newobj__\np2\n(dp3\nb.',
+    'INST of Python 2': b'(ca\nX\np0\nicopy_reg\n__newobj__\np1\n(dp2\nb.', 'OBJ': b'(ccopyreg\n__newobj__\nq\x00ca\nX\nq\x01oq\x02}q\x03b.',
+    'a text that is cut': b'\x80\x02' + _CTOR + _text('x' * 5000) + b'q\x01ca\nX\nq\x02\x86q\x03Rq\x04.',
+    'bytes that are cut': b'\x80\x03' + _CTOR + b'C\xc8' + bytes(200) + b'q\x01ca\nX\nq\x02\x86q\x03Rq\x04.',
+    'arguments that a call made': b'\x80\x02ccopyreg\n__newobj__\nq\x00curlparse\nSplitResult\nq\x01(ca\nX\nq\x02' + _PARTS + b'tq\x07\x81q\x08Rq\x09.',
+}
+
+
+class Recorder:
+    """What is only to be imported."""
+
+    made = 0
+
+    def __new__(cls, *words: object) -> Recorder:
+        cls.made += 1
+        return super().__new__(cls)
+
+
+class OfPython(pickle.Unpickler):
+    """Python's unpickler, with what numpy has under that name."""
+
+    def find_class(self, module: str, name: str) -> Any:
+        mine = {'X': Recorder, '__randomstate_ctor': lambda word, maker: maker(word)}
+        return mine[name] if name in mine else super().find_class(module, name)
+
+
+class Through(unittest.TestCase):
+    """What is allowed to be imported and no more is not called through something else."""
+
+    def test_each_way(self) -> None:
+        names = ['a.X:', 'copyreg.__newobj__: call', 'numpy.random._pickle.__randomstate_ctor: call', 'urllib.parse.SplitResult: new']
+        for way, content in THROUGH.items():
+            with self.subTest(way):
+                before = Recorder.made
+                OfPython(io.BytesIO(content)).load()
+                self.assertEqual(Recorder.made, before + 1)
+                looks = list(Judge(Names(names)).looks(look_at_bytes('a.pkl', content)))
+                self.assertEqual([each.rule for each in looks], ['odd' if 'made' in way else 'not-allowed-done'], looks)
 
 
 class Written(ScanCase):

@@ -1,13 +1,11 @@
 """The package where the system has less than Linux: it can be imported, and asks the program."""
 
 import hashlib
-import importlib.util
 import json
 import ntpath
 import os
 import shlex
 import shutil
-import signal
 import subprocess
 import sys
 import tempfile
@@ -16,7 +14,7 @@ from pathlib import Path
 from typing import Any, Tuple
 from unittest import mock
 
-from picklestep import in_wasmtime, place
+from picklestep import place
 from picklestep.errors import ProgramError
 
 TESTS = Path(__file__).resolve().parent
@@ -104,19 +102,7 @@ class OtherSystems(unittest.TestCase):
     def test_macos_has_less(self) -> None:
         self.assertEqual(self.lesser('macos'), SAID)
 
-    def over_wasmtime(self, *words: str) -> str:
-        """What it says where wasmtime starts the module: the package itself where it is installed, else what stands in for its interface."""
-        has = importlib.util.find_spec('wasmtime')
-        folder = str(TESTS / 'lesser/stand_in') if has is None or has.origin is None else str(Path(has.origin).parent.parent)
-        return asked(*words, PYTHONPATH=f'{PACKAGE}{os.pathsep}{folder}', PATH='/nowhere', PICKLESTEP_PROGRAM=str(MODULE),
-                     WASMTIME_STAND_IN=str(shutil.which('node')))
-
-    def test_wasmtime_runs_the_module(self) -> None:
-        self.assertEqual(self.over_wasmtime('-c', ASK), SAID)
-
     def test_a_saved_file_keeps_its_mode(self) -> None:
-        with tempfile.TemporaryDirectory() as folder:
-            self.assertEqual(self.over_wasmtime('-c', SAVE, folder), SAVED)
         with tempfile.TemporaryDirectory() as folder:
             self.assertEqual(asked('-c', SAVE, folder, PATH=os.environ['PATH'], PICKLESTEP_PROGRAM=str(MODULE)), SAVED)
 
@@ -138,17 +124,6 @@ class OtherSystems(unittest.TestCase):
             self.assertEqual(answer('\ufffd/a.pickle'.encode()), read)
             self.assertEqual(answer(b'a.pickle', b'\xff'), unread)
             self.assertEqual(answer(os.fsencode(folder) + '/\ufffd/a.pickle'.encode(), b'\xff'), read)
-
-    def test_ctrl_c_ends_what_wasmtime_runs(self) -> None:
-        command = [sys.executable, '-I', in_wasmtime.__file__, str(TESTS / 'lesser/stand_in'), str(MODULE)[:-3] + 'wasm', 'debug', str(MODULE)]
-        process = subprocess.Popen(command, stdin=subprocess.PIPE, stdout=subprocess.PIPE, stderr=subprocess.PIPE,
-                                   env={'WASMTIME_STAND_IN': str(shutil.which('node'))},
-                                   preexec_fn=lambda: signal.signal(signal.SIGINT, signal.default_int_handler) and None)
-        assert process.stdin is not None and process.stdout is not None
-        os.write(process.stdin.fileno(), b'where\n')
-        self.assertTrue(process.stdout.readline())
-        process.send_signal(signal.SIGINT)
-        self.assertEqual((process.communicate(timeout=120)[1], process.returncode), (b'', -signal.SIGINT))
 
     def test_options_of_node_are_not_for_the_module(self) -> None:
         settings = {'PATH': os.environ['PATH'], 'PICKLESTEP_PROGRAM': str(MODULE), 'NODE_OPTIONS': '--require ./gone.js'}
@@ -232,7 +207,6 @@ class Drives(unittest.TestCase):
 
     def test_each_is_on_its_drive(self) -> None:
         wanted = [[list(args), '/C:/Users/me', drives.split()] for _, args, drives in WORDS]
-        self.assertEqual([list(in_wasmtime.on_drives(list(words), HERE)) for words, *_ in WORDS], wanted)
         self.assertEqual(self.over_node(*((words, HERE) for words, *_ in WORDS)), wanted)
 
     def test_each_is_the_file_that_windows_takes(self) -> None:
@@ -251,10 +225,6 @@ class Drives(unittest.TestCase):
         asked_of = [(('list', path), HERE) for path in ON_NO_DRIVE] + [(('list', 'a.pickle'), path) for path in ON_NO_DRIVE[:-1]]
         said = [f'{path} does not begin at the root of a drive' for path in (*ON_NO_DRIVE, *ON_NO_DRIVE[:-1])]
         self.assertEqual(self.over_node(*asked_of), said)
-        for (words, folder), wanted in zip(asked_of, said):
-            with self.assertRaises(ValueError) as caught:
-                in_wasmtime.on_drives(list(words), folder)
-            self.assertEqual(str(caught.exception), wanted)
 
     def test_the_module_finds_them(self) -> None:
         """A pickle and holes on another drive than the current folder, and a file that is saved to a third."""
@@ -282,37 +252,6 @@ class ASmallerPython(unittest.TestCase):
         ask = ('import sys\nsys.modules["_ctypes"] = None\nimport picklestep\nfrom picklestep import library\n'
                'print(library.answer(["list"], b"N."), len(picklestep.listing(b"N.")))')
         self.assertEqual(asked('-c', ask, PICKLESTEP_PROGRAM=place.find_program()), 'None 2\n')
-
-
-class InWasmtime(unittest.TestCase):
-    """The start of the module by wasmtime."""
-
-    def test_links_that_begin_at_the_root_are_followed(self) -> None:
-        with tempfile.TemporaryDirectory() as name:
-            folder = os.path.realpath(name)
-            for part in ('real', 'debug', '3', 'kept'):
-                Path(folder, part).mkdir()
-            Path(folder, 'real/file').touch()
-            for link, to in (('near', f'{folder}/real'), ('far', f'{folder}/near/file'), ('new', f'{folder}/real/none'), ('in', '/dev/stdin')):
-                Path(folder, link).symlink_to(to)
-            here = os.getcwd()
-            self.addCleanup(os.chdir, here)
-            os.chdir(folder)
-            file, new = f'{folder}/real/file', f'{folder}/real/none'
-            for words, wanted in ((('debug', 'far', '--window', '3', '--save', 'new'), ('debug', file, '--window', '3', '--save', new)),
-                                  (('debug', '--save=near/none', 'near/file'), ('debug', f'--save={new}', file)),
-                                  (('calls', '--memo', 'kept', 'far', '--skip', '3:2', '--skip', '@far'),
-                                   ('calls', '--memo', 'kept', file, '--skip', '3:2', '--skip', f'@{file}')),
-                                  (('list', 'real/file'), ('list', 'real/file')), (('list', 'none'), ('list', 'none'))):
-                self.assertEqual(in_wasmtime.real_paths(list(words)), list(wanted))
-            os.chdir(here)
-
-    def test_what_does_not_run_is_no_answer(self) -> None:
-        """(Here there is no such package, or no such module.)"""
-        done = subprocess.run([sys.executable, '-I', in_wasmtime.__file__, '/nowhere', '/nowhere/none.wasm', 'list', 'none.pickle'],
-                              capture_output=True, text=True, check=False, timeout=120)
-        self.assertEqual((done.returncode, done.stdout), (2, ''))
-        self.assertRegex(done.stderr, '^picklestep: .')
 
 
 class WhichProgram(unittest.TestCase):
@@ -351,20 +290,7 @@ class WhichProgram(unittest.TestCase):
         with mock.patch('picklestep.place.node_path', return_value=None), self.assertRaises(ProgramError) as caught:
             self.found('Windows', 'AMD64')
         self.assertEqual(str(caught.exception), 'there is no program for this machine (Windows AMD64): its module runs with Node 20 or later on '
-                         'the path (https://nodejs.org) or with the Python package wasmtime')
-
-    def test_a_package_of_that_name_in_the_current_folder_is_not_taken(self) -> None:
-        with tempfile.TemporaryDirectory() as folder:
-            Path(folder, 'wasmtime').mkdir()
-            Path(folder, 'wasmtime/__init__.py').touch()
-            with mock.patch('picklestep.place.node_path', return_value=None), mock.patch.object(sys, 'path', [folder]):
-                words = place.program_words('/a/picklestep.mjs')
-                self.assertEqual((words[0], words[-2:]), (sys.executable, [folder, '/a/picklestep.wasm']))
-                here = os.getcwd()
-                self.addCleanup(os.chdir, here)
-                os.chdir(folder)
-                self.assertRaises(ProgramError, place.program_words, '/a/picklestep.mjs')
-                os.chdir(here)
+                         'the path (https://nodejs.org)')
 
 
 if __name__ == '__main__':

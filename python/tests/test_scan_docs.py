@@ -32,7 +32,7 @@ class Examples(ScanCase):
 
     def setUp(self) -> None:
         super().setUp()
-        for name in ('torch_state.pt', 'sklearn_forest.pkl', 'numpy_objects.npy', 'joblib_arrays.joblib'):
+        for name in ('torch_state.pt', 'torch_script.pt', 'sklearn_forest.pkl', 'numpy_objects.npy', 'joblib_arrays.joblib'):
             shutil.copy(MODELS / name, self.folder)
         self.file('hostile.pkl', HOSTILE)
         self.file('models/a.pt', (MODELS / 'torch_state.pt').read_bytes())

@@ -2,6 +2,7 @@
 
 from __future__ import annotations
 
+import dbm.dumb
 import errno
 import hashlib
 import io
@@ -13,13 +14,14 @@ import re
 import select
 import shutil
 import signal
+import sqlite3
 import subprocess
 import sys
 import time
 import unittest
 import unittest.mock
 from collections import OrderedDict
-from contextlib import redirect_stderr, redirect_stdout
+from contextlib import closing, redirect_stderr, redirect_stdout
 from pathlib import Path
 from typing import Callable, Dict, Iterator, List, Tuple
 
@@ -226,6 +228,33 @@ class Runs(RunCase):
         self.assertEqual(self.scan('a.pkl', '--json', '--resume', 'log').stdout, '')
         self.file('log', log.replace(hashlib.sha256(HARMLESS).hexdigest(), hashlib.sha256(HOSTILE).hexdigest()).encode())
         self.assertEqual(len(self.scan('a.pkl', '--json', '--resume', 'log').stdout.splitlines()), 1)
+
+    def test_what_is_beside_it_and_read_with_it(self) -> None:
+        """The index of `dbm.dumb` says which bytes are a value, and SQLite reads its log."""
+        content = b'\x80\x03C' + bytes([len(HOSTILE)]) + HOSTILE + b'q\0.'
+        self.file('files/a.dat', content)
+        self.file('files/a.dir', f"'k', (0, {len(content)})\n".encode())
+        with closing(sqlite3.connect(self.files / 'a.db')) as connection:
+            connection.execute('PRAGMA journal_mode=WAL')
+            connection.execute('CREATE TABLE a (b)')
+            connection.commit()
+        run = self.scan('files', '--json')
+        self.assertEqual(run.returncode, 0, run.stdout)
+        self.file('log', run.stdout.encode())
+        self.file('files/a.dir', f"'k', (4, {len(HOSTILE)})\n".encode())
+        with dbm.dumb.open(str(self.files / 'a'), 'r') as values:
+            self.assertEqual(values[b'k'], HOSTILE)
+        with closing(sqlite3.connect(self.files / 'a.db')) as connection:
+            connection.execute('PRAGMA wal_autocheckpoint=0')
+            connection.execute('INSERT INTO a VALUES (?)', (HOSTILE,))
+            connection.commit()
+            modified = {found['path']: found['modified'] for found in map(json.loads, (self.folder / 'log').read_text().splitlines())}
+            self.assertEqual(modified['files/a.db'], os.stat(self.files / 'a.db').st_mtime_ns)
+            run = self.scan('files', '--json', '--resume', 'log')
+        named = {found['path']: [each['name'] for each in found['looks']] for found in map(json.loads, run.stdout.splitlines())}
+        self.assertEqual(run.returncode, 1)
+        self.assertIn('posix.system', named['files/a.dat'])
+        self.assertIn('posix.system', named['files/a.db'])
 
     def test_a_log_that_is_none(self) -> None:
         """Its lines count as not there."""

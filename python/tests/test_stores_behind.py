@@ -6,7 +6,6 @@ import base64
 import gzip
 import io
 import lzma
-import sqlite3
 import time
 import unittest
 import zipfile
@@ -48,14 +47,7 @@ class Behind(ScanCase):
 
     def of_value(self, content: bytes) -> List[str]:
         """All that a value of a table imports."""
-        path = self.folder / 'value.db'
-        path.unlink(missing_ok=True)
-        connection = sqlite3.connect(path)
-        connection.execute('CREATE TABLE t (v BLOB)')
-        connection.execute('INSERT INTO t VALUES (?)', (content,))
-        connection.commit()
-        connection.close()
-        return names_of(look(str(path)))
+        return names_of(look(str(self.table_with(content))))
 
     def test_in_compressed_files(self) -> None:
         packers = {'plain': bytes, 'gz': gzip.compress, 'xz': lzma.compress, 'zlib': zlib.compress, 'zip': deflated_member}

@@ -2,6 +2,7 @@
 
 from __future__ import annotations
 
+import argparse
 import base64
 import bz2
 import contextlib
@@ -289,14 +290,7 @@ class Bytes(ScanCase):
 
     def look_in_value(self, value: bytes, options: Options = Options()) -> Result:
         """What is found in a value of a table."""
-        path = self.folder / 'value.db'
-        path.unlink(missing_ok=True)
-        connection = sqlite3.connect(path)
-        connection.execute('CREATE TABLE t (v BLOB)')
-        connection.execute('INSERT INTO t VALUES (?)', (value,))
-        connection.commit()
-        connection.close()
-        return self.look('copy.db', path.read_bytes(), options)
+        return self.look('copy.db', self.table_with(value).read_bytes(), options)
 
     def test_encodings(self) -> None:
         encoded = base64.b64encode(HOSTILE)
@@ -494,7 +488,8 @@ class Bytes(ScanCase):
 
     def test_everywhere_finds_nothing_by_chance(self) -> None:
         chosen = random.Random(11)
-        text = Path(__file__).read_bytes() * 40
+        # (This file itself has pickles as `repr` shows them, which are found.)
+        text = Path(argparse.__file__).read_bytes() * 12
         data = json.dumps([{'id': number, 'sum': chosen.randbytes(20).hex(), 'key': base64.b64encode(chosen.randbytes(24)).decode()}
                            for number in range(20_000)], indent=1).encode()
         for content in (chosen.randbytes(16 << 20), text, data):
@@ -656,7 +651,8 @@ class Bytes(ScanCase):
     def test_an_index_that_another_program_wrote(self) -> None:
         """Python's `dbm.dumb` reads these, too."""
         values = HARMLESS.ljust(512, b'\0') + HOSTILE
-        for line in ("'evil',(512,%d)", "'ev' 'il' , (512, %d)", "('evil', [0x200, %d])", " 'evil', (512, %d)\t"):
+        for line in ("'evil',(512,%d)", "'ev' 'il' , (512, %d)", "('evil', [0x200, %d])", " 'evil', (512, %d)\t",
+                     "{'evil': 1, (512, %d): 2}", "\f'evil', (512, %d)"):
             with self.subTest(line):
                 index = (line % len(HOSTILE)).encode()
                 for lines in (index + b'\n', b"'a', (0, 10)\r" + index):

@@ -6,7 +6,6 @@ import gzip
 import io
 import random
 import shutil
-import sqlite3
 import subprocess
 import unittest
 import zipfile
@@ -89,14 +88,7 @@ class Unread(ScanCase):
 
     def value(self, content: bytes) -> str:
         """What is told of a value of a table."""
-        path = self.folder / 'value.db'
-        path.unlink(missing_ok=True)
-        connection = sqlite3.connect(path)
-        connection.execute('CREATE TABLE t (v BLOB)')
-        connection.execute('INSERT INTO t VALUES (?)', (content,))
-        connection.commit()
-        connection.close()
-        return notes_of(look(str(path)))
+        return notes_of(look(str(self.table_with(content))))
 
     def test_each_is_told(self) -> None:
         opened = {each.name for each in CONTAINERS}

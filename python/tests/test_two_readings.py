@@ -8,11 +8,13 @@ from __future__ import annotations
 import gzip
 import io
 import itertools
+import lzma
 import pickle
 import random
 import struct
 import tarfile
 import unittest
+import unittest.mock
 from typing import Any, List
 
 import picklestep
@@ -97,6 +99,75 @@ class Containers(ScanCase):
                 self.assertEqual(looks, ['its name is that of a pickle, and it is tar'] if is_marked else [])
 
 
+def described(key: str, kind: str = 'FloatStorage') -> bytes:
+    """A storage on the CPU as torch before 0.1.12 describes it: a name, where it is, and its kind."""
+    names = b'X' + struct.pack('<I', len(key)) + key.encode() + b'q\0X\x03\0\0\0cpuq\x01'
+    return b'\x80\x02' + names + b'ctorch\n' + kind.encode() + b'\nq\x02\x87q\x03.'
+
+
+def tar_of_torch(kind: bytes, record: str = '') -> bytes:
+    """The layout of torch before 0.1.12, whose tensors are a link to its storages. As a tensor, the first storage ends eight bytes behind the
+    begin of the second. With a `record` for its name the link comes behind true tensors."""
+    storages = (b'\x80\x02K\x02.' + described('cpu', 'ComplexDoubleStorage') + struct.pack('<qqq', 1, 0, 1) + described('a' + CALL.decode())
+                + bytes(8) + b'\x80\x02]q\0.')
+    held = io.BytesIO()
+    members = [('storages', storages), ('link' if record else 'tensors', b''), ('pickle', b'\x80\x02}q\0.')]
+    if record:
+        members.insert(0, ('tensors', b'\x80\x02K\0.'))
+    with tarfile.open(fileobj=held, mode='w', format=tarfile.PAX_FORMAT) as archive:
+        for name, content in members:
+            member = tarfile.TarInfo(name)
+            member.size, member.mtime = len(content), 1_600_000_000
+            if not content:
+                member.type, member.linkname = kind, 'storages'
+                member.pax_headers = {'path': record} if record else {}
+            archive.addfile(member, io.BytesIO(content))
+    return held.getvalue()
+
+
+class TarOfTorch(ScanCase):
+    """What torch reads as one member may be another, by a link."""
+
+    def asks_as_tensors(self, data: bytes) -> bool:
+        """Whether torch comes to `posix.system`: it loads a number, and then for each tensor a pickle and what describes its sizes."""
+        with tarfile.open(fileobj=io.BytesIO(data)) as archive:
+            file: Any = archive.extractfile('tensors')
+            count = pickle.load(file)
+            for _ in range(count):
+                try:
+                    Unpickler(file).load()
+                except Asked as asked:
+                    if str(asked) == 'posix.system':
+                        return True
+                    while file.read(1) != b'.':  # (the kind of a storage, without torch)
+                        pass
+                dimensions, = struct.unpack('<i', file.read(8)[:4])
+                file.read(16 * dimensions + 8)
+        return False
+
+    def test_a_link_by_a_record(self) -> None:
+        """tarfile leaves out the slash at its end, and takes the last member of a name."""
+        for record in ('tensors/', 'tensors//'):
+            data = tar_of_torch(tarfile.LNKTYPE, record)
+            self.assertTrue(self.asks_as_tensors(data))
+            with self.subTest(record):
+                looks = [each.text for each in Judge().looks(look(str(self.file('model.pt', data))))]
+                self.assertIn('not in the form that tarfile, GNU tar and bsdtar write: two members are named', '\n'.join(looks))
+
+    def test_tensors_that_are_a_link(self) -> None:
+        for kind in (tarfile.LNKTYPE, tarfile.SYMTYPE):
+            data = tar_of_torch(kind)
+            self.assertTrue(self.asks_as_tensors(data))
+            for name in ('model.pt', 'model.pth.tar'):
+                with self.subTest(kind=kind, name=name):
+                    looks = [each.text for each in Judge().looks(look(str(self.file(name, data))))]
+                    self.assertEqual(looks, ['not in the form that torch.save before 0.1.12 writes: it is no file, and torch reads as this member '
+                                             'whatever it leads to'])
+            for loader in (None, 'torch'):
+                with self.subTest(kind=kind, loader=loader), self.assertRaises(picklestep.NotAllowed):
+                    picklestep.check(data, allow=['torch'], loader=loader)
+
+
 class Check(ScanCase):
     """`check` passes what is fit for each loader, or for the one that is named."""
 
@@ -127,6 +198,35 @@ class Check(ScanCase):
                         continue
                     with self.assertRaisesRegex(picklestep.NotAllowed, f'which {loader} does not open'):
                         picklestep.check(content, loader=loader)
+
+    def test_a_member_that_is_named_as_its_archive(self) -> None:
+        """pandas writes `.tar.gz` so."""
+        held = io.BytesIO()
+        with tarfile.open(fileobj=held, mode='w') as archive:
+            member = tarfile.TarInfo('frame.pkl.tar.gz')
+            member.size = len(HARMLESS)
+            archive.addfile(member, io.BytesIO(HARMLESS))
+        packed = gzip.compress(held.getvalue(), mtime=0)
+        self.assertEqual(picklestep.check(self.file('frame.pkl.tar.gz', packed), loader='pandas'), packed)
+
+    def test_what_a_packed_file_is_named(self) -> None:
+        """The ending of what packs it is no part of the name of what is in it."""
+        for name, packed in (('a.tar.gz', gzip.compress(b'text')), ('a.npz.gz', gzip.compress(b'text')), ('a.npz.xz', lzma.compress(b'text'))):
+            notes = [note.text for note in look(self.file(name, packed)).notes if note.missed]
+            self.assertTrue(any(text.startswith('its name says') for text in notes), name)
+
+    def test_what_is_not_opened_here(self) -> None:
+        """joblib opens lz4, and `check` does not: it says no more than that."""
+        with self.assertRaises(picklestep.NotAllowed) as refused:
+            picklestep.check(b'\x04\x22\x4d\x18\x64\x40\xa7' + bytes(99), loader='joblib')
+        self.assertEqual(str(refused.exception), 'pickle: lz4: this kind of container is not opened')
+
+    def test_what_gives_no_bytes(self) -> None:
+        """A file of text, and one that has nothing to give yet."""
+        waiting: Any = unittest.mock.Mock(read=lambda size: None)
+        for source in (io.StringIO('N.'), waiting):
+            with self.assertRaises(TypeError):
+                picklestep.check(source)  # type: ignore[arg-type]
 
     def test_no_such_loader(self) -> None:
         with self.assertRaisesRegex(ValueError, "'dill' is no loader: there are pickle, torch"):

@@ -199,6 +199,19 @@ class Driven(unittest.TestCase):
             self.assertEqual(here[part], shown, f'{what}: {part}')
 
 
+@unittest.skipIf(PROGRAM is None, "there is no Chromium: Debian's chromium has it")
+class InChromium(Driven):
+    """The page in Chromium, which says what it asks for."""
+
+    browser: Browser
+
+    @classmethod
+    def setUpClass(cls) -> None:
+        cls.browser = Browser(1200, 800)
+        cls.browser.call('Network.enable')
+        cls.addClassCleanup(cls.browser.close)
+
+
 @unittest.skipIf(firefox.PROGRAM is None, "there is no Firefox: Debian's firefox-esr has it")
 class InFirefox(Driven):
     """The real pickles in another browser."""
@@ -212,17 +225,8 @@ class InFirefox(Driven):
         self.compare(SHOWN)
 
 
-@unittest.skipIf(PROGRAM is None, "there is no Chromium: Debian's chromium has it")
-class Alone(Driven):
+class Alone(InChromium):
     """What is opened, shown, taught, edited and saved."""
-
-    browser: Browser
-
-    @classmethod
-    def setUpClass(cls) -> None:
-        cls.browser = Browser(1200, 800)
-        cls.browser.call('Network.enable')
-        cls.addClassCleanup(cls.browser.close)
 
     def test_twenty_real_pickles_show_the_same(self) -> None:
         self.assertEqual(len(SHOWN), 20)

@@ -19,9 +19,8 @@ import zipfile
 from pathlib import Path
 from typing import Any, Dict, List
 
-from chromium import PROGRAM, Browser
 from pickles import HOSTILE, ROOT, known_opcodes
-from test_view_alone import MODELS, Driven
+from test_view_alone import MODELS, InChromium
 
 SCRIPTS = [ROOT / 'python' / 'picklestep' / 'view' / name for name in ('bytes.js', 'alone/containers.js')]
 KEPT = MODELS.parent / 'real'
@@ -103,7 +102,7 @@ class Archives(unittest.TestCase):
         for path, found in zip(paths, self.read(paths)):
             with self.subTest(path.name):
                 self.assertEqual({member['name']: member['sum'] for member in found['members']}, sums(path))
-                self.assertEqual((found['isWhole'], [member['note'] for member in found['members'] if member['note']]), (True, []))
+                self.assertEqual((found['isWhole'], found['odd'], [member['note'] for member in found['members'] if member['note']]), (True, '', []))
 
     def file(self, name: str, data: bytes) -> Path:
         path = self.folder / name
@@ -154,6 +153,21 @@ class Archives(unittest.TestCase):
         apart = self.file('b.pt', whole[:-42] + b'between' + whole[-42:])
         self.assertEqual([member['name'] for member in self.read([apart])[0]['members']], ['a', 'b'])
 
+    def test_two_directories(self) -> None:
+        """torch reads the directory that stands at the place which is told, and zipfile the one before the closing record."""
+        hidden, shown = (torch_like({'a/data.pkl': data}, False) for data in (HOSTILE, b'N.'.rjust(len(HOSTILE), b'N')))
+        record = shown[:-42].rfind(b'PK\6\6')
+        place = int.from_bytes(shown[record + 48:record + 56], 'little')
+        both = hidden + shown
+        self.assertEqual((both[place:place + 4], both[len(hidden) + place:][:4]), (b'PK\1\2', b'PK\1\2'))
+        between = hidden[:-42] + both[len(hidden):-42] + struct.pack('<4sIQI', b'PK\6\7', 0, record, 1) + both[-22:]
+        for name, data in (('behind.pt', both), ('records.pt', between)):
+            with self.subTest(name):
+                path = self.file(name, data)
+                found = self.read([path])[0]
+                self.assertEqual(found['members'][0]['sum'], sums(path)['a/data.pkl'])
+                self.assertIn('another directory', found['odd'])
+
     def test_what_the_directory_does_not_list(self) -> None:
         """An archive whose closing record counts more, and one whose extra field is cut, is no silent one."""
         short = bytearray(torch_like({'a': b'N.', 'b': HOSTILE}, False))
@@ -166,17 +180,8 @@ class Archives(unittest.TestCase):
         self.assertEqual(lost['members'][0]['sum'], 'the member is not where the directory says')
 
 
-@unittest.skipIf(PROGRAM is None, "there is no Chromium: Debian's chromium has it")
-class InThePage(Driven):
+class InThePage(InChromium):
     """A file of torch.save, opened in a browser."""
-
-    browser: Browser
-
-    @classmethod
-    def setUpClass(cls) -> None:
-        cls.browser = Browser(1200, 800)
-        cls.browser.call('Network.enable')
-        cls.addClassCleanup(cls.browser.close)
 
     def test_torch_state(self) -> None:
         path = MODELS / 'torch_state.pt'

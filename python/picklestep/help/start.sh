@@ -1,6 +1,6 @@
 # shellcheck shell=sh disable=SC2154
 # How ./picklestep and what ./install puts on the path begin. They set `package`, the folder of the Python package, and define
-# choose_program, which sets `chosen` or says why there is no program. The module may be chosen where python3 is there and Node is not.
+# choose_program, which sets `chosen` or says why there is no program.
 
 # Whether the words are for the program itself: it has a page of help, and they do not ask for that.
 is_for_program() {
@@ -33,11 +33,11 @@ is_told_more() {
 enter() {
     if is_for_program "$@"; then
         choose_program || exit 2
-        if ! is_told_more "$@" && { [ "${chosen%.mjs}" = "$chosen" ] || command -v node >/dev/null; }; then
+        if ! is_told_more "$@"; then
             unset NODE_EXTRA_CA_CERTS NODE_OPTIONS # (place.py says why)
             exec "$chosen" "$@"
         fi
-        export PICKLESTEP_PROGRAM="$chosen" # (where that is the module, Python may have what runs it, and says it where it has not)
+        export PICKLESTEP_PROGRAM="$chosen"
     fi
     if command -v python3 >/dev/null; then
         exec python3 -I ${PYTHONDONTWRITEBYTECODE:+-B} "$package/entrance.py" "$@"

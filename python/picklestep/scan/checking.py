@@ -3,6 +3,7 @@
 from __future__ import annotations
 
 import os
+from dataclasses import replace
 from typing import Iterable, Iterator, List, Optional
 
 from ..errors import NotAllowed
@@ -41,6 +42,8 @@ def check(source: Source, *, allow: Iterable[str] = (), names: Iterable[str] = (
     words, lines_given = ([given] if isinstance(given, str) else list(given) for given in (allow, names))
     # (a list without a name allows none)
     allowed = Names([*read_lines(words), *lines_given]) if words or lines_given else None
+    if allowed is not None:
+        options = replace(options, limits=replace(options.limits, shapes=allowed.with_shapes()))
     kinds = list(kinds_of(BytesBlob(content), content[:HEAD]))
     # (By this name it is read as a pickle whatever it begins with. torch.load opens all kinds of files that are named so.)
     result = look_at_bytes(name if is_pickle_name(name) else f'{name}.pt', content, options)
@@ -60,7 +63,8 @@ def _in_containers(content: bytes, kinds: List[Container], loader: Optional[str]
     if not kinds:
         return
     said = ' or '.join(map(str, kinds))
-    if loader is not None and not all(loader in kind.loaders for kind in kinds):
+    # (of what is not opened here it is not known which loaders open it; that it is not is marked)
+    if loader is not None and not all(loader in kind.loaders or not kind.opener for kind in kinds):
         yield f'it is {said}, which {loader} does not open'
     reach, _ = reach_of(BytesBlob(content))
     if reach is not None:
@@ -78,4 +82,7 @@ def _content(source: Source) -> 'tuple[bytes, str]':
 
 
 def _read_all(source: Readable) -> bytes:
-    return b''.join(iter(lambda: source.read(1 << 20), b''))
+    parts = []
+    while part := memoryview(source.read(1 << 20)).tobytes():  # (a text, and what has nothing to read yet, is a TypeError as elsewhere)
+        parts.append(part)
+    return b''.join(parts)

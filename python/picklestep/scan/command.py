@@ -160,7 +160,8 @@ def _is_same(path: str, earlier: Result) -> bool:
 
 
 def _options(words: argparse.Namespace) -> Options:
-    limits = Limits(words.max_bytes, words.max_members, words.max_depth, min(words.max_seconds, MOST_SECONDS), words.max_memory, words.max_lines)
+    limits = Limits(words.max_bytes, words.max_members, words.max_depth, min(words.max_seconds, MOST_SECONDS), words.max_memory, words.max_lines,
+                    read_names(words.allow).with_shapes() if words.allow else ())
     return Options(limits, words.lines, words.everywhere, words.full, words.json)
 
 

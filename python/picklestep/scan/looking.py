@@ -14,6 +14,7 @@ import stat
 import struct
 import zlib
 from collections import Counter
+from contextlib import suppress
 from dataclasses import dataclass, replace
 from functools import reduce
 from importlib import import_module
@@ -36,6 +37,7 @@ from .packed import Unpacking
 from .reading import Asked, why_unread
 from .results import Note, Pickle, Place, Result
 from .unread import kind_by_end
+from .zarr import has_pickles
 
 __all__ = ['Looker', 'Options', 'Reads', 'Unpacked', 'is_unchanged', 'look', 'look_at_bytes']
 
@@ -99,6 +101,9 @@ class Looker:
         self.at = where
         self.budget.look(min(blob.size, _GLANCE))
         head = blob.read(0, HEAD)
+        if has_pickles(blob, names):
+            self.note(where, 'an array of zarr whose items are pickles (numcodecs.Pickle): zarr loads them, and its chunks may be packed by what is not '
+                             'opened here', missed=True)
         kinds = [] if is_gap else self._kinds(blob, head, where, names)
         spans: List[Tuple[int, int]] = []
         opened = False
@@ -116,7 +121,8 @@ class Looker:
         """The kinds of containers that some reader may take these bytes for. Several, or another one than the name asks for, are noted."""
         kinds = kinds_of(blob, head)
         name = names[0] if names else ''
-        asked = asked_form(name) if name != self.name or not where else None  # (pandas gives a member the name of its archive)
+        # (pandas gives a member the name of its archive, behind which `check` puts the ending .pt)
+        asked = asked_form(name) if name not in (self.name, self.name.removesuffix('.pt')) or not where else None
         if asked is not None and not kinds and asked.is_empty is not None and asked.is_empty(blob):
             kinds = [asked]
         if asked is not None and asked not in kinds:
@@ -409,11 +415,12 @@ def _look_at_file(looker: Looker, path: str) -> Result:
             return _look_at_pipe(looker, file, path)
         if not stat.S_ISREG(mode):
             return left_out(path, mode, is_named=True)
+        beside = _digest_beside(path) if looker.options.digest else ''
         result = _gone_through(looker, FileBlob(cast(BinaryIO, file), size, path), path, modified, changed)
         if looker.options.digest:
             state_of = os.fstat(file.fileno())
-            result = replace(result, device=state_of.st_dev, inode=state_of.st_ino, digest=_digest(file))
-        if _state(file) == state:
+            result = replace(result, device=state_of.st_dev, inode=state_of.st_ino, digest=_digest(file), beside=beside)
+        if _state(file) == state and (not looker.options.digest or _digest_beside(path) == beside):
             return result
         return replace(result, notes=result.notes + (Note((), 'it changed while it was looked at', True),))
 
@@ -426,14 +433,24 @@ def _digest(file: FileIO) -> str:
     return digest.hexdigest()
 
 
+def _digest_beside(path: str) -> str:
+    """The digest of what is beside a file and read with it. It is empty where nothing is."""
+    digests = []
+    for each in stores.paths_beside(path):
+        with suppress(OSError), FileIO(os.open(each, _FLAGS), 'rb') as file:
+            digests.append(f'{os.path.basename(each)} {_digest(file)}')
+    return hashlib.sha256('\n'.join(digests).encode('utf-8', 'surrogateescape')).hexdigest() if digests else ''
+
+
 def is_unchanged(path: str, earlier: Result) -> bool:
-    """Whether a path still names the file that was looked at, and this has the same bytes. Times alone do not show that: two files of one tick
-    of the clock have the same, and they stay where folders are renamed."""
+    """Whether a path still names the file that was looked at, and this and the files beside it have the same bytes. Times alone do not show
+    that: two files of one tick of the clock have the same, and they stay where folders are renamed."""
     with FileIO(os.open(path, _FLAGS), 'rb') as file:
         state = os.fstat(file.fileno())
         now = state.st_size, state.st_mtime_ns, state.st_ctime_ns, state.st_dev, state.st_ino
         then = earlier.size, earlier.modified, earlier.changed, earlier.device, earlier.inode
-        return stat.S_ISREG(state.st_mode) and now == then and _digest(file) == earlier.digest
+        is_same = stat.S_ISREG(state.st_mode) and now == then and _digest(file) == earlier.digest
+        return is_same and _digest_beside(path) == earlier.beside
 
 
 def _look_at_pipe(looker: Looker, file: FileIO, path: str) -> Result:
@@ -496,7 +513,7 @@ def look_at_bytes(name: str, content: bytes, options: Options = Options()) -> Re
     """All that is found in the content of a file that somebody else read, such as Spark.
 
     >>> look_at_bytes('a.pkl', b'cposix\\nsystem\\n.').pickles[0].imports
-    (Import(name='posix.system', count=1, offset=0, part=''),)
+    (Import(name='posix.system', count=1, offset=0, part='', member=''),)
     """
     looker = Looker(options)
     return _whatever_happens(looker, name, lambda: _gone_through(looker, BytesBlob(content), name))

@@ -3,14 +3,15 @@
 from __future__ import annotations
 
 from dataclasses import dataclass
-from typing import Dict, Iterator, List, Optional, Tuple
+from typing import Dict, Iterable, Iterator, List, Optional, Tuple
 
 from ..records import End
 from .allow import sets_with
 from .known import known_names
 from .names import Names
 from .reading import is_plain_name, is_worked_out
-from .results import ODD, Call, Import, Pickle, Place, Result
+from .results import OF_ARGUMENTS, ODD, Call, Import, Pickle, Place, Result
+from .through import part_through, why_through
 from .wording import shown, times
 
 __all__ = ['Judge', 'Look', 'OF_CALLS', 'RULES', 'call_text', 'calls_of', 'end_text', 'import_text']
@@ -73,6 +74,8 @@ def call_text(done: Call) -> str:
     if done.what == ODD and done.name == 'attribute':
         what = 'perhaps an import, or what a call made, as a method that loaders call'
         return f'{what}, first at {done.offset}{_in_part(done.part)}: {shown(done.text)}'
+    if done.what == ODD and done.name == OF_ARGUMENTS:
+        return f'a call of what the pickle works out, first at {done.offset}{_in_part(done.part)}: {shown(done.text)}'
     if done.what == ODD:
         return f'{done.name} as numpy never writes it, first at {done.offset}{_in_part(done.part)}: {shown(done.text)}'
     what = f'{done.what} {shown(done.name)}' if done.name else _WITHOUT_NAME.get(done.what, done.what)
@@ -109,25 +112,29 @@ class Judge:
         self._known = known_names() if with_known else Names(())
         self._through = Names(text for text, _, _ in self._known.patterns if text.startswith('**.'))
         self._with_known = with_known
-        self._marks: Dict[str, Optional[Tuple[str, str]]] = {}
+        self._marks: Dict[Tuple[str, str], Optional[Tuple[str, str]]] = {}
 
-    def mark(self, name: str) -> Optional[Tuple[str, str]]:
-        """The rule by which a name is marked and why, or None.
+    def mark(self, name: str, member: str = '') -> Optional[Tuple[str, str]]:
+        """The rule by which a name is marked and why, or None. `member` is what it names behind the module, where that has a point.
 
         >>> Judge().mark('posix.system'), Judge().mark('collections.OrderedDict')
         (('known', 'runs a shell command'), None)
+        >>> Judge().mark('sklearn.base.np.load', 'np.load')
+        ('known', 'goes through np, which is no class')
         """
-        if name not in self._marks:
-            self._marks[name] = self._mark(name)
-        return self._marks[name]
+        if (name, member) not in self._marks:
+            self._marks[name, member] = self._mark(name, member)
+        return self._marks[name, member]
 
-    def _mark(self, name: str) -> Optional[Tuple[str, str]]:
+    def _mark(self, name: str, member: str) -> Optional[Tuple[str, str]]:
         note = self._denied.note(name)
         if note is not None:
             return 'denied', f'denied{": " + note if note else ""}'
-        if self.allowed is not None and any(self._allows(line, name) for line in self.allowed.lines_of(name)):
+        if self.allowed is not None and any(self._allows(line, name, member) for line in self.allowed.lines_of(name)):
             return None
         known = self._known.note(name)
+        if known is None and self._with_known:
+            known = why_through(name, member or name.rpartition('.')[2])
         if self.allowed is not None:
             why = known or _of_sets(name)
             return 'not-allowed', f'not allowed{": " + why if why else ""}'
@@ -139,13 +146,18 @@ class Judge:
             return 'known', 'no dotted name, so no program imports it, and yet it may lead to any module'
         return None
 
-    def _allows(self, line: str, name: str) -> bool:
+    def _allows(self, line: str, name: str, member: str) -> bool:
         """Whether a line that has a name allows it."""
-        return line in (name, '**') or self._through.note(name) is None or self._through.note(line) is not None
+        if line in (name, '**'):
+            return True
+        through = part_through(name, member or name.rpartition('.')[2]) if self._with_known else None
+        if through is not None and line.split('.').count(through) < name.split('.').count(through):
+            return False
+        return self._through.note(name) is None or self._through.note(line) is not None
 
-    def allows_done(self, what: str, name: str) -> bool:
-        """Whether this may be done with what is imported by a name that is not marked."""
-        return what != ODD and (self.allowed is None or self.mark(name) is not None or self.allowed.allows_done(what, name))
+    def allows_done(self, what: str, name: str, fits: Iterable[str] = ()) -> bool:
+        """Whether this may be done with what is imported by a name that is not marked, with arguments of these shapes."""
+        return what != ODD and (self.allowed is None or self.mark(name) is not None or self.allowed.allows_done(what, name, fits))
 
     def looks(self, result: Result) -> Iterator[Look]:
         """All that is to be looked at in a file."""
@@ -159,14 +171,14 @@ class Judge:
 
     def looks_in(self, pickle: Pickle) -> Iterator[Look]:
         """All that is to be looked at in one pickle. A marked import brings its calls; the last one those of what has no name, too."""
-        marked = [(found, mark) for found in pickle.imports for mark in (self.mark(found.name),) if mark is not None]
+        marked = [(found, mark) for found in pickle.imports for mark in (self.mark(found.name, found.member),) if mark is not None]
         for found, (rule, why) in marked:
             calls = [done for done in calls_of(pickle, found.name) if done.part == found.part or not found.part]
             if found is marked[-1][0]:
                 calls += [done for done in pickle.calls if not done.name and done.what in _OF_OBJECTS]
             yield Look(pickle.where, rule, import_text(found, why), found.name, found.offset, tuple(map(call_text, calls)))
         for done in pickle.calls:
-            if not self.allows_done(done.what, done.name):
+            if not self.allows_done(done.what, done.name, done.fits):
                 yield Look(pickle.where, 'odd' if done.what == ODD else 'not-allowed-done', call_text(done), done.name, done.offset)
         if not pickle.end.is_stopped:
             yield Look(pickle.where, 'not-read', f'end: {end_text(pickle.end)}', offset=pickle.end.offset)

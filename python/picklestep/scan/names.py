@@ -5,12 +5,12 @@ from __future__ import annotations
 import difflib
 import re
 from dataclasses import dataclass
-from typing import Dict, FrozenSet, Iterable, List, Optional, Pattern, Tuple
+from typing import Dict, FrozenSet, Iterable, List, Optional, Pattern, Set, Tuple
 
 from ..errors import PicklestepError
 from ..wording import shown
 
-__all__ = ['Line', 'Names', 'NoList', 'nearest', 'read_comment', 'read_line', 'words_for']
+__all__ = ['GIVEN', 'KINDS', 'THEN', 'Line', 'Names', 'NoList', 'nearest', 'read_comment', 'read_line', 'words_for']
 
 
 class NoList(PicklestepError, ValueError):
@@ -25,6 +25,10 @@ class Line:
     words: FrozenSet[str]
     note: str
     is_include: bool = False
+    # What the arguments of a call may be; empty where they may be anything.
+    shapes: FrozenSet[str] = frozenset()
+    # What the state of an object that a call made may be; empty where it may be anything.
+    states: FrozenSet[str] = frozenset()
 
 
 class Names:
@@ -42,6 +46,13 @@ class Names:
     ['', 'raw numbers', None]
     >>> [names.allows_done(*done) for done in (('call', 'torch.FloatStorage'), ('new', 'collections.OrderedDict'), ('call', 'os.path'))]
     [False, True, True]
+
+    Behind `call` stands in parentheses which arguments there may be, and behind `then` which state what the call made may get. Several such words
+    allow each of them: `shapes.py` says how.
+
+    >>> names = Names(["_codecs.encode: call(text 'latin1') call(text)"])
+    >>> [names.allows_done('call', '_codecs.encode', fits) for fits in (('text',), ())]
+    [True, False]
     """
 
     def __init__(self, lines: Iterable[str]) -> None:
@@ -51,6 +62,10 @@ class Names:
         # What may be done with what is imported: by the names and patterns of the lines, and what was found for a name.
         self._words: Dict[str, FrozenSet[str]] = {}
         self._found_words: Dict[str, FrozenSet[str]] = {}
+        # The shapes of arguments, by the names and patterns of the lines that have some; and of lines that allow calls whatever they are given.
+        self._shapes: Dict[str, FrozenSet[str]] = {}
+        self._calls: Set[str] = set()
+        self._states: Dict[str, FrozenSet[str]] = {}
         # The patterns by their first part, since a hostile file may have a million names; those that begin with a star are under ''.
         self._by_part: Dict[str, List[Tuple[str, Pattern[str], str]]] = {}
         for line in lines:
@@ -63,6 +78,12 @@ class Names:
         if line.is_include:
             raise NoList(f'only a file includes a list: {shown(name)}')
         self._words[name] = self._words.get(name, frozenset()) | line.words
+        if line.states:
+            self._states[name] = self._states.get(name, frozenset()) | line.states
+        if line.shapes:
+            self._shapes[name] = self._shapes.get(name, frozenset()) | line.shapes
+        elif 'call' in line.words:
+            self._calls.add(name)
         if '*' in name:
             self.patterns.append((name, _pattern(name), line.note))
             part = name.partition('.')[0]
@@ -76,13 +97,38 @@ class Names:
             self._found[name] = self._look_up(name)
         return self._found[name]
 
-    def allows_done(self, what: str, name: str) -> bool:
-        """Whether this may be done with what is imported by a name that a line has. `what` is the first word of a line of the program.
+    def allows_done(self, what: str, name: str, fits: Optional[Iterable[str]] = None) -> bool:
+        """Whether this may be done with what is imported by a name that a line has. `what` is the first word of a line of the program, and
+        `fits` has the shapes that the arguments have, where these were asked about.
 
         What a pickle does with objects that it made has no name, and is allowed.
         """
+        if what == THEN and fits is not None:
+            states = self.all_states(name)
+            return not states or not states.isdisjoint(fits)
         word = _WORDS.get(what)
-        return word is None or self.note(name) is None or word in self._words_of(name)
+        if word is None or self.note(name) is None:
+            return True
+        return word in self._words_of(name) and (fits is None or word not in ('call', 'new') or self._allows_arguments(name, fits))
+
+    def _allows_arguments(self, name: str, fits: Iterable[str]) -> bool:
+        """Whether a line allows a call that has arguments of these shapes."""
+        shapes = self.all_shapes(name)
+        return not shapes or GIVEN in fits or not shapes.isdisjoint(fits) or not self._calls.isdisjoint((name, *self.lines_of(name)))
+
+    def all_shapes(self, name: str) -> FrozenSet[str]:
+        """The shapes of all lines that have a name."""
+        return frozenset().union(*(self._shapes[line] for line in {name, *self.lines_of(name)} if line in self._shapes)) if self._shapes else frozenset()
+
+    def all_states(self, name: str) -> FrozenSet[str]:
+        """The shapes of states of all lines that have a name."""
+        return frozenset().union(*(self._states[line] for line in {name, *self.lines_of(name)} if line in self._states)) if self._states else frozenset()
+
+    def with_shapes(self) -> Tuple[str, ...]:
+        """Lines that have the shapes of these, and nothing else."""
+        words = {name: [f'{word}({shape})' for word, shapes in (('call', self._shapes), (THEN, self._states)) for shape in sorted(shapes.get(name, ()))]
+                 for name in sorted({*self._shapes, *self._states})}
+        return tuple(f'{name}: {" ".join(said)}' for name, said in words.items())
 
     def lines_of(self, name: str) -> List[str]:
         """The names and patterns that have this name."""
@@ -110,6 +156,20 @@ _WORDS = {'call': 'call', 'new': 'new', 'inst': 'call', 'state': 'state', 'appen
 # Those of a list, in the order in which they are written.
 _OF_LISTS = ('call', 'new', 'state', 'fill')
 _ALL = frozenset(_OF_LISTS)
+# The kinds of arguments in a shape, and what each stands for.
+KINDS: Dict[str, str] = {
+    'text': 'a text', 'short': 'a text or bytes, 64 at most', 'fraction': 'a text of digits, with one / at most', 'bytes': 'bytes',
+    'number': 'a number', 'small': 'a whole number of at most six digits', 'bool': 'true or false', 'none': 'None',
+    'held': 'a list or another object of the pickle, but no range', 'alone': 'the same, where the pickle has made no range', 'class': 'what is imported',
+    'any': 'any of these'}
+# A text in quotes, a whole number, what is imported by a name.
+_KIND = re.compile(r"'[\w.+-]+'|-?[0-9]+|[^\W\d]\w*(?:\.[^\W\d]\w*)+")
+_SHAPE = re.compile(r'(?<!\S)call\(([^()]*)\)(?!\S)')
+_THEN = re.compile(r'(?<!\S)then\(([^()]*)\)(?!\S)')
+# What is said of the state of an object that a call made.
+THEN = 'then'
+# What stands for the shapes of a call through something that was given what to call: that call is judged.
+GIVEN = 'given'
 # A name that `scan` shows in two parts, since one of them is no plain word: each is in quotes, or is the number of what gives it.
 _PART = r"""(?:(?:raw )?(?:'(?:[^'\\]|\\.)*'|"(?:[^"\\]|\\.)*")|\#[0-9*]+)"""
 _IN_PARTS = re.compile(f'{_PART} {_PART}')
@@ -122,13 +182,14 @@ def read_line(line: str) -> Optional[Line]:
     """What a line of a list says; None for an empty line and a comment. Raises NoList where it has no meaning. This is the grammar:
 
         line    = [entry | "include" LIST] ["#" note]
-        entry   = (name | pattern) [":" {"call" | "new" | "state" | "fill"}]
+        entry   = (name | pattern) [":" {"call" | "call(" shape ")" | "then(" shape ")" | "new" | "state" | "fill"}]
         name    = word "." word {"." word} | part " " part | "ext" number
         part    = ["raw"] text in quotes | "#" number
         pattern = a name with stars in it, or stars alone
+        shape   = what `shapes.py` says
 
     >>> read_line('# of our own'), read_line('include numpy  # arrays')
-    (None, Line(name='numpy', words=frozenset(), note='arrays', is_include=True))
+    (None, Line(name='numpy', words=frozenset(), note='arrays', is_include=True, shapes=frozenset(), states=frozenset()))
     >>> sorted(read_line("'os ' 'x #': call new").words)
     ['call', 'new']
     >>> read_line('import numpy')
@@ -161,11 +222,22 @@ def _read_entry(text: str) -> Line:
     if word == 'include' and rest.strip() and rest.isprintable():
         return Line(rest.strip(), frozenset(), note, is_include=True)
     head, colon, tail = entry.rpartition(':')
-    has_words = bool(colon) and _ALL.issuperset(tail.split())
-    name, words = (head.strip(), frozenset(tail.split())) if has_words else (entry, _ALL)
+    said = _THEN.sub(' ', _SHAPE.sub(' call ', tail))
+    has_words = bool(colon) and _ALL.issuperset(said.split())
+    name, words = (head.strip(), frozenset(said.split())) if has_words else (entry, _ALL)
     if not _is_name(name):
         raise NoList(_why(name))
-    return Line(name, words | {'new'} if 'call' in words else words, note)
+    shapes = frozenset(map(_shape, _SHAPE.findall(tail))) if has_words and 'call' not in _THEN.sub(' ', _SHAPE.sub(' ', tail)).split() else frozenset()
+    return Line(name, words | {'new'} if 'call' in words else words, note, shapes=shapes,
+                states=frozenset(map(_shape, _THEN.findall(tail))) if has_words else frozenset())
+
+
+def _shape(text: str) -> str:
+    """A shape as it is kept, with one blank between its items. Raises NoList where it has no meaning."""
+    for kind in (kind for item in text.split() for kind in item.split('|')):
+        if kind not in KINDS and _KIND.fullmatch(kind) is None:
+            raise NoList(f'no kind of arguments: {shown(kind[:_MOST_SHOWN])}{nearest(kind, "kind", KINDS)}')
+    return ' '.join(text.split())
 
 
 def _is_name(name: str) -> bool:

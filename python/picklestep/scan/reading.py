@@ -25,7 +25,9 @@ from .canonical.items import oddness
 from .canonical.methods import names_methods
 from .canonical.joblib import SIGN
 from .item_kinds import ItemKinds
-from .results import ODD, Call, Import, Pickle, Place
+from .names import GIVEN, THEN
+from .results import OF_ARGUMENTS, ODD, Call, Import, Pickle, Place
+from .shapes import Arguments, shapes_of
 
 __all__ = ['Asked', 'Enough', 'Summary', 'calls_in_form', 'calls_words', 'is_odd_name', 'is_plain_name', 'is_worked_out', 'shown_name', 'why_unread']
 
@@ -99,6 +101,10 @@ class Summary:
         self._part = ''
         self._leads_nowhere = False
         self._kinds = ItemKinds()
+        self._calls: Dict[Tuple[str, str, str, Tuple[str, ...]], _Found] = {}
+        # The first call of something that is given to it by arguments which are not shown.
+        self._hidden: Optional[Tuple[int, str, str]] = None
+        self._arguments = Arguments(shapes_of(budget.limits.shapes))
         self.oddness = ''
 
     def ask_oddness(self, blob: Blob, budget: Budget) -> None:
@@ -141,7 +147,7 @@ class Summary:
         again, left = self._again, self._budget.lines
         self._kinds.read(text, start, end, self._part)
         self._take_given(text, start, end)
-        for key, count, match in reached_lines(text, start, end, each=self._lines is not None):
+        for key, count, match in reached_lines(text, start, end, self._lines is not None, self._is_asked):
             self._count += count
             left -= count
             allowed = count if left >= 0 else count + left
@@ -159,11 +165,14 @@ class Summary:
     def _take_given(self, text: str, start: int, end: int) -> None:
         """Counts calls of what is given to something that calls it, as those by the pickle itself."""
         for offset, line, what, quoted in given_in(text, start, end):
+            if not quoted:
+                self._hidden = self._hidden or (offset, line, self._part)
+                continue
             name = _known_by(quoted).shown
             found = self._found.get((what, quoted, self._part))
             if found is None:
                 self._keep(line)
-                found = self._found[what, quoted, self._part] = _Found(what, name, self._place(offset), line, self._part)
+                found = self._found[what, quoted, self._part] = _Found(what, name, self._place(offset), line, self._part, fits=(GIVEN,))
             found.count += 1
 
     def _begin_part(self, heading: str, tail: str) -> None:
@@ -185,10 +194,15 @@ class Summary:
     def _found_by(self, key: LineKey, match: 're.Match[str]') -> '_Found':
         """What a line is counted by. It is kept with the first line of its kind about its name."""
         what, quoted = key
+        odd = self._arguments.odd_state(number_in(match), line_of(match), match.end()) if what == 'state' else None
+        if odd is not None:
+            return self._odd_state(odd[0], odd[1], match)
         if what in _CHANGES:
             name = self._imported.get(number_in(match), '')
             return self._found.get((what, name, self._part)) or self._first_of(what, name, _Known(name, False), match)
         # (A name that is no text is a number, or an object of the pickle.)
+        if quoted is not None and what != 'import' and self._is_asked(quoted):
+            return self._call_of(what, quoted, match)
         found = None if quoted is None and what in _WITH_NAME else self._found.get((what, quoted or '', self._part))
         if found is None:
             known = _name_in(match, quoted) if what in _WITH_NAME else _NO_NAME
@@ -199,12 +213,37 @@ class Summary:
             self._again[key] = found
         return found
 
+    def _is_asked(self, quoted: str) -> bool:
+        """Whether the arguments of each call of a name are asked about."""
+        return len(quoted) <= _SHORT and self._arguments.has(_known_by(quoted).shown)
+
+    def _odd_state(self, name: str, fits: Tuple[str, ...], match: 're.Match[str]') -> '_Found':
+        """What a line is counted by that gives an object, which a call made, a state that lists do not have for it."""
+        key = THEN, name, self._part, fits
+        found = self._calls.get(key)
+        if found is None:
+            found = self._calls[key] = self._first_of(THEN, '\0'.join((name, *fits)), _Known(name, False), match)
+            found.fits = fits
+        return found
+
+    def _call_of(self, what: str, quoted: str, match: 're.Match[str]') -> '_Found':
+        """What a line is counted by that calls a name for which lists say what its arguments may be."""
+        known = _known_by(quoted)
+        fits = self._arguments.fits(known.shown, line_of(match), match.end())
+        key = what, quoted, self._part, fits
+        found = self._calls.get(key)
+        if found is None:
+            found = self._calls[key] = self._first_of(what, '\0'.join((quoted, *fits)), known, match)
+            found.fits = fits
+        return found
+
     def _first_of(self, what: str, name: str, known: '_Known', match: 're.Match[str]') -> '_Found':
         """Keeps the first line of its kind about a name."""
         text = text_of(match)
         self._keep(text)
         self.is_sure = self.is_sure or self._shows_pickle(what, known)
-        found = self._found[what, name, self._part] = _Found(what, known.shown, self._place(offset_of(match)), text, self._part)
+        found = self._found[what, name, self._part] = _Found(what, known.shown, self._place(offset_of(match)), text, self._part,
+                                                           member=known.member)
         return found
 
     def _keep_line(self, match: 're.Match[str]') -> None:
@@ -244,22 +283,27 @@ class Summary:
     def pickle(self, where: Place, size: int) -> Pickle:
         """What was found, by names, in the order in which they come first."""
         imports: Dict[Tuple[str, str], Tuple[_Found, int]] = {}
-        done: Dict[Tuple[str, str, str], Tuple[_Found, int]] = {}
+        done: Dict[Tuple[str, str, str, Tuple[str, ...]], Tuple[_Found, int]] = {}
         for found in self._found.values():
             name, part = found.name, found.part
             if found.what in _IMPORTS:
                 first, count = imports.get((name, part), (found, 0))
+                first.member = first.member or found.member
                 imports[name, part] = first, count + found.count
             if found.what != 'import':
-                first, count = done.get((found.what, name, part), (found, 0))
-                done[found.what, name, part] = first, count + found.count
+                fits = found.fits if self._arguments.has(name) else ()
+                first, count = done.get((found.what, name, part, fits), (found, 0))
+                done[found.what, name, part, fits] = first, count + found.count
         odd = self._kinds.odd or (self._kinds.unsure if self.oddness else None)
         if odd is not None:
             offset, text, part = odd
             name = self._kinds.name(self.oddness)
-            done[ODD, name, part] = _Found(ODD, name, self._place(offset), text, part, 1), 1
-        return Pickle(where, size, tuple(Import(first.name, count, first.offset, first.part) for first, count in imports.values()),
-                      tuple(Call(first.what, first.name, count, first.offset, first.text, first.part) for first, count in done.values()),
+            done[ODD, name, part, ()] = _Found(ODD, name, self._place(offset), text, part, 1), 1
+        if self._hidden is not None:
+            offset, text, part = self._hidden
+            done[ODD, OF_ARGUMENTS, part, ()] = _Found(ODD, OF_ARGUMENTS, self._place(offset), text, part, 1), 1
+        return Pickle(where, size, tuple(Import(first.name, count, first.offset, first.part, first.member) for first, count in imports.values()),
+                      tuple(Call(first.what, first.name, count, first.offset, first.text, first.part, key[3]) for key, (first, count) in done.items()),
                       self.end, tuple(self._lines or ()))
 
 
@@ -273,14 +317,17 @@ class _Found:
     text: str
     part: str = ''
     count: int = 0
+    member: str = ''
+    fits: Tuple[str, ...] = ()
 
 
 @dataclass(frozen=True)
 class _Known:
-    """What is known of a name: how it is shown, and whether its import shows that the bytes are a pickle."""
+    """What is known of a name: how it is shown, whether its import shows that the bytes are a pickle, and its member where that has a point."""
 
     shown: str
     can_be_there: bool
+    member: str = ''
 
 
 def _known(name: Optional[Name]) -> _Known:
@@ -288,7 +335,10 @@ def _known(name: Optional[Name]) -> _Known:
 
     A number of copyreg's alone does not: one of a hundred files of raw numbers begins with its opcode.
     """
-    return _Known(shown_name(name), isinstance(name, Global) and (not isinstance(name.module, bytes) or is_dotted(name.module)))
+    if not isinstance(name, Global):
+        return _Known(shown_name(name), False)
+    member = name.name.decode() if isinstance(name.name, bytes) and b'.' in name.name and is_dotted(name.name) else ''
+    return _Known(shown_name(name), not isinstance(name.module, bytes) or is_dotted(name.module), member)
 
 
 _NO_NAME = _Known('', False)

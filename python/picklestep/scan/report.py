@@ -4,7 +4,7 @@ from __future__ import annotations
 
 import json
 from collections import Counter
-from typing import Dict, Iterator, List, TextIO, Tuple
+from typing import Dict, Iterator, List, Set, TextIO, Tuple
 
 from .looks import OF_CALLS, Judge, Look, call_text, end_text, import_text
 from .other_forms import named_forms
@@ -28,6 +28,7 @@ class Report:
         self.imports: Counter[str] = Counter()
         self.pickles_with: Counter[str] = Counter()
         self.first_with: Dict[str, str] = {}
+        self.marked: Set[str] = set()
         # The servers, and whether there was a pickle in one; and their errors. (That of one that is gone comes with each task.)
         self.servers: Dict[str, bool] = {}
         self.errors: Counter[Tuple[str, str]] = Counter()
@@ -76,6 +77,8 @@ class Report:
             place = place_of(result.path, pickle.where)
             for found in pickle.imports:
                 self.imports[found.name] += found.count
+                if self.judge.mark(found.name, found.member) is not None:
+                    self.marked.add(found.name)
                 self.pickles_with[found.name] += 1
                 # The first by name: files come in any order.
                 self.first_with[found.name] = min(place, self.first_with.get(found.name, place))
@@ -98,9 +101,9 @@ class Report:
         if self.judge.allowed is not None:
             for pickle in made['pickles']:
                 for found in pickle['imports']:
-                    found['allowed'] = self.judge.mark(found['name']) is None
+                    found['allowed'] = self.judge.mark(found['name'], found.get('member', '')) is None
                 for done in pickle['calls']:
-                    done['allowed'] = self.judge.allows_done(done['what'], done['name'])
+                    done['allowed'] = self.judge.allows_done(done['what'], done['name'], done.get('fits', ()))
         return {**made, 'looks': [vars(look) for look in looks], 'status': int(bool(looks))}
 
     def _brief_lines(self, result: Result, looks: List[Look]) -> Iterator[str]:
@@ -158,10 +161,9 @@ class Report:
                             ('worked-out', 'import worked out while loading', 'imports worked out while loading')):
             if counts[key]:
                 parts.append(count_of(counts[key], *words))
-        marked = {name: self.judge.mark(name) is not None for name in self.imports}
         lines = [', '.join(parts)]
-        for name in sorted(self.imports, key=lambda name: (not marked[name], self.pickles_with[name], name)):
-            mark = '!' if marked[name] else ' '
+        for name in sorted(self.imports, key=lambda name: (name not in self.marked, self.pickles_with[name], name)):
+            mark = '!' if name in self.marked else ' '
             lines.append(f'{mark} {shown(name)}: {times(self.imports[name])}, in {count_of(self.pickles_with[name], "pickle")}, first in '
                          f'{self.first_with[name]}')
         return lines

@@ -11,6 +11,8 @@ __all__ = ['ODD', 'Call', 'Import', 'Note', 'Pickle', 'Result', 'from_json', 'to
 
 # The word of a `Call` that numpy believes, and that no pickler writes.
 ODD = 'odd'
+# The name of what is odd where something calls what it is given, and the arguments are worked out.
+OF_ARGUMENTS = 'arguments'
 # Where something is inside a file: the names of members, from the outermost container to the innermost.
 Place = Tuple[str, ...]
 
@@ -20,12 +22,14 @@ class Import:
     """A name that a pickle imports, how often, and at which offset first.
 
     `part` is the heading of the part where this stands: what loaders may reach behind the end of the strict reading. It is '' before that.
+    `member` is what is named behind the module, where that has a point (`Outer.Inner`), and else ''.
     """
 
     name: str
     count: int
     offset: int
     part: str = ''
+    member: str = ''
 
 
 @dataclass(frozen=True)
@@ -33,7 +37,8 @@ class Call:
     """What a pickle does with one thing: how often, at which offset first, and the program's line for that first time.
 
     `what` is the line's first word ('call', 'new', 'state', 'persistent', ..). `name` is what is called, or '' where that is an object
-    that the pickle itself made. `part` is as in `Import`.
+    that the pickle itself made. `part` is as in `Import`. `fits` has the shapes that the arguments have, of those that lists have for the name;
+    calls that differ in them are apart.
     """
 
     what: str
@@ -42,6 +47,7 @@ class Call:
     offset: int
     text: str
     part: str = ''
+    fits: Tuple[str, ...] = ()
 
 
 @dataclass(frozen=True)
@@ -71,8 +77,9 @@ class Result:
 
     `others` counts what is no pickle. `error` says why the file cannot be read, `left` why it was left out (a FIFO, a link to a folder).
     `size`, `modified` and `changed` (nanoseconds; the last change of the content, and of the inode, which nobody can choose), `device`, `inode`
-    and `digest` (SHA-256 of the bytes, where that was asked for) show `--resume` whether the file is still the one that was looked at. `keys` is how many keys of a server this is about (several results may be of one
-    server), and 0 where it is about a file. `plain` counts pickles that are values of a store, import and call nothing, and end with STOP:
+    and `digest` (SHA-256 of the bytes, where that was asked for) show `--resume` whether the file is still the one that was looked at, and
+    `beside` (of what is beside it and read with it) whether that is. `keys` is how many keys of a server this is about (several results may be
+    of one server), and 0 where it is about a file. `plain` counts pickles that are values of a store, import and call nothing, and end with STOP:
     there may be millions, so they are not in `pickles`. `forms` says of what is no pickle how many have which ending.
     """
 
@@ -91,6 +98,7 @@ class Result:
     device: int = 0
     inode: int = 0
     digest: str = ''
+    beside: str = ''
 
     def _repr_html_(self) -> str:
         """The report about the file, for notebooks."""
@@ -104,15 +112,12 @@ def to_json(result: Result) -> Dict[str, Any]:
             'pickles': [_pickle_object(pickle) for pickle in result.pickles], 'not_pickles': result.others, 'forms': dict(result.forms),
             'notes': [dict(vars(note)) for note in result.notes], 'error': result.error, 'skipped': result.left,
             **({'device': result.device, 'inode': result.inode, 'sha256': result.digest} if result.digest else {}),
-            **{name: count for name, count in (('keys', result.keys), ('plain', result.plain)) if count}}
+            **{name: value for name, value in (('beside', result.beside), ('keys', result.keys), ('plain', result.plain)) if value}}
 
 
 def _object(each: Union[Import, Call]) -> Dict[str, Any]:
-    """The object that stands for an import or a call: without a part where it stands before all headings."""
-    made = dict(vars(each))
-    if not each.part:
-        del made['part']
-    return made
+    """The object that stands for an import or a call: without a part where it stands before all headings, and without a usual member and shapes."""
+    return {name: value for name, value in vars(each).items() if value or name not in ('part', 'member', 'fits')}
 
 
 def _pickle_object(pickle: Pickle) -> Dict[str, Any]:
@@ -129,12 +134,17 @@ def from_json(made: Dict[str, Any]) -> Result:
         made['path'], made['size'], made['modified'], tuple(_pickle(pickle) for pickle in made['pickles']), made['not_pickles'],
         tuple(Note(tuple(note['where']), note['text'], note['missed']) for note in made['notes']), made['error'], made['skipped'],
         made['changed'], made.get('keys', 0), made.get('plain', 0), tuple(made['forms'].items()),
-        made.get('device', 0), made.get('inode', 0), made.get('sha256', ''),
+        made.get('device', 0), made.get('inode', 0), made.get('sha256', ''), made.get('beside', ''),
     )
 
 
 def _pickle(made: Dict[str, Any]) -> Pickle:
     return Pickle(
-        tuple(made['where']), made['size'], tuple(Import(**each) for each in made['imports']), tuple(Call(**each) for each in made['calls']),
+        tuple(made['where']), made['size'], tuple(Import(**each) for each in made['imports']), tuple(map(_call, made['calls'])),
         End(**made['end']), tuple(made.get('lines', ())),
     )
+
+
+def _call(made: Dict[str, Any]) -> Call:
+    fields: Dict[str, Any] = {**made, 'fits': tuple(made.get('fits', ()))}
+    return Call(**fields)

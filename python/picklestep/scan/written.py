@@ -16,6 +16,7 @@ from .known import known_names
 from .looks import Judge
 from .names import Names, NoList, read_comment, words_for
 from .results import Result
+from .through import why_through
 from .wording import count_of, place_of, shown, times
 
 __all__ = ['Used', 'check_list', 'write_list']
@@ -26,6 +27,7 @@ class _Use:
     count: int = 0
     pickles: int = 0
     first: str = ''
+    member: str = ''
     done: Set[str] = field(default_factory=set)
 
 
@@ -48,14 +50,15 @@ class Used:
                 use.count += found.count
                 use.pickles += 1
                 use.first = min(use.first or place, place)
+                use.member = use.member or found.member
             for done in pickle.calls:
                 if done.name in self._uses:
                     self._uses[done.name].done.add(done.what)
 
-    def without(self, is_there: Callable[[str, Set[str]], bool]) -> 'Used':
-        """Those of the names that are not there yet. `is_there` is asked with a name and what is done with what it imports."""
+    def without(self, is_there: Callable[[str, str, Set[str]], bool]) -> 'Used':
+        """Those of the names that are not there yet. `is_there` is asked with a name, its member and what is done with what it imports."""
         left = Used()
-        left._uses = {name: use for name, use in self._uses.items() if not is_there(name, use.done)}
+        left._uses = {name: use for name, use in self._uses.items() if not is_there(name, use.member, use.done)}
         return left
 
     def places(self) -> List[str]:
@@ -66,7 +69,7 @@ class Used:
         """The lines of the list."""
         for name, use in sorted(self._uses.items()):
             note = f'{times(use.count)} in {count_of(use.pickles, "pickle")}, first in {use.first}'
-            why = known_names().note(name)
+            why = known_names().note(name) or why_through(name, use.member or name.rpartition('.')[2])
             entry = shown(name) + words_for(use.done)
             if why is not None or name.startswith('#') or '*' in name:
                 yield f'# {entry}  # {why + "; " if why else ""}{note}'
@@ -112,8 +115,8 @@ def _added(path: str, before: bytes, used: Used) -> bytes:
     judge = Judge(names)
     struck = {line.name for line in map(read_comment, (text for _, text, _ in lines_of(before, path))) if line is not None}
 
-    def is_there(name: str, done: Set[str]) -> bool:
-        return name in struck or judge.mark(name) is None and all(names.allows_done(what, name) for what in done)
+    def is_there(name: str, member: str, done: Set[str]) -> bool:
+        return name in struck or judge.mark(name, member) is None and all(names.allows_done(what, name) for what in done)
 
     new = used.without(is_there)
     places = new.places()

@@ -8,8 +8,10 @@ from functools import partial
 from .. import tars
 from ..begins import HEAD
 from ..blobs import Blob
+from ..canonical import NotCanonical
 from ..canonical import tars as strict_tars
 from ..canonical import torch
+from ..canonical.forms import WRITERS
 from ..canonical.layouts import of_torch_tar
 from ..containers import ZIP, Held, kind_of
 from ..looking import Looker
@@ -28,9 +30,11 @@ def look_into(looker: Looker, held: Held) -> bool:
     is_torch = torch.TAR_MEMBERS <= {member.name for member in form.members}
     for member in form.members:
         looker.budget.member()
-        if member.role != 'file':
-            continue
         inner, content = where + (member.name,), blob.part(member.offset, member.size)
+        if member.role != 'file':
+            if is_torch and member.name in torch.TAR_MEMBERS:
+                looker.note_form(inner, WRITERS['torch-tar'], NotCanonical('it is no file, and torch reads as this member whatever it leads to'))
+            continue
         if is_torch and member.name in torch.TAR_MEMBERS:
             name = member.name
             looker.is_read(content, content.read(0, HEAD), inner, (name,), partial(of_torch_tar, name), True, depth=depth)

@@ -5,7 +5,8 @@
 
 from __future__ import annotations
 
-from typing import TYPE_CHECKING
+import os
+from typing import TYPE_CHECKING, List
 
 from ..blobs import Blob, BytesBlob
 from ..containers import HDF5, Held
@@ -20,7 +21,7 @@ from .values import SMALL, Values
 if TYPE_CHECKING:
     from ..looking import Looker
 
-__all__ = ['SMALL', 'asks', 'look_behind', 'look_beside', 'look_further', 'look_inside']
+__all__ = ['SMALL', 'asks', 'look_behind', 'look_beside', 'look_further', 'look_inside', 'paths_beside']
 
 # So much shows whether a file may have a pickle behind a few bytes.
 _BEGIN = 1 << 16
@@ -65,6 +66,13 @@ def look_further(looker: 'Looker', blob: Blob, where: Place, depth: int, is_gap:
         return True
     looker.others -= 1
     return False
+
+
+def paths_beside(path: str) -> List[str]:
+    """The files beside a file that are read with it, of those that are there: the logs of SQLite, and the index of `dbm.dumb`."""
+    real = os.path.realpath(path)  # (SQLite looks for its logs there)
+    index = [f'{path[:-4]}.dir'] if path.endswith('.dat') else []
+    return [each for each in (f'{real}-wal', f'{real}-journal', *index) if os.path.isfile(each)]
 
 
 def _may_be_dumb(where: Place) -> bool:

@@ -203,7 +203,7 @@ def _parts(blob: Blob, item: Tuple[int, int], at: int, page: bytes, order: str, 
 # A line of the index as `dbm.dumb` writes it: a key, and where its value is.
 _INDEX = re.compile(rb"""(b?(?:'[^'\\]*(?:\\.[^'\\]*)*'|"[^"\\]*(?:\\.[^"\\]*)*")), \(([0-9]{1,18}), ([0-9]{1,18})\)""")
 # How a line begins that may be one of an index, since `dbm.dumb` takes more than it writes.
-_BEGINS_INDEX = re.compile(rb"""[ \t(\[]*[bBrRuU]{0,2}['"]""")
+_BEGINS_INDEX = re.compile(rb"""[ \t\f(\[{]*[bBrRuU]{0,2}['"]""")
 _END_OF_LINE = re.compile(rb'\r\n?|\n')
 _BLOCK = 512
 _MOST_OF_INDEX = 256 << 20

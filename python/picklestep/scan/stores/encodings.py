@@ -54,7 +54,11 @@ _MOST_TIMES = 16
 _ZLIB_OR_GZIP = 47
 
 _ESCAPE = re.compile(rb'\\(?:u00([0-7][0-9a-fA-F])|([/"\\nrt]))')
-_ESCAPED = {b'n': b'\n', b'r': b'\r', b't': b'\t'}
+_ESCAPED = {b'a': b'\a', b'b': b'\b', b'f': b'\f', b'n': b'\n', b'r': b'\r', b't': b'\t', b'v': b'\v'}
+# A text in quotes. One that nothing ends goes on to the end of the bytes, so that none is read twice.
+_LITERAL = re.compile(rb"""\bb'((?:[^'\\\n]|\\.)*)(?:'|\n|\Z)|"((?:[^"\\]|\\.)*)(?:"|\Z|\\\Z)""", re.DOTALL)
+_LITERAL_ESCAPE = re.compile(rb'\\(?:x([0-9a-fA-F]{2})|u00([0-9a-fA-F]{2})|([0-7]{1,3})|(.))', re.DOTALL)
+_MOST_DEFLATED = 1 << 20
 _STANDARD = bytes.maketrans(b'-_', b'+/')
 
 # What the bytes of a short text are.
@@ -76,7 +80,10 @@ def decoded(content: bytes, goes_on: bool = False) -> Iterator[Tuple[int, str, b
     >>> list(decoded(b'{"body": "gASVAgAAAAAAAABOLg=="}'))
     [(10, 'base64', b'\\x80\\x04\\x95\\x02\\x00\\x00\\x00\\x00\\x00\\x00\\x00N.')]
     """
+    if not goes_on:
+        yield from _deflated(content)
     if b'\\' in content:
+        yield from _literals(content)
         content = _ESCAPE.sub(_unescaped, content)
     marked = content.translate(_IS_SIGN)
     alike = list(blocks(content, marked, LEAST_RUN))
@@ -98,6 +105,50 @@ def decoded(content: bytes, goes_on: bool = False) -> Iterator[Tuple[int, str, b
             for each in _read(content[start:-end], start):
                 last = start
                 yield each
+
+
+def _literals(content: bytes) -> Iterator[Tuple[int, str, bytes]]:
+    """What texts in quotes stand for that have escapes: bytes as `repr` shows them, and strings of JSON whose characters are bytes.
+
+    >>> list(_literals(rb'["cposix\\nsystem\\n."]'))
+    [(1, 'escapes', b'cposix\\nsystem\\n.')]
+    """
+    for match in _LITERAL.finditer(content):
+        text = match[1] or match[2] or b''
+        if b'\\' in text:
+            for inner in _as_bytes(_LITERAL_ESCAPE.sub(_literal_unescaped, text)):
+                if may_hold(inner):
+                    yield match.start(), 'escapes', inner
+
+
+def _as_bytes(text: bytes) -> Iterator[bytes]:
+    """A text without its escapes, and the bytes that its characters are where others stand there as UTF-8."""
+    yield text
+    if not text.isascii():
+        try:
+            yield text.decode('utf-8').encode('latin-1')
+        except UnicodeError:
+            return
+
+
+def _literal_unescaped(match: 're.Match[bytes]') -> bytes:
+    digits = match[1] or match[2]
+    if digits is not None:
+        return bytes.fromhex(digits.decode('ascii'))
+    if match[3] is not None:
+        return bytes([int(match[3], 8) & 255])
+    return _ESCAPED.get(match[4], match[4])
+
+
+def _deflated(content: bytes) -> Iterator[Tuple[int, str, bytes]]:
+    """What all of the bytes stand for as raw deflate, where they are one whole stream of that."""
+    stream = zlib.decompressobj(-15)
+    try:
+        inner = stream.decompress(content, _MOST_DEFLATED)
+    except zlib.error:
+        return
+    if stream.eof and not stream.unused_data and may_hold(inner):
+        yield 0, 'raw deflate', inner
 
 
 def _read(text: bytes, at: int) -> Iterator[Tuple[int, str, bytes]]:

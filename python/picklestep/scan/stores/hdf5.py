@@ -157,7 +157,7 @@ def _look_at_object(h5py: Any, values: Values, item: Any, where: Place, depth: i
         for name, inner, part in _fields(kind, value):
             for number, content in enumerate(_contents(h5py, inner, part)):
                 values.add(content, place + ((name,) if name else ()) + ((f'[{number}]',) if number else ()), depth + 1)
-    if not isinstance(item, h5py.Dataset) or not _has_bytes(h5py, item.dtype):
+    if not isinstance(item, h5py.Dataset) or not _has_bytes(h5py, item.dtype) and not _is_whole(h5py, item.dtype):
         return
     if item.is_virtual or item.external:
         values.looker.note(where, 'its data are in other files, which are not opened', missed=True)
@@ -213,6 +213,11 @@ def _has_bytes(h5py: Any, kind: Any) -> bool:
     return kind.kind in 'SV' and kind.names is None or kind.kind == 'O' or kind.kind in 'ui' and kind.itemsize == 1
 
 
+def _is_whole(h5py: Any, kind: Any) -> bool:
+    """Whether items of this type are whole numbers of any size: a program may keep bytes in these, several in one."""
+    return kind.kind in 'ui' and kind.names is None and h5py.check_enum_dtype(kind) is None
+
+
 def _contents(h5py: Any, kind: Any, value: Any) -> Iterator[bytes]:
     """The bytes in what h5py read."""
     if isinstance(value, h5py.Empty) or not _has_bytes(h5py, kind):
@@ -240,11 +245,11 @@ def _bytes_of(each: Any) -> bytes:
 
 
 class _Bytes(Blob):
-    """A dataset whose items are single bytes. One of several dimensions is read in the order in which it is written."""
+    """A dataset whose items are whole numbers, as the file has their bytes. One of several dimensions is read in the order in which it is written."""
 
     def __init__(self, item: Any) -> None:
         self.item = item
-        self.size = int(item.size)
+        self.size = int(item.size) * item.dtype.itemsize
         self.row = self.size // item.shape[0] if item.shape and item.shape[0] else 1
 
     def read(self, offset: int, count: int) -> bytes:

@@ -72,10 +72,10 @@ async function load(bytes, name, isPickle) {
   if (isPickle) return open(bytes, name, false);
   const inner = await unzipped(bytes, name), directory = directoryOf(inner.bytes);
   if (!directory) return open(inner.bytes, inner.name, false);
-  const { members, count, isWhole } = directory;
+  const { members, odd } = directory;
   page.archive = { bytes: inner.bytes, members };
   const shown = members.slice(0, MOST_MEMBERS).map((member) => ({ name: member.name, size: member.size, note: member.note }));
-  const said = `a zip archive with ${members.length} members${isWhole ? '' : `, and its closing record counts ${count} (picklestep scan says what is odd)`}`;
+  const said = `a zip archive with ${members.length} members${odd && `, and ${odd} (picklestep scan says what is odd)`}`;
   return { said, members: shown, more: members.length - shown.length };
 }
 
