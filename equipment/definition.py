@@ -53,8 +53,8 @@ class World:
         return {
             "fails": Function(2, lambda before, op: False),
             "reply": Function(2, self.reply),
-            "readonly": Function(1, lambda value: self.kind(value) == "buffer"),
-            "mapping": Function(1, lambda value: self.kind(value) in ("thing", "dict")),
+            "readonly": Function(2, lambda acts, value: self.kind(value) == "buffer"),
+            "mapping": Function(2, lambda acts, value: self.kind(value) in ("thing", "dict")),
             "strings_are_bytes": self.strings_are_bytes,
             "looks_up_for_nothing": is_python,
         }
@@ -171,6 +171,11 @@ class Definition:
         self.c_load_way = self.program.value(f"{LOADER}.CLoad", "c_load_way")
         self.c_load_on = self.program.value(f"{LOADER}.CLoad", "c_load_on")
         self.seen_onward = self.program.value(f"{LOADER}.CLoad", "seen_onward")
+        self.seen_loaded = self.program.value(f"{LOADER}.CLoad", "seen_loaded")
+        self.c_load_file = self.program.value(f"{LOADER}.ShownFile", "c_load_file")
+        self.c_load_next = self.program.value(f"{LOADER}.ShownFile", "c_load_next")
+        self.load_pipe = self.program.value(f"{LOADER}.ShortRead", "load_pipe")
+        self.load_next_come = self.program.value(f"{LOADER}.ShortRead", "load_next")
         self.acts_of = self.program.value(f"{LOADER}.Dispatch", "acts_of")
 
     def python(self, data: bytes, plan: Plan, encoding: str) -> Run:
@@ -201,6 +206,20 @@ class Definition:
         begin = self.c_load_way(record, way, tuple(data), 0)
         return self._run(Run(world), begin, lambda x: self.c_load_on(record, way, x), self.seen_onward)
 
+    def in_file(self, data: bytes, plan: Plan, encoding: str, pickles: str, shown: Iterator[int]) -> Run:
+        """What the unpickler in C does with a file that shows so many bytes at one look after another."""
+        world, which, shows = World(plan, encoding == "bytes"), Made(f"Pickles.{pickles}"), _by_turn(shown)
+        record = world.record(is_python=False)
+        begin = self.c_load_file(record, shows, which, tuple(data), 0)
+        return self._run(Run(world), begin, lambda x: self.c_load_next(record, shows, which, x), lambda x: {"now": self.seen_loaded(x["now"])})
+
+    def in_pipe(self, data: bytes, plan: Plan, encoding: str, pickles: str, come: Iterator[int]) -> Run:
+        """What the unpickler in Python does with a pipe, of which so many bytes come at one read after another beside the first."""
+        world, which, comes = World(plan, encoding == "bytes"), Made(f"Pickles.{pickles}"), _by_turn(come)
+        record = world.record(is_python=True)
+        begin = self.load_pipe(record, comes, which, tuple(data), 0)
+        return self._run(Run(world), begin, lambda x: self.load_next_come(record, comes, which, x))
+
     def _run(self, run: Run, begin: Value, step: Value, held: Callable[[Value], Value] = lambda x: x) -> Run:
         """Goes opcode by opcode, as the definition does it, until it ends. `held` is what the unpickler in Python would hold."""
         now, after = None, begin
@@ -215,6 +234,17 @@ class Definition:
                 run.stops.append(loaded.parts)
         run.acts = self.acts_of(loaded)
         return run
+
+
+def _by_turn(numbers: Iterator[int]) -> Function:
+    """The number of each turn."""
+    drawn: list[int] = []
+
+    def of_turn(turn: int) -> int:
+        while len(drawn) <= turn:
+            drawn.append(next(numbers))
+        return drawn[turn]
+    return Function(1, of_turn)
 
 
 def _way(pickles: str, frames: str) -> dict[str, Value]:

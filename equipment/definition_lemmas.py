@@ -94,8 +94,8 @@ class World:
         return {
             "fails": Function(2, lambda before, op: False),
             "reply": Function(2, self.reply),
-            "readonly": Function(1, lambda value: self.flags["readonly"]),
-            "mapping": Function(1, lambda value: self.flags["mapping"]),
+            "readonly": Function(2, lambda acts, value: self.flags["readonly"]),
+            "mapping": Function(2, lambda acts, value: self.flags["mapping"]),
             **{name: self.flags[name] for name in ("strings_are_bytes", "looks_up_for_nothing")},
         }
 
@@ -105,7 +105,8 @@ class World:
         yield f"world_{number} : World"
         reply = f"λ acts a. unwrap_or (slice_get replies_{number} (length acts)) (Answers PyOther)"
         flags = {name: truth(value) for name, value in self.flags.items()}
-        functions = {"fails": "λ before o. false", "reply": reply, "readonly": f"λ v. {flags.pop('readonly')}", "mapping": f"λ v. {flags.pop('mapping')}"}
+        functions = {"fails": "λ before o. false", "reply": reply, "readonly": f"λ acts v. {flags.pop('readonly')}"}
+        functions |= {"stays_readonly": "λ acts more v e. e", "mapping": f"λ acts v. {flags.pop('mapping')}"}
         yield f"world_{number} = record {{ {'; '.join(f'{name} = {text}' for name, text in {**functions, **flags}.items())} }}"
 
 

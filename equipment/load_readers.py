@@ -13,8 +13,8 @@ import socket
 import threading
 import zipfile
 import zlib
-from collections.abc import Callable
-from typing import Any
+from collections.abc import Callable, Iterator
+from typing import Any, Optional
 
 # A socket takes so many bytes before anybody reads.
 MOST_IN_SOCKET = 60_000
@@ -27,17 +27,41 @@ class Peeking(io.BytesIO):
         return self.getvalue()[self.tell():]
 
 
+def shown(data: bytes) -> Iterator[int]:
+    """How many bytes a file with these shows at one look after another, as draws say. 0 is for a file that shows nothing."""
+    chance = random.Random(zlib.crc32(data))
+    while True:
+        yield chance.choice([0, 1, 2, 3, 5, 9, 20, 100, 600, 1 << 30])
+
+
+def come(data: bytes) -> Iterator[int]:
+    """How many bytes of a pipe with these come at one read after another beside the first, as draws say."""
+    chance = random.Random(zlib.crc32(data))
+    while True:
+        yield chance.choice([0, 1, 2, 7, *[1 << 30] * 12])
+
+
 class ShowsSome(io.BytesIO):
     """A file that shows at each look as many bytes as a draw says: no other file can show what this one never does."""
 
     def __init__(self, data: bytes) -> None:
         super().__init__(data)
-        self.chance = random.Random(zlib.crc32(data))
+        self.shown = shown(data)
 
     def peek(self, count: int) -> bytes:
-        # (0 is for a file that shows nothing)
-        shown = self.chance.choice([0, 1, 2, 3, 5, 9, 20, 100, 600, 1 << 30])
-        return self.getvalue()[self.tell():][:shown]
+        return self.getvalue()[self.tell():][:next(self.shown)]
+
+
+class ComesSome(io.BytesIO):
+    """A pipe: a read may answer fewer bytes than it is asked for, as a draw says. A line is answered whole."""
+
+    def __init__(self, data: bytes) -> None:
+        super().__init__(data)
+        self.come = come(data)
+
+    def read(self, count: Optional[int] = -1, /) -> bytes:
+        most = next(self.come) + 1
+        return super().read(most if count is None or count < 0 else min(count, most))
 
 
 class ShortReads(io.RawIOBase):
@@ -127,7 +151,9 @@ ALL: dict[str, Callable[[bytes], Any]] = {
     "Python from a raw file": lambda data: opened(data, 0),
     "Python from short reads": ShortReads,
 }
-READERS = {**ALL, **FEW}
+PIPE = "Python from a pipe"
+SHOWS_SOME = "C from a file that shows some bytes"
+READERS: dict[str, Callable[[bytes], Any]] = {**ALL, **FEW, PIPE: ComesSome}
 LOADS = "pickle.loads"
 # Files that show some bytes ahead: which frames they show whole is in no line.
 SHOW_SOME = frozenset(["C from an open file", "C from gzip", "C from a member of a zip file", "C from a socket", "C from a file that shows some bytes"])

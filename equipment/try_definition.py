@@ -5,7 +5,8 @@
 
 The unpickler in Python is compared with `load_bytes` of crates/pickle_loader/specs, one load of it with `load_way`, frames ignored, and one
 that loads again and again with `load_framed`; those in C with `c_load_way`, frames ignored, and buffered or, where one loads
-again, held. COUNT pickles are made by load_cases.py from the seed and from the real pickles. The pickles that are given come before them, and
+again, held. The one in C from a file that shows some bytes is compared with `c_load_file`, and the one in Python from a pipe with
+`load_pipe`. COUNT pickles are made by load_cases.py from the seed and from the real pickles. The pickles that are given come before them, and
 with --odd the rows of oddities.txt. With --crates the definition is that of another folder of crates. What is printed is JSON: what was
 tried, and what differs.
 """
@@ -27,6 +28,7 @@ import load_cases
 import loads
 from definition import ROOT, Definition, Run, with_deep_stack
 from likeness import verdict
+from load_readers import PIPE, SHOWS_SOME, come, shown
 from load_worker import MOST_MEMORY
 from recorded import Plan, Record, load, register_extensions
 from trials.trial import Noted, Trial
@@ -86,6 +88,8 @@ def try_case(definition: Definition, tally: Tally, case: bytes, kind: str, plan:
     runs = {frames: definition.in_c(case, plan, encoding, pickles, frames) for frames in set(readers.values())}
     for name, frames in readers.items():
         tally.add(name, case, runs[frames], load(name, case, plan, encoding, pickles), encoding)
+    for name, run in ((SHOWS_SOME, definition.in_file(case, plan, encoding, pickles, shown(case))), (PIPE, definition.in_pipe(case, plan, encoding, pickles, come(case)))):
+        tally.add(name, case, run, load(name, case, plan, encoding, pickles), encoding)
 
 
 def try_all(definition: Definition, seed: int, count: int, given: Sequence[bytes]) -> Tally:

@@ -52,7 +52,7 @@ newobj_less h false = newobj_good h
 
 newobj_ex_less : (h : Here) (b : Bool) → RowGood h (cond b (row.Take taking.Three) (row.Take taking.CallWith)) kind.NewEx h.proto (load_newobj_ex h.w (unpickler h))
 newobj_ex_less h true =
-    taken_good h taking.Three kind.NewEx (λ vs q. if_able h.w (can_call_with h.w (item 0 vs) (item 1 vs) (item 2 vs)) q (get h.w (NewEx (item 0 vs) (item 1 vs) (item 2 vs)) q)) (λ e. able_got h (without 3 h.s) kind.NewEx (last_of 3 h.s) (λ proto. NewEx (item 0 (map h.V (last_of 3 h.s))) (item 1 (map h.V (last_of 3 h.s))) (item 2 (map h.V (last_of 3 h.s)))) (can_call_with h.w (item 0 (map h.V (last_of 3 h.s))) (item 1 (map h.V (last_of 3 h.s))) (item 2 (map h.V (last_of 3 h.s)))) refl refl refl)
+    taken_good h taking.Three kind.NewEx (λ vs q. if_able h.w (can_call_with h.w h.acts (item 0 vs) (item 1 vs) (item 2 vs)) q (get h.w (NewEx (item 0 vs) (item 1 vs) (item 2 vs)) q)) (λ e. able_got h (without 3 h.s) kind.NewEx (last_of 3 h.s) (λ proto. NewEx (item 0 (map h.V (last_of 3 h.s))) (item 1 (map h.V (last_of 3 h.s))) (item 2 (map h.V (last_of 3 h.s)))) (can_call_with h.w h.acts (item 0 (map h.V (last_of 3 h.s))) (item 1 (map h.V (last_of 3 h.s))) (item 2 (map h.V (last_of 3 h.s)))) refl refl refl)
 newobj_ex_less h false = newobj_ex_good h
 
 both_hold : (b c : Bool) → (b && c) ≡ true → b ≡ true

@@ -41,12 +41,12 @@ IsNext frames.Buffered o r after item = (drop item.size (all_left r) ≡ all_lef
 IsNext frames.Held o r after item = ⊥
 
 pub data IsTaken (f : Frames) (r : Reader) (o : Operation) (after : Reader) : Type 0 where
-  Reads : (item : Taken) → taken f (frame_left r.frame) (all_left r) ≡ Ok item → ((w : World) (u : Unpickler) → dispatch_as w item.row item.op.opcode item.op.arg u ≡ dispatch w o.opcode o.arg u) → IsNext f o r after item → IsTaken f r o after
+  Reads : (item : Taken) → taken f (frame_left r.frame) (all_left r) ≡ Ok item → IsOf o item.op item.row → IsNext f o r after item → IsTaken f r o after
   Last : all_left after ≡ [] → IsSilent o → IsTaken f r o after
   Never : ((w : World) (u : Unpickler) → dispatch w o.opcode o.arg u ≡ Raised u.acts) → IsTaken f r o after
 
 -- the item loads as the operation
-loads_as : (o p : Operation) (r : Row) → IsOf o p r → (w : World) (u : Unpickler) → dispatch_as w r p.opcode p.arg u ≡ dispatch w o.opcode o.arg u
+pub loads_as : (o p : Operation) (r : Row) → IsOf o p r → (w : World) (u : Unpickler) → dispatch_as w r p.opcode p.arg u ≡ dispatch w o.opcode o.arg u
 loads_as o p r (Itself is own) w u =
     subst (λ (x : Operation). dispatch_as w r x.opcode x.arg u ≡ dispatch w o.opcode o.arg u) (sym is) (own_dispatch w o.opcode o.arg r u own)
 loads_as o p r (Keyed is stop frame loads) w u = subst (λ (x : Operation). dispatch_as w r x.opcode x.arg u ≡ dispatch w o.opcode o.arg u) (sym is) (loads w u)
@@ -184,9 +184,8 @@ same_settled true c bytes t = (refl, refl)
 same_settled false true bytes t = same_framed (nat_le (frame_number t.op) t.left) (nat_le (frame_number t.op) (length bytes - (t.size + t.left))) t (frame_number t.op) (length bytes - (t.size + t.left))
 same_settled false false bytes t = (refl, refl)
 
-loads_item : (o : Operation) (t item : Taken) → item.op ≡ t.op → item.row ≡ t.row → IsOf o t.op t.row → (w : World) (u : Unpickler) → dispatch_as w item.row item.op.opcode item.op.arg u ≡ dispatch w o.opcode o.arg u
-loads_item o t item e f is w u =
-    ap (λ (x : Operation). dispatch_as w item.row x.opcode x.arg u) e ∙ ap (λ (x : Row). dispatch_as w x t.op.opcode t.op.arg u) f ∙ loads_as o t.op t.row is w u
+of_item : (o : Operation) (t item : Taken) → item.op ≡ t.op → item.row ≡ t.row → IsOf o t.op t.row → IsOf o item.op item.row
+of_item o t item e f of = subst (λ (r : Row). IsOf o item.op r) (sym f) (subst (λ (x : Operation). IsOf o x t.row) (sym e) of)
 
 -- ---- with a buffer
 
@@ -197,7 +196,7 @@ buffer_reads r mid after o left l is of b e =
     let t : Taken = taken_as 0 left l in
     let s = settles (all_left r) mid after left l o of b e in
     let same = same_settled (is_stop t.op.opcode) (is_frame t.op.opcode) (all_left r) t in
-    Reads (settled true (all_left r) t) is (loads_item o t (settled true (all_left r) t) same.0 same.1 of) (s.rest, s.left)
+    Reads (settled true (all_left r) t) is (of_item o t (settled true (all_left r) t) same.0 same.1 of) (s.rest, s.left)
 
 buffered_by : (left : ℕ) (bytes : List ℕ) (b : Bool) → ends_in (front_of (take left bytes)) ≡ b
     → taken frames.Buffered left bytes ≡ (if b then within true bytes (length (take left bytes)) (lenient (take left bytes)) else across true bytes (length (take left bytes) - first_read (take left bytes)) (lenient (joined left bytes)))
@@ -325,7 +324,7 @@ buffer_taken (Some (code ∷ rest)) file o after e = frame_taken code rest file 
 plain_taken : (r after more : Reader) (o : Operation) (rest : List ℕ) → IsCovered (all_left r) o rest → all_left more ≡ rest → (is_stop o.opcode ≡ false → all_left more ≡ all_left after) → IsTaken frames.Ignored r o after
 unfolding taken
 plain_taken r after more o rest (Takes l takes of size next) left stop =
-    Reads (taken_as 0 0 l) (ap plain takes) (loads_item o (taken_as 0 0 l) (taken_as 0 0 l) refl refl of) (λ runs. none_more l (all_left r) ∙ next ∙ sym left ∙ stop runs)
+    Reads (taken_as 0 0 l) (ap plain takes) of (λ runs. none_more l (all_left r) ∙ next ∙ sym left ∙ stop runs)
 plain_taken r after more o rest (Ends ends next runs silent) left stop = Last (sym (stop runs) ∙ left ∙ next) silent
 plain_taken r after more o rest (Fails fails) left stop = Never fails
 

@@ -30,7 +30,7 @@ use Rattle.pickle_loader.specs.Text.{way_of}
 use Rattle.pickle_loader.specs.ByFrames.{load_once, load_found, load_frames, load_framed, FramedIsBytes, tells_frames, state_left, NothingBeyondByFrames, NothingElseByFrames}
 use Rattle.pickle_loader.proofs.Onwards.{Begins, Raises}
 use Rattle.pickle_loader.proofs.Plain.{IsQuiet}
-use Rattle.pickle_loader.proofs.Buffering.{IsNext, IsTaken, Reads, Last, Never, are_taken}
+use Rattle.pickle_loader.proofs.Buffering.{IsNext, IsTaken, Reads, Last, Never, loads_as, are_taken}
 use Rattle.pickle_loader.proofs.Environments.{holds_same}
 use Rattle.pickle_loader.proofs.Ways.{by_items, nothing_beyond}
 use Rattle.pickle_loader.proofs.MemoValues.{raised_holds, memo_holds}
@@ -98,7 +98,7 @@ longer acts more l b = (b.0 ++ more, sym (append_assoc (listed_of (acts_of l)) b
 
 -- ---- where nothing is left
 
-no_piece : (r : Reader) → all_left r ≡ [] → fetch r ≡ NoFetch
+pub no_piece : (r : Reader) → all_left r ≡ [] → fetch r ≡ NoFetch
 no_piece r e = by_frame r.frame r.file e
   where
     by_frame : (frame : Option (List ℕ)) (file : List ℕ) → frame_bytes frame ++ file ≡ [] → fetch (record { frame = frame; file = file }) ≡ NoFetch
@@ -123,17 +123,17 @@ over_next w acts p f x y true is begins (inr none) =
 -- ---- an opcode
 
 -- the unpickler that reads it
-record IsReader (p : Pickles) (l : Loaded) (u : Unpickler) : Type 0 where
-  once : (w : World) (o : Operation) → load_once w p o l ≡ loaded (load_op w o u)
-  more : (w : World) (item : Taken) → load_more w p item l ≡ loaded (load_taken w item u)
-  acts : acts_of l ≡ u.acts
+pub record IsReader (p : Pickles) (l : Loaded) (u : Unpickler) : Type 0 where
+  pub once : (w : World) (o : Operation) → load_once w p o l ≡ loaded (load_op w o u)
+  pub more : (w : World) (item : Taken) → load_more w p item l ≡ loaded (load_taken w item u)
+  pub acts : acts_of l ≡ u.acts
 
 again_acts : (p : Pickles) (u : Unpickler) → u.acts ≡ (again p u).acts
 again_acts pickles.First u = refl
 again_acts pickles.All u = refl
 again_acts pickles.OneMemo u = refl
 
-reader_of : (p : Pickles) (l : Loaded) → reads_on p l ≡ true → (u : Unpickler) × IsReader p l u
+pub reader_of : (p : Pickles) (l : Loaded) → reads_on p l ≡ true → (u : Unpickler) × IsReader p l u
 reader_of p (Going u) e = (u, record { once = λ w o. refl; more = λ w item. refl; acts = refl })
 reader_of p (Ended v u) e = (again p u, record { once = λ w o. refl; more = λ w item. refl; acts = again_acts p u })
 reader_of p (Failed acts) e = absurd cc
@@ -173,9 +173,9 @@ go_next : (w : World) (acts : List Act) (p : Pickles) (f : Frames) (o : Operatio
 go_next w acts p f o r after u y z tells rest is begins now (Last none silent) same = Over (quiet_begins acts u (dispatch w o.opcode o.arg u) begins (silent w u)) (inr none)
 go_next w acts p f o r after u y z tells rest is begins now (Never raises) same =
     subst (λ (x : Step). IsBeside acts p f (record { now = loaded x; reader = after }) (load_read (never_fails w) p y z)) (sym (raises w u)) (Over begins (inl tt))
-go_next w acts p f o r after u y z tells rest is begins now (Reads item takes loads next) same =
+go_next w acts p f o r after u y z tells rest is begins now (Reads item takes of next) same =
     let here : z ≡ Ok item = same item takes in
-    let at : loaded (dispatch w o.opcode o.arg u) ≡ (load_read (never_fails w) p y z).now = ap loaded (sym (same_world w o.opcode o.arg u)) ∙ ap loaded (sym (loads (never_fails w) u)) ∙ sym (now item here) in
+    let at : loaded (dispatch w o.opcode o.arg u) ≡ (load_read (never_fails w) p y z).now = ap loaded (sym (same_world w o.opcode o.arg u)) ∙ ap loaded (sym (loads_as o item.op item.row of (never_fails w) u)) ∙ sym (now item here) in
     subst (λ (t : Result Taken FrontFault). loaded (dispatch w o.opcode o.arg u) ≡ (load_read (never_fails w) p y t).now → IsBeside acts p f (record { now = loaded (dispatch w o.opcode o.arg u); reader = after }) (load_read (never_fails w) p y t)) (sym here)
     (λ e. Level e (λ reads. level_of f (level_next w p f o r after item u y tells rest next reads))) at
   where

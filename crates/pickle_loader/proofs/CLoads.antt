@@ -68,12 +68,12 @@ item_value o r (Itself is value) = value
 item_value o r (Gets key is to) = subst (λ (x : Operation). HasValue x) (sym is) refl
 item_value o r (Puts key is to) = subst (λ (x : Operation). HasValue x) (sym is) refl
 
-values_taken : (f : Frames) (left : ℕ) (bytes : List ℕ) (item : Taken) → taken f left bytes ≡ Ok item → HasValue item.op
+pub values_taken : (f : Frames) (left : ℕ) (bytes : List ℕ) (item : Taken) → taken f left bytes ≡ Ok item → HasValue item.op
 values_taken f left bytes item e = item_value item.op item.row (are_items f left bytes item e)
 
 -- ---- along a file
 
-abbrev Held : CLoaded → Type 0
+abbrev pub Held : CLoaded → Type 0
 Held (CGoing u) = Fenced u
 Held (CEnded v u) = Fenced u
 Held (CFailed acts) = ⊤
@@ -105,11 +105,11 @@ more_same w p item (CEnded x u) v f =
     (ap (onward.load_taken (as_in_c w) item) (again_seen p u)) (item_same w item (c_again p u) v (again_fenced p u)))
 more_same w p item (CFailed acts) v f = record { held = tt; is = refl }
 
-record SameOnward (x : COnward) (y : Onward) : Type 0 where
-  held : Held x.now
-  is : seen_onward x ≡ y
+pub record SameOnward (x : COnward) (y : Onward) : Type 0 where
+  pub held : Held x.now
+  pub is : seen_onward x ≡ y
 
-read_same : (w : World) (p : Pickles) (x : COnward) (r : Result Taken FrontFault) → ((item : Taken) → r ≡ Ok item → HasValue item.op) → Held x.now → SameOnward (c_load_read w p x r) (load_read (as_in_c w) p (seen_onward x) r)
+pub read_same : (w : World) (p : Pickles) (x : COnward) (r : Result Taken FrontFault) → ((item : Taken) → r ≡ Ok item → HasValue item.op) → Held x.now → SameOnward (c_load_read w p x r) (load_read (as_in_c w) p (seen_onward x) r)
 read_same w p x (Ok item) values f =
     let more = more_same w p item x.now (values item refl) f in
     record { held = more.held; is = ap (λ (l : Loaded). record { now = l; rest = drop item.size x.rest; left = item.left }) more.is }

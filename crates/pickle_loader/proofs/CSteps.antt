@@ -141,21 +141,21 @@ tuple_iterates (Plain k) e = absurd cc
 tuple_iterates (Own t n) e = refl
 tuple_iterates (Foreign t n) e = refl
 
-dict_keyed : (w : World) (v : Value) → is_dict w v ≡ true → has_keys (as_in_c w) v ≡ true
-dict_keyed w (Own PyDict n) e = refl
-dict_keyed w (Foreign PyDict n) e = e
-dict_keyed w (Foreign PyOther n) e = e
-dict_keyed w _ e = absurd cc
+dict_keyed : (w : World) (acts : List Act) (v : Value) → is_dict w acts v ≡ true → has_keys (as_in_c w) acts v ≡ true
+dict_keyed w acts (Own PyDict n) e = refl
+dict_keyed w acts (Foreign PyDict n) e = e
+dict_keyed w acts (Foreign PyOther n) e = e
+dict_keyed w acts _ e = absurd cc
 
 able : (vs : List Value) → are_call vs ≡ true → can_call (item 0 vs) (item 1 vs) ≡ true
 able vs e =
     let both = both_true (is_elsewhere (item 0 vs)) (is_tuple (item 1 vs)) e in
     and_true (is_elsewhere (item 0 vs)) (iterates (item 1 vs)) both.0 (tuple_iterates (item 1 vs) both.1)
 
-able_with : (w : World) (vs : List Value) → are_call_with w vs ≡ true → can_call_with (as_in_c w) (item 0 vs) (item 1 vs) (item 2 vs) ≡ true
-able_with w vs e =
-    let both = both_true (are_call vs) (is_dict w (item 2 vs)) e in
-    and_true (can_call (item 0 vs) (item 1 vs)) (has_keys (as_in_c w) (item 2 vs)) (able vs both.0) (dict_keyed w (item 2 vs) both.1)
+able_with : (w : World) (acts : List Act) (vs : List Value) → are_call_with w acts vs ≡ true → can_call_with (as_in_c w) acts (item 0 vs) (item 1 vs) (item 2 vs) ≡ true
+able_with w acts vs e =
+    let both = both_true (are_call vs) (is_dict w acts (item 2 vs)) e in
+    and_true (can_call (item 0 vs) (item 1 vs)) (has_keys (as_in_c w) acts (item 2 vs)) (able vs both.0) (dict_keyed w acts (item 2 vs) both.1)
 
 gets_able : (w : World) (a : Act) (b : Bool) (u : CUnpickler) → b ≡ true → Fenced u → Same (inc.get w a u) (py.if_able (as_in_c w) b (seen u) (py.get (as_in_c w) a (seen u)))
 gets_able w a true u e f = gets w a u f
@@ -169,11 +169,11 @@ calls w act u f =
     (λ vs q good g. gets_able w (act vs) (can_call (item 0 vs) (item 1 vs)) q (able vs good) g)
 
 calls_with : (w : World) (u : CUnpickler) → Fenced u
-    → Same (inc.load_newobj_ex w u) (if raises (py.pop 3 (seen u) (λ vs q. only_if (are_call_with w vs) q)) then Raised u.acts else py.load_newobj_ex (as_in_c w) (seen u))
+    → Same (inc.load_newobj_ex w u) (if raises (py.pop 3 (seen u) (λ vs q. only_if (are_call_with w u.acts vs) q)) then Raised u.acts else py.load_newobj_ex (as_in_c w) (seen u))
 calls_with w u f =
-    checks u (flat_pop 3 u.stack) (py.pop 3 (seen u)) (are_call_with w) (λ vs q. inc.get w (NewEx (item 0 vs) (item 1 vs) (item 2 vs)) q)
-    (λ vs q. py.if_able (as_in_c w) (can_call_with (as_in_c w) (item 0 vs) (item 1 vs) (item 2 vs)) q (py.get (as_in_c w) (NewEx (item 0 vs) (item 1 vs) (item 2 vs)) q)) (pop_takes 3 u f)
-    (λ vs q good g. gets_able w (NewEx (item 0 vs) (item 1 vs) (item 2 vs)) (can_call_with (as_in_c w) (item 0 vs) (item 1 vs) (item 2 vs)) q (able_with w vs good) g)
+    checks u (flat_pop 3 u.stack) (py.pop 3 (seen u)) (are_call_with w u.acts) (λ vs q. inc.get w (NewEx (item 0 vs) (item 1 vs) (item 2 vs)) q)
+    (λ vs q. py.if_able (as_in_c w) (can_call_with (as_in_c w) u.acts (item 0 vs) (item 1 vs) (item 2 vs)) q (py.get (as_in_c w) (NewEx (item 0 vs) (item 1 vs) (item 2 vs)) q)) (pop_takes 3 u f)
+    (λ vs q good g. gets_able w (NewEx (item 0 vs) (item 1 vs) (item 2 vs)) (can_call_with (as_in_c w) u.acts (item 0 vs) (item 1 vs) (item 2 vs)) q (able_with w u.acts vs good) g)
 
 instantiates : (w : World) (items : List Value) (u : CUnpickler) → is_elsewhere (item 0 items) ≡ true → Fenced u → Same (inc.instantiated w items u) (py.instantiated (as_in_c w) items (seen u))
 instantiates w [] u good f = refl
@@ -316,14 +316,14 @@ views_plain w (kind.LegacyLine bytes) u f = views_string w.strings_are_bytes u f
 views_plain w _ u f = refl
 
 views_foreign : (w : World) (t : PyType) (n : ℕ) (b : Bool) (u : CUnpickler) → Lower u → Fenced u
-    → Same (if b then inc.ask w (View (Foreign t n)) u (λ v q. inc.replaced (w.readonly (Foreign t n)) (length u.acts) q) else CRaised u.acts)
-    (if b then py.ask (as_in_c w) (View (Foreign t n)) (seen u) (λ v q. py.replaced (w.readonly (Foreign t n)) (length u.acts) q) else Raised u.acts)
+    → Same (if b then inc.ask w (View (Foreign t n)) u (λ v q. inc.replaced (w.readonly u.acts (Foreign t n)) (length u.acts) q) else CRaised u.acts)
+    (if b then py.ask (as_in_c w) (View (Foreign t n)) (seen u) (λ v q. py.replaced (w.readonly u.acts (Foreign t n)) (length u.acts) q) else Raised u.acts)
 unfolding Lower
 views_foreign w t n true u low f = by (w.reply u.acts (View (Foreign t n)))
   where
-    by : (r : Reply) → Same (inc.answered r (View (Foreign t n)) u (λ v q. inc.replaced (w.readonly (Foreign t n)) (length u.acts) q)) (py.answered r (View (Foreign t n)) (seen u) (λ v q. py.replaced (w.readonly (Foreign t n)) (length u.acts) q))
+    by : (r : Reply) → Same (inc.answered r (View (Foreign t n)) u (λ v q. inc.replaced (w.readonly u.acts (Foreign t n)) (length u.acts) q)) (py.answered r (View (Foreign t n)) (seen u) (λ v q. py.replaced (w.readonly u.acts (Foreign t n)) (length u.acts) q))
     by Raises = refl
-    by (Answers x) = exchanged (length u.acts) (w.readonly (Foreign t n)) (inc.acted (View (Foreign t n)) u) (lower_acted (View (Foreign t n)) u low) f
+    by (Answers x) = exchanged (length u.acts) (w.readonly u.acts (Foreign t n)) (inc.acted (View (Foreign t n)) u) (lower_acted (View (Foreign t n)) u low) f
 views_foreign w t n false u low f = refl
 
 views : (w : World) (v : Value) (u : CUnpickler) → Lower u → Fenced u → Same (inc.viewed w v u) (py.viewed (as_in_c w) v (seen u))

@@ -8,17 +8,17 @@ use Rattle.pickle_machine.specs.Move.{fresh}
 use Rattle.pickle_loader.specs.Environment.{Value, Foreign, Act, World}
 use Rattle.pickle_loader.specs.Dispatch.{Loaded, Going, Ended, Failed}
 use Rattle.pickle_loader.specs.Values.{Origin, AsLiteral, AsMade, AsAnswer, AsView, origin, IsViewOf, IsFrom, Knows}
-use Rattle.pickle_loader.specs.Laws.{IsSame, Holds}
+use Rattle.pickle_loader.specs.Laws.{Holds}
 
-view_same : (a w : World) (seen v : Value) → a.readonly ≡ w.readonly → IsViewOf a seen v → IsViewOf w seen v
-view_same a w seen v e (inl is) = inl is
-view_same a w seen v e (inr (t, n, is, same, memory, only)) = inr (t, n, is, same, memory, sym (ap (λ (r : Value → Bool). r (Foreign t n)) e) ∙ only)
+view_same : (a w : World) (acts : List Act) (seen v : Value) → a.readonly ≡ w.readonly → IsViewOf a acts seen v → IsViewOf w acts seen v
+view_same a w acts seen v e (inl is) = inl is
+view_same a w acts seen v e (inr (t, n, is, same, memory, only)) = inr (t, n, is, same, memory, sym (ap (λ (r : List Act → Value → Bool). r acts (Foreign t n)) e) ∙ only)
 
 from_same : (a w : World) (acts : List Act) (k : Kind) (v : Value) (o : Origin) → a.readonly ≡ w.readonly → IsFrom a acts k v o → IsFrom w acts k v o
 from_same a w acts k v AsLiteral e is = is
 from_same a w acts k v (AsMade t items) e is = is
 from_same a w acts k v (AsAnswer act) e is = is
-from_same a w acts k v (AsView seen) e is = view_same a w seen v e is
+from_same a w acts k v (AsView seen) e is = view_same a w acts seen v e is
 
 knows_same : (a w : World) (V : ℕ → Value) (acts : List Act) (heap : List Object) → a.readonly ≡ w.readonly → Knows a V acts heap → Knows w V acts heap
 knows_same a w V acts heap e knows = λ id o there. from_same a w acts o.kind (V id) (origin o.kind (map V o.parts)) e (knows id o there)

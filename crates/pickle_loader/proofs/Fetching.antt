@@ -74,7 +74,7 @@ neither : (a b : Bool) → (a || b) ≡ false → (a ≡ false) × (b ≡ false)
 neither true b e = absurd cc
 neither false b e = (refl, e)
 
-line_found : (text rest : List ℕ) → list_any is_newline text ≡ false → line_at (text ++ 10 ∷ rest) ≡ Some (record { text = text; rest = rest })
+pub line_found : (text rest : List ℕ) → list_any is_newline text ≡ false → line_at (text ++ 10 ∷ rest) ≡ Some (record { text = text; rest = rest })
 line_found [] rest e = refl
 line_found (b ∷ text) rest e =
     let no_one = neither (is_newline b) (list_any is_newline text) e in
@@ -119,7 +119,7 @@ reads_counted s width arg rest front h e =
     ∙ ap (λ (l : List ℕ). Some (piece s l rest)) whole
 
 -- a length that is not below 0
-fault_none : (b : Bool) (f : FrontFault) → (if b then Some f else None) ≡ None → b ≡ false
+pub fault_none : (b : Bool) (f : FrontFault) → (if b then Some f else None) ≡ None → b ≡ false
 fault_none true f e = absurd cc
 fault_none false f e = refl
 

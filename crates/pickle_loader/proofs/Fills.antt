@@ -179,7 +179,7 @@ unfolding FillGood
 own_good h u more new f t n vs v e g = subst (λ (y : Value). Filled h u more new (fill h.w f y vs (image h.V u h.proto h.acts))) (sym e) g
 
 by_class : (h : Here) (u : State) (more : List Change) (new : List Act) (f : Filling) (vs : List Value) (v : Value) (c : Class) → u.heap ≡ h.s.heap → f ≢ filling.Build
-    → class_meets (demand.Target f) c ≡ true → StandsAs h.w c v → new ≡ listed_into (is_any c) f v vs → FillGood h u more new f vs v
+    → class_meets (demand.Target f) c ≡ true → StandsAs h.w h.acts c v → new ≡ listed_into (is_any c) f v vs → FillGood h u more new f vs v
 unfolding FillGood
 by_class h u more new f vs v class.Opaque e ne m (t, n, is) new_is =
     subst (λ (y : Value). Filled h u more new (fill h.w f y vs (image h.V u h.proto h.acts))) (sym is)

@@ -56,3 +56,6 @@ pub mod Crossing
 pub mod Buffering
 pub mod ByFrames
 pub mod ActLines
+pub mod Inputs
+pub mod ShownFiles
+pub mod ShortReads

@@ -181,7 +181,7 @@ newobj_good h = taken_good h taking.Call kind.New (λ vs q. if_able h.w (can_cal
 
 pub newobj_ex_good : (h : Here) → RowGood h (row.Take taking.CallWith) kind.NewEx h.proto (load_newobj_ex h.w (unpickler h))
 newobj_ex_good h =
-    taken_good h taking.CallWith kind.NewEx (λ vs q. if_able h.w (can_call_with h.w (item 0 vs) (item 1 vs) (item 2 vs)) q (get h.w (NewEx (item 0 vs) (item 1 vs) (item 2 vs)) q)) (λ e. able_got h (without 3 h.s) kind.NewEx (last_of 3 h.s) (λ proto. NewEx (item 0 (map h.V (last_of 3 h.s))) (item 1 (map h.V (last_of 3 h.s))) (item 2 (map h.V (last_of 3 h.s)))) (can_call_with h.w (item 0 (map h.V (last_of 3 h.s))) (item 1 (map h.V (last_of 3 h.s))) (item 2 (map h.V (last_of 3 h.s)))) refl refl refl)
+    taken_good h taking.CallWith kind.NewEx (λ vs q. if_able h.w (can_call_with h.w h.acts (item 0 vs) (item 1 vs) (item 2 vs)) q (get h.w (NewEx (item 0 vs) (item 1 vs) (item 2 vs)) q)) (λ e. able_got h (without 3 h.s) kind.NewEx (last_of 3 h.s) (λ proto. NewEx (item 0 (map h.V (last_of 3 h.s))) (item 1 (map h.V (last_of 3 h.s))) (item 2 (map h.V (last_of 3 h.s)))) (can_call_with h.w h.acts (item 0 (map h.V (last_of 3 h.s))) (item 1 (map h.V (last_of 3 h.s))) (item 2 (map h.V (last_of 3 h.s)))) refl refl refl)
 
 by_strings : (V : ℕ → Value) (w : World) (heap : List Object) (acts : List Act) (t : State) (new : List Act) (proto : ℕ) (b c : Bool) (x : Step) (done : List Act) → listed_of done ≡ listed_of acts
     → Good V w heap acts t new proto x → Good V w heap acts t new proto (if b then (if c then x else Raised done) else Raised done)

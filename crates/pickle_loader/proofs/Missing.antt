@@ -205,7 +205,7 @@ missing h op.StackGlobal arg v i =
     take_misses h taking.Names (λ vs q. if is_str h.w (item 1 vs) then (if is_str h.w (item 0 vs) then get h.w (Find q.proto (Given (item 0 vs)) (Given (item 1 vs))) q else Raised q.acts) else Raised q.acts)
 missing h op.Reduce arg v i = call_misses h (takes_call 0 h.s) (λ vs q. if_able h.w (can_call (item 0 vs) (item 1 vs)) q (get h.w (Call (item 0 vs) (item 1 vs)) q))
 missing h op.NewObj arg v i = call_misses h (takes_call 0 h.s) (λ vs q. if_able h.w (can_call (item 0 vs) (item 1 vs)) q (get h.w (New (item 0 vs) (item 1 vs)) q))
-missing h op.NewObjEx arg v i = call_with_misses h (takes_call_with h.s) (λ vs q. if_able h.w (can_call_with h.w (item 0 vs) (item 1 vs) (item 2 vs)) q (get h.w (NewEx (item 0 vs) (item 1 vs) (item 2 vs)) q))
+missing h op.NewObjEx arg v i = call_with_misses h (takes_call_with h.s) (λ vs q. if_able h.w (can_call_with h.w h.acts (item 0 vs) (item 1 vs) (item 2 vs)) q (get h.w (NewEx (item 0 vs) (item 1 vs) (item 2 vs)) q))
 missing h op.Tuple arg v i = any_misses h (λ items q. make PyTuple items q)
 missing h op.List arg v i = any_misses h (λ items q. make PyList items q)
 missing h op.FrozenSet arg v i = any_misses h (λ items q. ask h.w Method q (λ v r. make PyFrozenSet items r))

@@ -37,10 +37,10 @@ both_ways false h = refl
 -- ---- values from elsewhere
 
 -- what can be written and is from elsewhere is opaque
-writable_elsewhere : (w : World) (c : Class) (v : Value) → class_meets demand.Writable c ≡ true → StandsAs w c v → is_elsewhere v ≡ true → is_any c ≡ true
-writable_elsewhere w class.Opaque v m stands e = refl
-writable_elsewhere w class.ByteArray v m (n, is) e = absurd (no_two (is_elsewhere v) e (ap is_elsewhere is))
-writable_elsewhere w _ v m stands e = absurd cc
+writable_elsewhere : (w : World) (acts : List Act) (c : Class) (v : Value) → class_meets demand.Writable c ≡ true → StandsAs w acts c v → is_elsewhere v ≡ true → is_any c ≡ true
+writable_elsewhere w acts class.Opaque v m stands e = refl
+writable_elsewhere w acts class.ByteArray v m (n, is) e = absurd (no_two (is_elsewhere v) e (ap is_elsewhere is))
+writable_elsewhere w acts _ v m stands e = absurd cc
 
 first_part : (V : ℕ → Value) (parts : List ℕ) (p : ℕ) → slice_get parts 0 ≡ Some p → item 0 (map V parts) ≡ V p
 first_part V [] p e = absurd cc
@@ -56,7 +56,7 @@ no_plain k v is e = absurd (no_two (is_elsewhere v) e (ap is_elsewhere is))
 view_elsewhere : (h : Here) (parts : List ℕ) (t : PyType) (n : ℕ) → item 0 (map h.V parts) ≡ Foreign t n → IsSeen h.s.heap kind.ReadOnly parts → views h.s.heap kind.ReadOnly parts ≡ true
 view_elsewhere h parts t n is (p, x, at, there, can) =
     let value : h.V p ≡ Foreign t n = sym (first_part h.V parts p at) ∙ is in
-    let opaque : is_opaque x.kind ≡ true = writable_elsewhere h.w (class_of x.kind) (h.V p) can (stands_as h.w h.acts x.kind (map h.V x.parts) (h.V p) (h.knows p x there)) (ap is_elsewhere value) in
+    let opaque : is_opaque x.kind ≡ true = writable_elsewhere h.w h.acts (class_of x.kind) (h.V p) can (stands_as h.w h.acts x.kind (map h.V x.parts) (h.V p) (h.knows p x there)) (ap is_elsewhere value) in
     ap (λ (g : Option ℕ). option_map_or (opaque_at h.s.heap) g false) at
     ∙ ap (λ (g : Option Object). option_map_or (λ (o : Object). is_opaque o.kind) g false) there
     ∙ opaque
@@ -119,14 +119,14 @@ not_iterates h id within e =
 
 -- ---- what has no keys
 
-keys_by : (w : World) (acts : List Act) (k : Kind) (vs : List Value) (v : Value) → is_elsewhere v ≡ false → IsFrom w acts k v (origin k vs) → meets demand.Keywords k ≡ false → has_keys w v ≡ false
-keys_by w acts kind.ReadOnly vs v near (inl (n, is)) e = ap (has_keys w) is
+keys_by : (w : World) (acts : List Act) (k : Kind) (vs : List Value) (v : Value) → is_elsewhere v ≡ false → IsFrom w acts k v (origin k vs) → meets demand.Keywords k ≡ false → has_keys w acts v ≡ false
+keys_by w acts kind.ReadOnly vs v near (inl (n, is)) e = ap (has_keys w acts) is
 keys_by w acts kind.ReadOnly vs v near (inr (t, n, is, of, memory, only)) e = absurd (no_two (is_elsewhere v) (ap is_elsewhere is) near)
-keys_by w acts kind.Tuple vs v near (n, is, at) e = ap (has_keys w) is
-keys_by w acts kind.List vs v near (n, is, at) e = ap (has_keys w) is
-keys_by w acts kind.Set vs v near (n, is, at) e = ap (has_keys w) is
-keys_by w acts kind.FrozenSet vs v near (n, is, at) e = ap (has_keys w) is
-keys_by w acts (kind.ByteArray bytes) vs v near (n, is, at) e = ap (has_keys w) is
+keys_by w acts kind.Tuple vs v near (n, is, at) e = ap (has_keys w acts) is
+keys_by w acts kind.List vs v near (n, is, at) e = ap (has_keys w acts) is
+keys_by w acts kind.Set vs v near (n, is, at) e = ap (has_keys w acts) is
+keys_by w acts kind.FrozenSet vs v near (n, is, at) e = ap (has_keys w acts) is
+keys_by w acts (kind.ByteArray bytes) vs v near (n, is, at) e = ap (has_keys w acts) is
 keys_by w acts kind.Dict vs v near from e = absurd cc
 keys_by w acts (kind.Global names) vs v near from e = absurd cc
 keys_by w acts kind.StackGlobal vs v near from e = absurd cc
@@ -139,7 +139,7 @@ keys_by w acts kind.Obj vs v near from e = absurd cc
 keys_by w acts (kind.PersistentLine line) vs v near from e = absurd cc
 keys_by w acts kind.Persistent vs v near from e = absurd cc
 keys_by w acts (kind.Buffer m) vs v near from e = absurd cc
-keys_by w acts k vs v near from e = ap (has_keys w) from
+keys_by w acts k vs v near from e = ap (has_keys w acts) from
 
 -- what may be of any type may have keys
 any_keyed : (c : Class) → is_any c ≡ true → class_meets demand.Keywords c ≡ true
@@ -158,7 +158,7 @@ both_false : (a b : Bool) → a ≡ false → b ≡ false → (a || b) ≡ false
 both_false true b e f = absurd cc
 both_false false b e f = f
 
-pub not_keys : (h : Here) (id : ℕ) → IsWhole h.s → id < length h.s.heap → keyed_at h.s id ≡ false → has_keys h.w (h.V id) ≡ false
+pub not_keys : (h : Here) (id : ℕ) → IsWhole h.s → id < length h.s.heap → keyed_at h.s id ≡ false → has_keys h.w h.acts (h.V id) ≡ false
 not_keys h id whole within e =
     let o = object_at h.s.heap id within in
     let both = neither (object_meets demand.Keywords h.s id) (view_at h.s.heap id) e in
@@ -295,20 +295,20 @@ refuses_own : (w : World) (f : Filling) (t : PyType) (n : ℕ) (v : Value) (item
 unfolding Refuses
 refuses_own w f t n v items u is e = ap (λ (x : Value). fill w f x items u) is ∙ own_raises w f t n items u e
 
-fill_class : (w : World) (f : Filling) (c : Class) (v : Value) (items : List Value) (u : Unpickler) → StandsAs w c v → class_meets (demand.Target f) c ≡ false → is_elsewhere v ≡ false → Refuses w f v items u
+fill_class : (w : World) (acts : List Act) (f : Filling) (c : Class) (v : Value) (items : List Value) (u : Unpickler) → StandsAs w acts c v → class_meets (demand.Target f) c ≡ false → is_elsewhere v ≡ false → Refuses w f v items u
 unfolding own_type
-fill_class w f class.Plain v items u (inl (k, is)) m e = refuses_plain w f k v items u is
-fill_class w f class.Plain v items u (inr (n, is)) m e = refuses_own w f PyFrozenSet n v items u is (class_fill f class.Plain m)
-fill_class w f class.Text v items u (k, is) m e = refuses_plain w f k v items u is
-fill_class w f class.Tuple v items u (n, is) m e = refuses_own w f PyTuple n v items u is (class_fill f class.Tuple m)
-fill_class w f class.List v items u (n, is) m e = refuses_own w f PyList n v items u is (class_fill f class.List m)
-fill_class w f class.Dict v items u (n, is) m e = refuses_own w f PyDict n v items u is (class_fill f class.Dict m)
-fill_class w f class.Set v items u (n, is) m e = refuses_own w f PySet n v items u is (class_fill f class.Set m)
-fill_class w f class.ByteArray v items u (n, is) m e = refuses_own w f PyByteArray n v items u is (class_fill f class.ByteArray m)
-fill_class w f class.ReadOnly v items u (inl (bytes, is)) m e = refuses_plain w f (kind.Bytes bytes) v items u is
-fill_class w f class.ReadOnly v items u (inr (inl (n, is))) m e = refuses_own w f PyMemoryView n v items u is (class_fill f class.ReadOnly m)
-fill_class w f class.ReadOnly v items u (inr (inr (t, n, is, memory, only))) m e = absurd (no_two (is_elsewhere v) (ap is_elsewhere is) e)
-fill_class w f class.Opaque v items u (t, n, is) m e = absurd (no_two (is_elsewhere v) (ap is_elsewhere is) e)
+fill_class w acts f class.Plain v items u (inl (k, is)) m e = refuses_plain w f k v items u is
+fill_class w acts f class.Plain v items u (inr (n, is)) m e = refuses_own w f PyFrozenSet n v items u is (class_fill f class.Plain m)
+fill_class w acts f class.Text v items u (k, is) m e = refuses_plain w f k v items u is
+fill_class w acts f class.Tuple v items u (n, is) m e = refuses_own w f PyTuple n v items u is (class_fill f class.Tuple m)
+fill_class w acts f class.List v items u (n, is) m e = refuses_own w f PyList n v items u is (class_fill f class.List m)
+fill_class w acts f class.Dict v items u (n, is) m e = refuses_own w f PyDict n v items u is (class_fill f class.Dict m)
+fill_class w acts f class.Set v items u (n, is) m e = refuses_own w f PySet n v items u is (class_fill f class.Set m)
+fill_class w acts f class.ByteArray v items u (n, is) m e = refuses_own w f PyByteArray n v items u is (class_fill f class.ByteArray m)
+fill_class w acts f class.ReadOnly v items u (inl (bytes, is)) m e = refuses_plain w f (kind.Bytes bytes) v items u is
+fill_class w acts f class.ReadOnly v items u (inr (inl (n, is))) m e = refuses_own w f PyMemoryView n v items u is (class_fill f class.ReadOnly m)
+fill_class w acts f class.ReadOnly v items u (inr (inr (t, n, is, memory, only))) m e = absurd (no_two (is_elsewhere v) (ap is_elsewhere is) e)
+fill_class w acts f class.Opaque v items u (t, n, is) m e = absurd (no_two (is_elsewhere v) (ap is_elsewhere is) e)
 
 -- of an object that is no target, and whose value is not from elsewhere
 pub not_filled : (h : Here) (f : Filling) (id : ℕ) (items : List Value) (u : Unpickler) → id < length h.s.heap → object_meets (demand.Target f) h.s id ≡ false → is_elsewhere (h.V id) ≡ false
@@ -316,7 +316,7 @@ pub not_filled : (h : Here) (f : Filling) (id : ℕ) (items : List Value) (u : U
 unfolding Refuses
 not_filled h f id items u within m e =
     let o = object_at h.s.heap id within in
-    fill_class h.w f (class_of o.0.kind) (h.V id) items u (stands_as h.w h.acts o.0.kind (map h.V o.0.parts) (h.V id) (h.knows id o.0 o.1)) (not_there (meets (demand.Target f)) h.s.heap id o.0 o.1 m) e
+    fill_class h.w h.acts f (class_of o.0.kind) (h.V id) items u (stands_as h.w h.acts o.0.kind (map h.V o.0.parts) (h.V id) (h.knows id o.0 o.1)) (not_there (meets (demand.Target f)) h.s.heap id o.0 o.1 m) e
 
 -- what is opaque may be filled
 pub target_loose : (h : Here) (f : Filling) (id : ℕ) → id < length h.s.heap → object_meets (demand.Target f) h.s id ≡ false → view_at h.s.heap id ≡ false → loose_at h.s.heap id ≡ false

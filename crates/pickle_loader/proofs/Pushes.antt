@@ -31,28 +31,28 @@ use Rattle.pickle_loader.proofs.Images.{image, listed-append}
 abbrev pub IsPlain : Value → Type 0
 IsPlain v = ((k : Kind) × (v ≡ Plain k)) ⊎ ((n : ℕ) × (v ≡ Own PyFrozenSet n))
 
--- what can only be read already: bytes, a view, or a value whose memory says so
-abbrev pub IsRead : World → Value → Type 0
-IsRead w v = ((bytes : List ℕ) × (v ≡ Plain (kind.Bytes bytes))) ⊎ (((n : ℕ) × (v ≡ Own PyMemoryView n)) ⊎ ((t : PyType) × (n : ℕ) × (v ≡ Foreign t n) × (has_memory t ≡ true) × (w.readonly (Foreign t n) ≡ true)))
+-- what can only be read already, after these acts: bytes, a view, or a value whose memory says so
+abbrev pub IsRead : World → List Act → Value → Type 0
+IsRead w acts v = ((bytes : List ℕ) × (v ≡ Plain (kind.Bytes bytes))) ⊎ (((n : ℕ) × (v ≡ Own PyMemoryView n)) ⊎ ((t : PyType) × (n : ℕ) × (v ≡ Foreign t n) × (has_memory t ≡ true) × (w.readonly acts (Foreign t n) ≡ true)))
 
-abbrev pub StandsAs : World → Class → Value → Type 0
-StandsAs w class.Plain v = IsPlain v
-StandsAs w class.Opaque v = (t : PyType) × (n : ℕ) × (v ≡ Foreign t n)
-StandsAs w class.Text v = (k : Kind) × (v ≡ Plain k)
-StandsAs w class.Tuple v = (n : ℕ) × (v ≡ Own PyTuple n)
-StandsAs w class.List v = (n : ℕ) × (v ≡ Own PyList n)
-StandsAs w class.Dict v = (n : ℕ) × (v ≡ Own PyDict n)
-StandsAs w class.Set v = (n : ℕ) × (v ≡ Own PySet n)
-StandsAs w class.ReadOnly v = IsRead w v
-StandsAs w class.ByteArray v = (n : ℕ) × (v ≡ Own PyByteArray n)
+abbrev pub StandsAs : World → List Act → Class → Value → Type 0
+StandsAs w acts class.Plain v = IsPlain v
+StandsAs w acts class.Opaque v = (t : PyType) × (n : ℕ) × (v ≡ Foreign t n)
+StandsAs w acts class.Text v = (k : Kind) × (v ≡ Plain k)
+StandsAs w acts class.Tuple v = (n : ℕ) × (v ≡ Own PyTuple n)
+StandsAs w acts class.List v = (n : ℕ) × (v ≡ Own PyList n)
+StandsAs w acts class.Dict v = (n : ℕ) × (v ≡ Own PyDict n)
+StandsAs w acts class.Set v = (n : ℕ) × (v ≡ Own PySet n)
+StandsAs w acts class.ReadOnly v = IsRead w acts v
+StandsAs w acts class.ByteArray v = (n : ℕ) × (v ≡ Own PyByteArray n)
 
 -- a view can only be read
-pub view_reads : (w : World) (seen v : Value) → IsViewOf w seen v → IsRead w v
-view_reads w seen v (inl own) = inr (inl own)
-view_reads w seen v (inr (t, n, is, of, memory, only)) = inr (inr (t, n, is, memory, only))
+pub view_reads : (w : World) (acts : List Act) (seen v : Value) → IsViewOf w acts seen v → IsRead w acts v
+view_reads w acts seen v (inl own) = inr (inl own)
+view_reads w acts seen v (inr (t, n, is, of, memory, only)) = inr (inr (t, n, is, memory, only))
 
 -- an origin says the class
-pub stands_as : (w : World) (acts : List Act) (k : Kind) (vs : List Value) (v : Value) → IsFrom w acts k v (origin k vs) → StandsAs w (class_of k) v
+pub stands_as : (w : World) (acts : List Act) (k : Kind) (vs : List Value) (v : Value) → IsFrom w acts k v (origin k vs) → StandsAs w acts (class_of k) v
 stands_as w acts kind.Tuple vs v (n, is, at) = (n, is)
 stands_as w acts kind.List vs v (n, is, at) = (n, is)
 stands_as w acts kind.Dict vs v (n, is, at) = (n, is)
@@ -69,7 +69,7 @@ stands_as w acts kind.Obj vs v (t, n, p, is, at) = (t, n, is)
 stands_as w acts (kind.PersistentLine line) vs v (t, n, p, is, at) = (t, n, is)
 stands_as w acts kind.Persistent vs v (t, n, p, is, at) = (t, n, is)
 stands_as w acts (kind.Buffer m) vs v (t, n, p, is, at) = (t, n, is)
-stands_as w acts kind.ReadOnly vs v from = view_reads w (item 0 vs) v from
+stands_as w acts kind.ReadOnly vs v from = view_reads w acts (item 0 vs) v from
 stands_as w acts kind.FrozenSet vs v (n, is, at) = inr (n, is)
 stands_as w acts (kind.Text bytes) vs v from = (kind.Text bytes, from)
 stands_as w acts (kind.TextLine bytes) vs v from = (kind.TextLine bytes, from)
@@ -86,7 +86,8 @@ from_more : (w : World) (acts more : List Act) (k : Kind) (v : Value) (from : Or
 from_more w acts more k v AsLiteral is = is
 from_more w acts more k v (AsMade t items) (n, is, at) = (n, is, get_more acts more n (Make t items) at)
 from_more w acts more k v (AsAnswer act) (t, n, proto, is, at) = (t, n, proto, is, get_more acts more n (act proto) at)
-from_more w acts more k v (AsView seen) is = is
+from_more w acts more k v (AsView seen) (inl is) = inl is
+from_more w acts more k v (AsView seen) (inr (t, n, is, of, memory, only)) = inr (t, n, is, of, memory, w.stays_readonly acts more (Foreign t n) only)
 
 pub knows_more : (w : World) (V : ℕ → Value) (acts more : List Act) (heap : List Object) → Knows w V acts heap → Knows w V (acts ++ more) heap
 knows_more w V acts more heap knows id o e = from_more w acts more o.kind (V id) (origin o.kind (map V o.parts)) (knows id o e)

@@ -70,7 +70,7 @@ rest_is (i ∷ items) tail (suc j) =
     ∙ rest_is items tail j
 
 -- the offset behind an item
-next_offset : (items : List Item) (j : ℕ) (o : Operation) → slice_get (operations items) j ≡ Some o → sizes (take (suc j) items) ≡ sizes (take j items) + size_of o
+pub next_offset : (items : List Item) (j : ℕ) (o : Operation) → slice_get (operations items) j ≡ Some o → sizes (take (suc j) items) ≡ sizes (take j items) + size_of o
 next_offset [] j o e = absurd cc
 next_offset (i ∷ items) zero o e =
     let same : i.op ≡ o = cc in

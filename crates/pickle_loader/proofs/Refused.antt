@@ -164,28 +164,28 @@ enough_less : (n m : ℕ) (l : ℕ) → m < n → nat_le n l ≡ true → nat_le
 enough_less n m l less e = le-leb (m + 1) l (omega (arith, less, leb-true n l e))
 
 call_with_others : (h : Here) (b : Bool) → IsWhole h.s → takes_call_with h.s ≡ b
-    → Others h (refusal_of (cond b (row.Take taking.Three) (row.Take taking.CallWith)) h.s) (pop 3 (unpickler h) (λ vs q. if_able h.w (can_call_with h.w (item 0 vs) (item 1 vs) (item 2 vs)) q (get h.w (NewEx (item 0 vs) (item 1 vs) (item 2 vs)) q)))
+    → Others h (refusal_of (cond b (row.Take taking.Three) (row.Take taking.CallWith)) h.s) (pop 3 (unpickler h) (λ vs q. if_able h.w (can_call_with h.w h.acts (item 0 vs) (item 1 vs) (item 2 vs)) q (get h.w (NewEx (item 0 vs) (item 1 vs) (item 2 vs)) q)))
 call_with_others h true whole e =
-    take_others h taking.Three (λ vs q. if_able h.w (can_call_with h.w (item 0 vs) (item 1 vs) (item 2 vs)) q (get h.w (NewEx (item 0 vs) (item 1 vs) (item 2 vs)) q)) (λ enough. none h _)
+    take_others h taking.Three (λ vs q. if_able h.w (can_call_with h.w h.acts (item 0 vs) (item 1 vs) (item 2 vs)) q (get h.w (NewEx (item 0 vs) (item 1 vs) (item 2 vs)) q)) (λ enough. none h _)
 call_with_others h false whole e =
-    take_others h taking.CallWith (λ vs q. if_able h.w (can_call_with h.w (item 0 vs) (item 1 vs) (item 2 vs)) q (get h.w (NewEx (item 0 vs) (item 1 vs) (item 2 vs)) q))
+    take_others h taking.CallWith (λ vs q. if_able h.w (can_call_with h.w h.acts (item 0 vs) (item 1 vs) (item 2 vs)) q (get h.w (NewEx (item 0 vs) (item 1 vs) (item 2 vs)) q))
     (λ enough.
     let vs : List Value = map h.V (last_of 3 h.s) in
     let q : Unpickler = image h.V (without 3 h.s) h.proto h.acts in
     let f : Value = h.V (deep 2 h.s.top) in
     let a : Value = h.V (deep 1 h.s.top) in
     let k : Value = h.V (deep 0 h.s.top) in
-    let able : can_call_with h.w f a k ≡ false = elim (not_both (takes_call 1 h.s) (keyed_at h.s (deep 0 h.s.top)) e) [
-      | inl bad ↦ left_false (can_call f a) (has_keys h.w k) (no_call h 1 whole enough bad)
-      | inr bad ↦ right_false (can_call f a) (has_keys h.w k) (not_keys h (deep 0 h.s.top) whole (there_at_depth h 0 3 whole (omega arith) enough) bad)
+    let able : can_call_with h.w h.acts f a k ≡ false = elim (not_both (takes_call 1 h.s) (keyed_at h.s (deep 0 h.s.top)) e) [
+      | inl bad ↦ left_false (can_call f a) (has_keys h.w h.acts k) (no_call h 1 whole enough bad)
+      | inr bad ↦ right_false (can_call f a) (has_keys h.w h.acts k) (not_keys h (deep 0 h.s.top) whole (there_at_depth h 0 3 whole (omega arith) enough) bad)
     ] in
-    let same : can_call_with h.w (item 0 vs) (item 1 vs) (item 2 vs) ≡ false =
-    ap (λ (v : Value). can_call_with h.w v (item 1 vs) (item 2 vs)) (value_at h 3 0 2 refl enough)
-    ∙ ap (λ (v : Value). can_call_with h.w f v (item 2 vs)) (value_at h 3 1 1 refl enough)
-    ∙ ap (λ (v : Value). can_call_with h.w f a v) (value_at h 3 2 0 refl enough)
+    let same : can_call_with h.w h.acts (item 0 vs) (item 1 vs) (item 2 vs) ≡ false =
+    ap (λ (v : Value). can_call_with h.w h.acts v (item 1 vs) (item 2 vs)) (value_at h 3 0 2 refl enough)
+    ∙ ap (λ (v : Value). can_call_with h.w h.acts f v (item 2 vs)) (value_at h 3 1 1 refl enough)
+    ∙ ap (λ (v : Value). can_call_with h.w h.acts f a v) (value_at h 3 2 0 refl enough)
     ∙ able in
-    always h (taking_refusal taking.CallWith h.s) (if_able h.w (can_call_with h.w (item 0 vs) (item 1 vs) (item 2 vs)) q (get h.w (NewEx (item 0 vs) (item 1 vs) (item 2 vs)) q))
-    (unable h (can_call_with h.w (item 0 vs) (item 1 vs) (item 2 vs)) q (get h.w (NewEx (item 0 vs) (item 1 vs) (item 2 vs)) q) refl same))
+    always h (taking_refusal taking.CallWith h.s) (if_able h.w (can_call_with h.w h.acts (item 0 vs) (item 1 vs) (item 2 vs)) q (get h.w (NewEx (item 0 vs) (item 1 vs) (item 2 vs)) q))
+    (unable h (can_call_with h.w h.acts (item 0 vs) (item 1 vs) (item 2 vs)) q (get h.w (NewEx (item 0 vs) (item 1 vs) (item 2 vs)) q) refl same))
 
 -- OBJ
 class_unlisted : (h : Here) (xs : List ℕ) (q : Unpickler) → q.acts ≡ h.acts → is_elsewhere (h.V (get_or xs 0 0)) ≡ false → Unlisted h (instantiated h.w (map h.V xs) q)

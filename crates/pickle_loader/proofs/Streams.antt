@@ -169,12 +169,12 @@ takes (suc n) o bytes s = takes_some (suc n) o bytes (omega arith) s
 
 -- ---- along a document
 
-next_drop : (ops : List Operation) (k : ℕ) (o : Operation) → slice_get ops k ≡ Some o → drop k ops ≡ o ∷ drop (suc k) ops
+pub next_drop : (ops : List Operation) (k : ℕ) (o : Operation) → slice_get ops k ≡ Some o → drop k ops ≡ o ∷ drop (suc k) ops
 next_drop [] k o e = absurd cc
 next_drop (x ∷ ops) zero o e = let same : x ≡ o = cc in ap (λ (y : Operation). y ∷ drop 1 (x ∷ ops)) same
 next_drop (x ∷ ops) (suc k) o e = next_drop ops k o e
 
-abbrev FitsAt : Contents → ℕ → Type 0
+abbrev pub FitsAt : Contents → ℕ → Type 0
 FitsAt d k = (o : Operation) → item_at d k ≡ Some o → FitsFrom d.many false (left_at d k) (o ∷ drop (suc k) (ops_of d)) d.tail (ended_by d)
 
 no_last : (b many : Bool) (left : ℕ) (p : Operation) (ops : List Operation) (tail : List ℕ) (e : Option TailFault) → MatchBool b (IsLast left (p ∷ ops) tail e) (FitsFrom many false left (p ∷ ops) tail e) → FitsFrom many false left (p ∷ ops) tail e
@@ -198,7 +198,7 @@ drop_first : (ops : List Operation) → drop 0 ops ≡ ops
 drop_first [] = refl
 drop_first (x ∷ ops) = refl
 
-fits_at : (d : Contents) → IsFormed d → d.loose ≡ false → length (document_bytes d) < 2 ^ 64 → (k : ℕ) → FitsAt d k
+pub fits_at : (d : Contents) → IsFormed d → d.loose ≡ false → length (document_bytes d) < 2 ^ 64 → (k : ℕ) → FitsAt d k
 fits_at d formed framed small zero o e =
     subst (λ (l : List Operation). FitsFrom d.many false 0 l d.tail (ended_by d)) (sym (drop_first (ops_of d)) ∙ next_drop (ops_of d) 0 o e)
     (subst (λ (w : Bool). FitsFrom d.many w 0 (ops_of d) d.tail (ended_by d)) framed (document_fits d formed (small_document (document_bytes d) d small refl formed.reach)))
@@ -214,7 +214,7 @@ stop_leaves false left o ops tail e stop none quiet fits =
     let last : IsLast (left_behind false left o) ops tail e = subst (λ (b : Bool). MatchBool (b && true) (IsLast (left_behind false left o) ops tail e) (FitsFrom false false (left_behind false left o) ops tail e)) stop fits.1 in
     omega (arith, last.reach, ap length none)
 
-frame_within : (many : Bool) (left : ℕ) (o : Operation) (ops : List Operation) (tail : List ℕ) (e : Option TailFault) → FitsFrom many false left (o ∷ ops) tail e → is_frame o.opcode ≡ true → frame_number o ≤ length (bytes_of ops ++ tail)
+pub frame_within : (many : Bool) (left : ℕ) (o : Operation) (ops : List Operation) (tail : List ℕ) (e : Option TailFault) → FitsFrom many false left (o ∷ ops) tail e → is_frame o.opcode ≡ true → frame_number o ≤ length (bytes_of ops ++ tail)
 frame_within many left o ops tail e fits frame =
     let next : FitsFrom many false (left_behind false left o) ops tail e = subst (λ (b : Bool). MatchBool b (IsLast (left_behind false left o) ops tail e) (FitsFrom many false (left_behind false left o) ops tail e)) (frame_goes many o.opcode frame) fits.1 in
     let number : left_behind false left o ≡ frame_number o = ap (λ (b : Bool). if b then frame_number o else left - size_of o) frame in

@@ -49,10 +49,10 @@ view_in heap None e = absurd cc
 view_in heap (Some o) e = (o, refl, view_kind heap o.kind o.parts e)
 
 -- its value can only be read
-view_read : (h : Here) (id : ℕ) → view_at h.s.heap id ≡ true → IsRead h.w (h.V id)
+view_read : (h : Here) (id : ℕ) → view_at h.s.heap id ≡ true → IsRead h.w h.acts (h.V id)
 view_read h id e =
     let v = view_in h.s.heap (slice_get h.s.heap id) e in
-    view_reads h.w (item 0 (map h.V v.0.parts)) (h.V id) (subst (λ (k : Kind). IsFrom h.w h.acts k (h.V id) (origin k (map h.V v.0.parts))) v.2 (h.knows id v.0 v.1))
+    view_reads h.w h.acts (item 0 (map h.V v.0.parts)) (h.V id) (subst (λ (k : Kind). IsFrom h.w h.acts k (h.V id) (origin k (map h.V v.0.parts))) v.2 (h.knows id v.0 v.1))
 
 -- ---- what is put in
 
@@ -71,7 +71,7 @@ listed_good h Raises t a e is = ([], append-nil (listed_of (h.acts ++ a ∷ []))
 listed_good h (Answers x) t a e is =
     λ foretold. (refl, knows_more h.w h.V h.acts (a ∷ []) t.heap (subst (λ (l : List Object). Knows h.w h.V h.acts l) (sym e) h.knows), listed_one h.acts a ∙ ap (λ (l : List Act). listed_of h.acts ++ l) is)
 
-put_good : (h : Here) (t : State) (f : Filling) (v : Value) (vs : List Value) → t.heap ≡ h.s.heap → IsRead h.w v → Puts h t f v vs (fill h.w f v vs (image h.V t h.proto h.acts))
+put_good : (h : Here) (t : State) (f : Filling) (v : Value) (vs : List Value) → t.heap ≡ h.s.heap → IsRead h.w h.acts v → Puts h t f v vs (fill h.w f v vs (image h.V t h.proto h.acts))
 unfolding Puts
 put_good h t f v vs same (inl (bytes, is)) =
     subst (λ (x : Value). Puts h t f x vs (fill h.w f x vs (image h.V t h.proto h.acts))) (sym is) (raised_good h.V h.w h.s.heap h.acts t _ h.proto h.acts refl)
@@ -79,7 +79,7 @@ put_good h t f v vs same (inr (inl (n, is))) = subst (λ (x : Value). Puts h t f
 put_good h t f v vs same (inr (inr (p, n, is, memory, only))) =
     subst (λ (x : Value). Puts h t f x vs (fill h.w f x vs (image h.V t h.proto h.acts))) (sym is) (listed_good h (h.w.reply h.acts (Fill f (Foreign p n) vs)) t (Fill f (Foreign p n) vs) same refl)
 
-puts_good : (h : Here) (t : State) (f : Filling) (v : Value) (items : List ℕ) → 0 < length items → t.heap ≡ h.s.heap → IsRead h.w v → Puts h t f v (map h.V items) (fills h.w f v (map h.V items) (image h.V t h.proto h.acts))
+puts_good : (h : Here) (t : State) (f : Filling) (v : Value) (items : List ℕ) → 0 < length items → t.heap ≡ h.s.heap → IsRead h.w h.acts v → Puts h t f v (map h.V items) (fills h.w f v (map h.V items) (image h.V t h.proto h.acts))
 puts_good h t f v [] some same read = absurd (omega (arith, some))
 puts_good h t f v (x ∷ items) some same read = put_good h t f v (map h.V (x ∷ items)) same read
 
@@ -127,7 +127,7 @@ change_fills h f g even values e =
     let size : length t.top ≡ length h.s.top - n = length-take-le (length h.s.top - n) h.s.top (omega arith) in
     let count : length items ≡ n = omega (arith, length-drop (length h.s.top - n) h.s.top, below) in
     let at : deep 0 t.top ≡ id = deep_without n h.s.top below in
-    let read : IsRead h.w (h.V (deep 0 t.top)) = subst (λ (i : ℕ). IsRead h.w (h.V i)) (sym at) (view_read h id facts.1) in
+    let read : IsRead h.w h.acts (h.V (deep 0 t.top)) = subst (λ (i : ℕ). IsRead h.w h.acts (h.V i)) (sym at) (view_read h id facts.1) in
     let good = puts_good h t f (h.V (deep 0 t.top)) items (omega (arith, count, values)) refl read in
     let acts : Fill f (h.V (deep 0 t.top)) (map h.V items) ∷ [] ≡ acts_listed h.V h.proto h.s t (Some (event.Filled g.filling g.count g.target)) =
     ap (λ (i : ℕ). Fill f (h.V i) (map h.V items) ∷ []) at

@@ -49,19 +49,19 @@ kept_foreign h t n false b e = raised_good h.V h.w h.s.heap h.acts h.s _ h.proto
 kept_foreign h t n true true e = kept_by h t n (h.w.reply h.acts (View (Foreign t n)))
 kept_foreign h t n true false e = absurd cc
 
-kept : (h : Here) (v : Value) → IsRead h.w v → ViewGood h true (viewed h.w v (unpickler h))
+kept : (h : Here) (v : Value) → IsRead h.w h.acts v → ViewGood h true (viewed h.w v (unpickler h))
 kept h v read = elim read [
   | inl (bytes, is) ↦ subst (λ (y : Value). ViewGood h true (viewed h.w y (unpickler h))) (sym is) (stays_as h h.acts [] (sym (append-nil h.acts)) refl)
   | inr other ↦ (elim other [
     | inl (n, is) ↦ subst (λ (y : Value). ViewGood h true (viewed h.w y (unpickler h))) (sym is) (stays_as h h.acts [] (sym (append-nil h.acts)) refl)
-    | inr (t, n, is, memory, only) ↦ subst (λ (y : Value). ViewGood h true (viewed h.w y (unpickler h))) (sym is) (kept_foreign h t n (has_memory t) (h.w.readonly (Foreign t n)) only)
+    | inr (t, n, is, memory, only) ↦ subst (λ (y : Value). ViewGood h true (viewed h.w y (unpickler h))) (sym is) (kept_foreign h t n (has_memory t) (h.w.readonly h.acts (Foreign t n)) only)
   ])
 ]
 
 -- ---- a view is made
 
 -- the top is exchanged
-exchanged : (h : Here) (v : Value) (more : List Act) → listed_of (h.acts ++ more) ≡ listed_of h.acts → IsViewOf h.w (h.V (deep 0 h.s.top)) v → 0 < length h.s.top → (vs : List Value) → vs ≡ map h.V (take (length h.s.top - 1) h.s.top) ++ v ∷ []
+exchanged : (h : Here) (v : Value) (more : List Act) → listed_of (h.acts ++ more) ≡ listed_of h.acts → IsViewOf h.w (h.acts ++ more) (h.V (deep 0 h.s.top)) v → 0 < length h.s.top → (vs : List Value) → vs ≡ map h.V (take (length h.s.top - 1) h.s.top) ++ v ∷ []
     → ViewGood h false (Ran (record (image h.V h.s h.proto (h.acts ++ more)) { stack = vs }))
 unfolding ViewGood viewed_state
 exchanged h v more same read top vs e foretold =
@@ -71,7 +71,7 @@ exchanged h v more same read top vs e foretold =
     let is : h.V (length h.s.heap) ≡ v = foretold (omega (arith, length-append h.s.heap (x ∷ []))) ∙ ap top_value e ∙ top_appended (map h.V u.top) v in
     let stack : vs ≡ map h.V (u.top ++ length h.s.heap ∷ []) = e ∙ ap (λ (y : Value). map h.V u.top ++ y ∷ []) (sym is) ∙ sym (map-append h.V u.top (length h.s.heap ∷ [])) in (
       ap (λ (l : List Value). record (image h.V h.s h.proto acts) { stack = l }) stack,
-      knows_pushed h.w h.V acts h.s.heap x (knows_more h.w h.V h.acts more h.s.heap h.knows) (subst (λ (y : Value). IsViewOf h.w (item 0 (map h.V (last_of 1 h.s))) y) (sym is) (subst (λ (y : Value). IsViewOf h.w y v) (sym (last_image h.V h.s top)) read)),
+      knows_pushed h.w h.V acts h.s.heap x (knows_more h.w h.V h.acts more h.s.heap h.knows) (subst (λ (y : Value). IsViewOf h.w acts (item 0 (map h.V (last_of 1 h.s))) y) (sym is) (subst (λ (y : Value). IsViewOf h.w acts y v) (sym (last_image h.V h.s top)) read)),
       same ∙ nothing_new _ _ (listed_pushed h.V h.proto h.s (push kind.ReadOnly (last_of 1 h.s) u) h.s.heap x refl),
     )
 
@@ -95,31 +95,31 @@ split_top V xs h = go (length xs - 1) xs (omega (arith, h)) ∙ ap (λ (m : ℕ)
     go zero (x ∷ y ∷ xs) e = absurd (omega (arith, e))
     go (suc m) (x ∷ xs) e = step V x _ _ (go m xs (omega (arith, e)))
 
-by_reading : (h : Here) (t : PyType) (n : ℕ) (b : Bool) → h.w.readonly (Foreign t n) ≡ b → has_memory t ≡ true → h.V (deep 0 h.s.top) ≡ Foreign t n → 0 < length h.s.top → (r : Reply)
+by_reading : (h : Here) (t : PyType) (n : ℕ) (b : Bool) → h.w.readonly h.acts (Foreign t n) ≡ b → has_memory t ≡ true → h.V (deep 0 h.s.top) ≡ Foreign t n → 0 < length h.s.top → (r : Reply)
     → ViewGood h false (answered r (View (Foreign t n)) (unpickler h) (λ v q. replaced b (length h.acts) q))
 unfolding ViewGood
 by_reading h t n b only memory is top Raises = raised_good h.V h.w h.s.heap h.acts (viewed_state h false) _ h.proto (h.acts ++ View (Foreign t n) ∷ []) (quiet h.acts (View (Foreign t n)) refl)
 by_reading h t n true only memory is top (Answers x) =
-    exchanged h (Foreign t n) (View (Foreign t n) ∷ []) (quiet h.acts (View (Foreign t n)) refl) (inr (t, n, refl, is, memory, only)) top (map h.V h.s.top)
+    exchanged h (Foreign t n) (View (Foreign t n) ∷ []) (quiet h.acts (View (Foreign t n)) refl) (inr (t, n, refl, is, memory, h.w.stays_readonly h.acts (View (Foreign t n) ∷ []) (Foreign t n) only)) top (map h.V h.s.top)
     (split_top h.V h.s.top top ∙ ap (λ (v : Value). map h.V (take (length h.s.top - 1) h.s.top) ++ v ∷ []) is)
 by_reading h t n false only memory is top (Answers x) = new_view h (View (Foreign t n) ∷ []) (length h.acts) (quiet h.acts (View (Foreign t n)) refl) top
 
 by_memory : (h : Here) (t : PyType) (n : ℕ) (m : Bool) → has_memory t ≡ m → h.V (deep 0 h.s.top) ≡ Foreign t n → 0 < length h.s.top
-    → ViewGood h false (if m then answered (h.w.reply h.acts (View (Foreign t n))) (View (Foreign t n)) (unpickler h) (λ v q. replaced (h.w.readonly (Foreign t n)) (length h.acts) q) else Raised h.acts)
+    → ViewGood h false (if m then answered (h.w.reply h.acts (View (Foreign t n))) (View (Foreign t n)) (unpickler h) (λ v q. replaced (h.w.readonly h.acts (Foreign t n)) (length h.acts) q) else Raised h.acts)
 unfolding ViewGood
-by_memory h t n true memory is top = by_reading h t n (h.w.readonly (Foreign t n)) refl memory is top (h.w.reply h.acts (View (Foreign t n)))
+by_memory h t n true memory is top = by_reading h t n (h.w.readonly h.acts (Foreign t n)) refl memory is top (h.w.reply h.acts (View (Foreign t n)))
 by_memory h t n false memory is top = raised_good h.V h.w h.s.heap h.acts (viewed_state h false) _ h.proto h.acts refl
 
-seen : (h : Here) (c : Class) → 0 < length h.s.top → class_meets demand.Writable c ≡ true → StandsAs h.w c (h.V (deep 0 h.s.top)) → ViewGood h false (viewed h.w (h.V (deep 0 h.s.top)) (unpickler h))
+seen : (h : Here) (c : Class) → 0 < length h.s.top → class_meets demand.Writable c ≡ true → StandsAs h.w h.acts c (h.V (deep 0 h.s.top)) → ViewGood h false (viewed h.w (h.V (deep 0 h.s.top)) (unpickler h))
 seen h class.Opaque top m (t, n, is) =
     subst (λ (y : Value). ViewGood h false (viewed h.w y (unpickler h))) (sym is) (by_memory h t n (has_memory t) refl is top)
 seen h class.ByteArray top m (n, is) =
     subst (λ (y : Value). ViewGood h false (viewed h.w y (unpickler h))) (sym is) (new_view h (Make PyMemoryView [] ∷ []) (length h.acts) (quiet h.acts (Make PyMemoryView []) refl) top)
 seen h _ top m stands = absurd cc
 
-read_class : (w : World) (c : Class) (v : Value) → class_meets demand.ReadOnly c ≡ true → StandsAs w c v → IsRead w v
-read_class w class.ReadOnly v m stands = stands
-read_class w _ v m stands = absurd cc
+read_class : (w : World) (acts : List Act) (c : Class) (v : Value) → class_meets demand.ReadOnly c ≡ true → StandsAs w acts c v → IsRead w acts v
+read_class w acts class.ReadOnly v m stands = stands
+read_class w acts _ v m stands = absurd cc
 
 one_of : (a b : Bool) → (a || b) ≡ true → a ≡ false → b ≡ true
 one_of true b e f = absurd cc
@@ -129,7 +129,7 @@ view_by : (h : Here) (b : Bool) → 0 < length h.s.top → object_meets demand.R
     → ViewGood h b (viewed h.w (h.V (deep 0 h.s.top)) (unpickler h))
 view_by h true top is e =
     let o = is_there (meets demand.ReadOnly) h.s.heap (deep 0 h.s.top) is in
-    kept h (h.V (deep 0 h.s.top)) (read_class h.w (class_of o.0.kind) (h.V (deep 0 h.s.top)) o.2 (stands_as h.w h.acts o.0.kind (map h.V o.0.parts) (h.V (deep 0 h.s.top)) (h.knows (deep 0 h.s.top) o.0 o.1)))
+    kept h (h.V (deep 0 h.s.top)) (read_class h.w h.acts (class_of o.0.kind) (h.V (deep 0 h.s.top)) o.2 (stands_as h.w h.acts o.0.kind (map h.V o.0.parts) (h.V (deep 0 h.s.top)) (h.knows (deep 0 h.s.top) o.0 o.1)))
 view_by h false top is e =
     let o = is_there (meets demand.Writable) h.s.heap (deep 0 h.s.top) (one_of _ _ e is) in
     seen h (class_of o.0.kind) top o.2 (stands_as h.w h.acts o.0.kind (map h.V o.0.parts) (h.V (deep 0 h.s.top)) (h.knows (deep 0 h.s.top) o.0 o.1))

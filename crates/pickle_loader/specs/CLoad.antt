@@ -1,7 +1,8 @@
 -- A whole load by the unpickler in C, that it is one by the unpickler in Python but for what is named here, and that the lines tell it.
 -- Source: Modules/_pickle.c, `load` (CPython 3.11). What it reads at the front of bytes, frames ignored or kept in a buffer, `taken` says, with
--- its sources.
-use Rattle.std.specs.Prelude.{◌≡◌, ℕ, zero, suc, ◌^◌, ◌<◌, pos, int_lt, ◌||◌, Bool, true, false, List, [], ◌++◌, length, drop, if◌then◌else◌, Result, Ok, Err}
+-- its sources. That ends at a BINSTRING of 2^31 bytes or more, whose length is below 0 to the unpickler in Python. C reads this length without
+-- a sign, and raises where fewer bytes follow: so these definitions are of C where fewer than 2^31 bytes are read.
+use Rattle.std.specs.Prelude.{◌≡◌, ℕ, zero, suc, ◌^◌, ◌<◌, pos, int_lt, ◌||◌, Bool, true, false, List, [], length, drop, if◌then◌else◌, Result, Ok, Err}
 use Rattle.pickle_ops.specs.declared.opcode.Opcode.{Opcode}
 use Rattle.pickle_ops.specs.declared.opcode.Opcode.TheVariants as op
 use Rattle.pickle_ops.specs.declared.form.Form.TheVariants as form
@@ -105,7 +106,7 @@ asked w op.SetItems arg u = pop_mark u (λ items q. only_if (are_pairs items) q)
 asked w op.Obj arg u = pop_mark u (λ items q. only_if (is_elsewhere (item 0 items)) q)
 asked w op.Reduce arg u = pop 2 u (λ vs q. only_if (are_call vs) q)
 asked w op.NewObj arg u = pop 2 u (λ vs q. only_if (are_call vs) q)
-asked w op.NewObjEx arg u = pop 3 u (λ vs q. only_if (are_call_with w vs) q)
+asked w op.NewObjEx arg u = pop 3 u (λ vs q. only_if (are_call_with w u.acts vs) q)
 asked w op.Ext1 arg u = only_if (int_lt (pos 0) (integer_of form.U1 arg)) u
 asked w op.Ext2 arg u = only_if (int_lt (pos 0) (integer_of form.U2 arg)) u
 asked w op.Ext4 arg u = only_if (int_lt (pos 0) (integer_of form.S4 arg)) u
@@ -125,7 +126,9 @@ abbrev pub seen_onward : COnward → Onward
 seen_onward x = record { now = seen_loaded x.now; rest = x.rest; left = x.left }
 
 -- in every environment, for any bytes and each way of reading them, after any number of opcodes: a load by the unpickler in C is, but for these
--- differences, one by the unpickler in Python: stack and metastack, memo, protocol, buffers, all that was done, the value, and where it raised
+-- differences, one by the unpickler in Python: stack and metastack, memo, protocol, buffers, all that was done, the value, and where it raised.
+-- Of what the pickle writes out a value is the kind with its bytes, and not what each unpickler makes of them: from the INT `I+1` C makes True
+-- and Python 1, and from `I010` C makes 8, where Python raises
 abbrev pub OneLoad : Type 0
 OneLoad = (w : World) (way : Way) (bytes : List ℕ) (n : ℕ) → seen_onward (c_load_way w way bytes n) ≡ load_way (as_in_c w) way bytes n
 

@@ -92,18 +92,18 @@ is_tuple (Foreign PyOther n) = true
 is_tuple _ = false
 
 -- PyDict_Check
-abbrev pub is_dict : World → Value → Bool
-is_dict w (Own PyDict n) = true
-is_dict w (Foreign PyDict n) = w.mapping (Foreign PyDict n)
-is_dict w (Foreign PyOther n) = w.mapping (Foreign PyOther n)
-is_dict w _ = false
+abbrev pub is_dict : World → List Act → Value → Bool
+is_dict w acts (Own PyDict n) = true
+is_dict w acts (Foreign PyDict n) = w.mapping acts (Foreign PyDict n)
+is_dict w acts (Foreign PyOther n) = w.mapping acts (Foreign PyOther n)
+is_dict w acts _ = false
 
 -- what is called comes from elsewhere, and its arguments are a tuple
 abbrev pub are_call : List Value → Bool
 are_call vs = is_elsewhere (item 0 vs) && is_tuple (item 1 vs)
 
-abbrev pub are_call_with : World → List Value → Bool
-are_call_with w vs = are_call vs && is_dict w (item 2 vs)
+abbrev pub are_call_with : World → List Act → List Value → Bool
+are_call_with w acts vs = are_call vs && is_dict w acts (item 2 vs)
 
 abbrev pub are_pairs : List Value → Bool
 are_pairs items = length items % 2 == 0
@@ -155,7 +155,7 @@ viewed_plain w _ c = CRaised c.acts
 abbrev pub viewed : World → Value → CUnpickler → CStep
 viewed w (Plain k) c = viewed_plain w k c
 viewed w (Own t n) c = viewed_own t c
-viewed w (Foreign t n) c = if has_memory t then ask w (View (Foreign t n)) c (λ v q. replaced (w.readonly (Foreign t n)) (length c.acts) q) else CRaised c.acts
+viewed w (Foreign t n) c = if has_memory t then ask w (View (Foreign t n)) c (λ v q. replaced (w.readonly c.acts (Foreign t n)) (length c.acts) q) else CRaised c.acts
 
 abbrev pub load_readonly_buffer : World → CUnpickler → CStep
 load_readonly_buffer w c = on_top c (λ v. viewed w v c)
@@ -196,7 +196,7 @@ abbrev pub load_newobj : World → CUnpickler → CStep
 load_newobj w c = pop 2 c (λ vs q. only_if (are_call vs) q (get w (New (item 0 vs) (item 1 vs)) q))
 
 abbrev pub load_newobj_ex : World → CUnpickler → CStep
-load_newobj_ex w c = pop 3 c (λ vs q. only_if (are_call_with w vs) q (get w (NewEx (item 0 vs) (item 1 vs) (item 2 vs)) q))
+load_newobj_ex w c = pop 3 c (λ vs q. only_if (are_call_with w c.acts vs) q (get w (NewEx (item 0 vs) (item 1 vs) (item 2 vs)) q))
 
 abbrev pub load_global : World → List ℕ → List ℕ → CUnpickler → CStep
 load_global w first second c = get w (Find c.proto (Line first) (Line second)) c

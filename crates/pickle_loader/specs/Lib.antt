@@ -20,3 +20,5 @@ pub mod Import
 pub mod FindClass
 pub mod Callee
 pub mod ByFrames
+pub mod ShownFile
+pub mod ShortRead

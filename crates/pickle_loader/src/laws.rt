@@ -13,6 +13,8 @@ ghost use Rattle.pickle_loader.specs.Import.{OnlyImportsSayImport};
 ghost use Rattle.pickle_loader.specs.FindClass.{FoundIsSaid};
 ghost use Rattle.pickle_loader.specs.Callee.{OneLineOneCallee};
 ghost use Rattle.pickle_loader.specs.OneMemo.{NothingElseWithOneMemo, NothingElseWithOneMemoInC};
+ghost use Rattle.pickle_loader.specs.ShownFile.{NothingElseInAFile, NothingElseInAFileWithOneMemo};
+ghost use Rattle.pickle_loader.specs.ShortRead.{PipeIsFile, EachActOfAPipeHasItsLine};
 ghost use Rattle.pickle_loader.specs.CLoad.{OneLoad, NothingBeyondInC, NothingElseInAStream, NothingElseInC};
 
 /// What the unpickler does in any environment is what the lines tell, as far as it does not raise.
@@ -71,6 +73,11 @@ pub fn nothing_else_in_a_stream()
     ensures { NothingElseInAStream }
 {}
 
+/// Nor does the one that reads a file which shows some bytes, however many it shows.
+pub fn nothing_else_in_a_file()
+    ensures { NothingElseInAFile }
+{}
+
 /// An accepted item without a line makes the unpickler do nothing that is listed.
 pub fn no_line_no_act()
     ensures { NoLineNoAct }
@@ -121,6 +128,16 @@ pub fn each_act_has_its_line()
 /// And each act that is listed of the one in C, in each reading that is in the text.
 pub fn each_act_in_c_has_its_line()
     ensures { EachActInCHasItsLine }
+{}
+
+/// As long as no opcode is made of a short answer, the unpickler in Python does with a pipe what it does with a file.
+pub fn pipe_is_file()
+    ensures { PipeIsFile }
+{}
+
+/// And each act that is listed of it up to there has its line in the text.
+pub fn each_act_of_a_pipe_has_its_line()
+    ensures { EachActOfAPipeHasItsLine }
 {}
 
 /// One load by its own frames, and a loop of them, is the load of the bytes.
@@ -202,4 +219,9 @@ pub fn nothing_else_by_frames()
 /// And so the one in C, be frames ignored, or in a buffer that STOP ends or leaves.
 pub fn nothing_else_with_one_memo_in_c()
     ensures { NothingElseWithOneMemoInC }
+{}
+
+/// And so the one in C that reads a file which shows some bytes, where no frame is crossed.
+pub fn nothing_else_in_a_file_with_one_memo()
+    ensures { NothingElseInAFileWithOneMemo }
 {}
