@@ -1,5 +1,5 @@
 // Asks the library. Each line of standard input has a task, which is words of the program (list --many, calls --skip 3:2, debug; or of what the
-// script leaves: edited list and the like), a limit of memory in bytes (0: none), the file that is asked about, the file that the text is put
+// script leaves: edited list and the like; or gate with the file of a list), a limit of memory in bytes (0: none), the file that is asked about, the file that the text is put
 // in, and the file of the script of a conversation, with tabs between them. For each, a line of standard output has the answer and the status.
 // Status 1 where a file cannot be read or written.
 #include <picklestep.h>
@@ -116,6 +116,13 @@ static uint8_t ask_of_script(const char *task, memory given, memory out, pickles
     return ask_with(task, given, out, written);
 }
 
+static uint8_t ask_gate(const char *path, memory given, memory out, picklestep_written *written) {
+    memory list = content_of(path);
+    uint8_t found = picklestep_gate(list.bytes, list.size, given.bytes, given.size, out.bytes, out.size, written);
+    free(list.bytes);
+    return found;
+}
+
 // A task is asked of the function without options where there is one.
 static uint8_t ask(const char *task, memory given, memory out, picklestep_written *written) {
     if (!strcmp(task, "list"))
@@ -134,6 +141,8 @@ static uint8_t ask(const char *task, memory given, memory out, picklestep_writte
         return picklestep_calls_one_memo(given.bytes, given.size, out.bytes, out.size, written);
     if (!strcmp(task, "form"))
         return picklestep_form(given.bytes, given.size, out.bytes, out.size, written);
+    if (begins(task, "gate "))
+        return ask_gate(task + strlen("gate "), given, out, written);
     return ask_of_script(task, given, out, written);
 }
 

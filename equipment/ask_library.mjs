@@ -25,9 +25,14 @@ const OPTIONS = { '--many': 1, '--unframed': 2, '--first': 4, '--memo': 8, '--fu
 const module = new WebAssembly.Module(readFileSync(process.argv[2]));
 if (WebAssembly.Module.imports(module).length) throw new Error('it has imports');
 
-// The function for a task, and what comes before its other arguments: holes are put into its memory.
+// The function for a task, and what comes before its other arguments: holes and lists are put into its memory.
 function asked(task, library) {
     if (TASKS[task]) return TASKS[task];
+    if (task.startsWith('gate ')) {
+        const list = readFileSync(task.slice('gate '.length)), place = library.take(BigInt(list.length + 1));
+        if (place) new Uint8Array(library.memory.buffer).set(list, Number(place));
+        return ['picklestep_gate', place, BigInt(list.length)];
+    }
     const words = task.split(' '), options = words.map((word) => OPTIONS[word] ?? 0).reduce((sum, one) => sum | one);
     const name = `picklestep_${words.slice(0, words[0] === 'edited' ? 2 : 1).join('_')}_with`;
     if (words[0] !== 'calls') return [name, options];

@@ -17,6 +17,7 @@ from typing import Callable
 
 from machines import Answer, Asked, Machines, large
 from sample import rows, sample_of
+from trials.gate import CASES
 from trials.room import beginning
 from trials.trial import Lack, Noted, Trial
 
@@ -131,6 +132,19 @@ class Libraries(Machines):
                 saved += [Asked(task, out) for task in words]
                 runs += [Asked(("edited", *task), file, EDITS) for task in words]
         return saved, runs
+
+    @functools.cached_property
+    def at_gate(self) -> list[Asked]:
+        """The lists and pickles of the trial of the gate."""
+        folder = self.folder / "gate"
+        folder.mkdir(parents=True, exist_ok=True)
+        made = []
+        for number, case in enumerate(CASES):
+            listed, file = folder / f"{number}.list", folder / f"{number}.pickle"
+            listed.write_bytes(case.listed)
+            file.write_bytes(case.pickle)
+            made.append(Asked(("gate", str(listed)), file))
+        return made
 
     # --- The ways to link it ---
 
@@ -326,6 +340,7 @@ ROWS: list[tuple[str, Callable[[Libraries], "str | Noted"]]] = [
     *((f"the library, {WAYS[WHOLE]}: all {text}", functools.partial(compared, way=WHOLE, kind=kind)) for kind, text in (("real", "real pickles"), ("rows", "rows"))),
     *((f"the library, {name}: the sample", functools.partial(compared, way=way, kind="sample")) for way, name in WAYS.items() if way != WHOLE),
     *((f"the library, {WAYS[way]}: what edits leave", functools.partial(of_edits, way=way)) for way in (WHOLE, "module")),
+    *((f"the library, {WAYS[way]}: lists of the gate", functools.partial(compared, way=way, kind="at_gate")) for way in (WHOLE, "arm", "module")),
     *((f"the library, {WAYS[way]}: options of no task", functools.partial(no_tasks, way=way)) for way in (WHOLE, "module")),
     ("the library: random pickles and scripts", fuzzed),
     *((f"the library, {WAYS[way]}: out of memory is an answer", functools.partial(limits, way=way)) for way in ("static", "shared", "musl", "arm")),

@@ -514,7 +514,8 @@ def stands_beside_it(releases: Releases) -> str:
 PAGES = ("share/man/man1/picklestep.1", "share/man/man1/picklestep-scan.1", "share/man/man1/picklestep-view.1")
 BASH = "share/bash-completion/completions/picklestep"
 ZSH = "share/zsh/site-functions/_picklestep"
-WORDS = ("scan", "view", "list", "objects", "calls", "form", "debug", "shell", "source", "diff", "mend")
+PLAIN = ("gate",)  # (a word without options)
+WORDS = ("scan", "view", "list", "objects", "calls", "form", "gate", "debug", "shell", "source", "diff", "mend")
 PAGES_OF = {"scan": PAGES[1], "view": PAGES[2]}
 PROGRAM = ("picklestep", "TOOLCHAIN", "libpicklestep.so")
 MODULE = ("picklestep.mjs", "picklestep.wasm", "libpicklestep.wasm", "TOOLCHAIN")
@@ -656,7 +657,7 @@ def options_of_words(releases: Releases) -> str:
         # (an option of which its line says that it changes nothing need not be offered)
         lines = re.findall(r"^  (--[a-z].*)", run.output, flags=re.M)
         options = {line.split()[0] for line in lines if "changes nothing" not in line}
-        if run.status != 0 or run.errors or not lines:
+        if run.status != 0 or run.errors or not lines and word not in PLAIN:
             return f"{word} --help: status {run.status}, errors {run.errors[:200]!r}"
         name = PAGES_OF.get(word, PAGES[0])
         for place, found in ((name, in_manual((releases.clone / name).read_text(), word)), *((name, words[word]) for name, words in shells.items())):
@@ -699,7 +700,8 @@ def completions(releases: Releases) -> str:
     (at / "two words").write_text("")
     page = str(releases.clone / BASH)
     for words, wanted in (
-        ([""], ["--help", "--version", "calls", "debug", "diff", "form", "help", "list", "mend", "objects", "scan", "shell", "source", "view"]),
+        ([""], ["--help", "--version", "calls", "debug", "diff", "form", "gate", "help", "list", "mend", "objects", "policy", "scan", "shell", "source",
+               "view"]),
         (["help", "sc"], ["scan"]),
         (["ob"], ["objects"]),
         (["one"], ["one.pickle"]),
@@ -708,7 +710,7 @@ def completions(releases: Releases) -> str:
         (["calls", "--f"], ["--first", "--full"]),
         (["debug", "--"], ["--help", "--many", "--save", "--unframed", "--window"]),
         (["scan", "--sar"], ["--sarif"]),
-        (["one.pickle", "--j"], ["--jobs", "--json"]),
+        (["one.pickle", "--j"], ["--jobs", "--json", "--junit"]),
         (["scan", "--allow", "torch"], ["torch", "torch-modules"]),
         (["debug", "one.pickle", "--w"], ["--window"]),
         (["debug", "--window", ""], [""]),

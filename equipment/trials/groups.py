@@ -24,12 +24,13 @@ import several
 import surface
 import try_calls
 import try_definition
+import try_gate
 import try_lines
 import try_others
 import try_readers
 import wheels
 
-from . import begins, examples, forms, large, listings, memory, options, program, usage
+from . import begins, examples, forms, gate, large, listings, memory, options, program, usage
 from .room import Room, Word
 from .trial import Group, Noted, Trial, Verdict
 
@@ -67,7 +68,7 @@ def random_trials(room: Room) -> list[Trial]:
 
 
 def loader_trials(loaded: loads.Loads, room: Room) -> list[Trial]:
-    tried = [*loads.trials(loaded, room.pickles), *try_readers.trials(loaded, room.pickles)]
+    tried = [*loads.trials(loaded, room.pickles), *try_readers.trials(loaded, room.pickles), *try_gate.trials(loaded, room.pickles)]
     return [*tried, *try_others.trials(loaded), *try_definition.trials(room.pickles)]
 
 
@@ -87,6 +88,7 @@ def of_program(room: Room) -> list[AnyGroup]:
         Group("rows", functools.partial(crate_rows.trials, room.root)),
         Group("begins", functools.partial(begins.trials, room)),
         Group("forms", functools.partial(forms.trials, room)),
+        Group("gate", functools.partial(gate.trials, room)),
         Group("opcodes", functools.partial(opcodes.trials, room.root, str(room.program), room.folder / "opcodes")),
         Group("surface", functools.partial(surface.trials, room.root)),
         Group("pages", functools.partial(pages.trials, room.root, str(room.program), room.folder / "pages")),

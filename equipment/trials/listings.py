@@ -15,6 +15,8 @@ from .trial import Trial
 
 # What a rule of real_pickles/README.md lets a listing end before, where Python goes on and refuses the pickle later.
 EARLIER = {"frame_in_a_frame", "lines_with_carriage_returns", "objects_under_a_mark", "double_of_a_mark"}
+# What begins like a zip archive, which the entrance looks into.
+OPENED = {"archive"}
 
 
 def listing_difference(listing: bytes, answer: bytes) -> str:
@@ -42,9 +44,14 @@ def refusal_fault(pickle: Path, listing: bytes) -> str:
     return f"it goes to {reach_of(listing)}, and Python to {refusal[0]}"
 
 
+def start_of(room: Room, pickle: Path) -> Path:
+    """What answers for a pickle: the entrance, or the program itself where the entrance would look for a pickle inside."""
+    return room.program if pickle.stem in OPENED else room.start
+
+
 def fault_of(room: Room, pickle: Path) -> str:
     answer = expected(pickle, room.listings)
-    found = room.observe(room.start, "list", pickle)
+    found = room.observe(start_of(room, pickle), "list", pickle)
     why = found.fault_of_status(int(is_broken(answer)))
     if not why and found.errors:
         why = f"errors, which begin: {beginning(found.errors)}"
@@ -122,7 +129,7 @@ def reply_of(answer: bytes) -> str:
 def fault_there_and_back(room: Room, pickle: Path, window: Sequence[str]) -> str:
     """Runs a pickle to its end, goes back and runs it again. The stack is the same both times, and empty at the start."""
     reply = reply_of(expected(pickle, room.listings))
-    found = room.observe(room.start, "debug", pickle, *window, given=THERE_AND_BACK.encode())
+    found = room.observe(start_of(room, pickle), "debug", pickle, *window, given=THERE_AND_BACK.encode())
     second = found.output.split(b"\n")[1:2]
     stack = second[0].decode() if second and second[0].startswith(b"stack") else ""
     wanted = f"{reply}\n{stack}\nat 0\nstack\n{reply}\n{stack}\n"

@@ -11,7 +11,7 @@ from collections.abc import Callable
 from dataclasses import dataclass, field
 
 from .room import Room, Run, Word, beginning
-from .samples import HOSTILE_CALLS, PAIR_LISTING, PAIR_OBJECTS, TWICE_OBJECTS
+from .samples import HOSTILE_CALLS, NOT_ALLOWED, PAIR_LISTING, PAIR_OBJECTS, TWICE_OBJECTS
 from .trial import Noted, Trial
 
 MOST = 10_000
@@ -42,6 +42,7 @@ class Command:
     output: str
     refused: Callable[[Run, str], str]
     saved: str = ""
+    status: int = 0
 
 
 PAIR = Command("listing a pair", ("list", "pair.pickle"), PAIR_LISTING, is_part)
@@ -50,6 +51,7 @@ COMMANDS = (
     Command("the objects of a pair", ("objects", "pair.pickle"), PAIR_OBJECTS, is_nothing),
     Command("the calls of a pickle", ("calls", "hostile.pickle"), HOSTILE_CALLS, is_part),
     Command("the objects of two pickles", ("objects", "--many", "twice.pickle"), TWICE_OBJECTS, is_nothing),
+    Command("what a list does not allow", ("gate", "names.list", "hostile.pickle"), NOT_ALLOWED, is_nothing, status=1),
     Command(
         "saving a pickle from a window",
         ("debug", "doubled.pickle", "--window", "2", "--save", "saved.pickle"),
@@ -110,11 +112,11 @@ class Memory:
         return self.room.observe("env", *given, f"LD_PRELOAD=../{library.name}", *words)
 
     def fault_of(self, command: Command, found: Run, is_refused: bool) -> str:
-        if found.status != 0 and is_refused:
+        if found.status != command.status and is_refused:
             if found.errors == NO_MEMORY.encode():
                 self.said.add(command.name)
             return command.refused(found, command.output)
-        why = found.difference(0, command.output, "")
+        why = found.difference(command.status, command.output, "")
         if not why and command.saved:
             files = self.room.files
             if (files / "saved.pickle").read_bytes() != (files / command.saved).read_bytes():

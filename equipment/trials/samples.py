@@ -25,6 +25,8 @@ HOSTILE_CALLS = """\
    23: call 'posix' 'system' ('id') as #3
 1 imports, 1 calls
 """
+# What is said of it by names.list.
+NOT_ALLOWED = "23: not allowed: call 'posix' 'system' ('id') as #3\n"
 
 # The size from which an edit is too large, and the size from which a file is not opened.
 LARGE = 2**28
@@ -41,6 +43,7 @@ SMALL = {
     "kept.pickle": DOUBLED,
     "twice.pickle": DOUBLED * 2,
     "hostile.pickle": HOSTILE,
+    "names.list": b"posix.system:\n",
     "dump.pickle": BREAKPOINTS[0],
     "cut_short.pickle": b"X\x05\0\0\0ab",
     "empty.pickle": b"",

@@ -11,9 +11,12 @@ from .room import Room
 from .row import Row, fails, misused, repeated, trials_of, unexpected, valueless
 from .trial import Trial
 
-TASKS = ("list", "objects", "calls", "debug", "form")
+OF_ONE_FILE = ("list", "objects", "calls", "debug", "form")
+TASKS = (*OF_ONE_FILE, "gate")
 ANY_TASK = "<COMMAND>"
-FILE_MISSING = "the following required arguments were not provided:\n  <FILE>"
+GATE = "gate <LIST> <FILE>"
+MISSING = "the following required arguments were not provided:"
+FILE_MISSING = f"{MISSING}\n  <FILE>"
 
 # What the entrance has words of its own for.
 NO_TASKS = (
@@ -36,11 +39,15 @@ NO_TASKS = (
 )
 
 WORDS = (
-    *(misused(f"{task} without a file", task, why=FILE_MISSING, usage=f"{task} <FILE>") for task in TASKS),
+    *(misused(f"{task} without a file", task, why=FILE_MISSING, usage=f"{task} <FILE>") for task in OF_ONE_FILE),
     *(
         misused(f"{task} with two files", task, "pair.pickle", "none.pickle", why="unexpected argument 'none.pickle' found", usage=f"{task} [OPTIONS] <FILE>")
-        for task in TASKS
+        for task in OF_ONE_FILE
     ),
+    misused("a gate without a file", "gate", why=f"{MISSING}\n  <LIST>\n  <FILE>", usage=GATE),
+    misused("a gate with a list alone", "gate", "names.list", why=FILE_MISSING, usage=GATE),
+    misused("a gate with two pickles", "gate", "names.list", "pair.pickle", "none.pickle", why="unexpected argument 'none.pickle' found", usage=GATE),
+    unexpected("several pickles at a gate", "--many", GATE, "gate", "names.list", "pair.pickle", "--many"),
     unexpected("an unknown option of list", "--fast", "list [OPTIONS] <FILE>", "list", "--fast", "pair.pickle"),
     unexpected("an unknown option of list after its file", "--fast", "list <FILE>", "list", "pair.pickle", "--fast"),
     misused(
@@ -108,6 +115,8 @@ WHAT_EACH_DOES = (
     ("debug", "Runs the commands of standard input on FILE: steps forwards and back, shows, edits"),
     ("form", "Says whether FILE is a pickle in the form that picklers write, else where it is not and why"),
 )
+GATE_DOES = ("gate", "Says whether all that the pickle in FILE imports and uses is in LIST, else what is not")
+GATE_FILES = (("<LIST>", "the list of names, and of what may be done with each"), ("<FILE>", "the pickle"))
 OPTIONS = {
     "list": (("    --many", MANY_HELP), ("    --unframed", UNFRAMED_HELP)),
     "objects": (("    --many", MANY_HELP), ("    --unframed", UNFRAMED_HELP)),
@@ -143,7 +152,7 @@ def help_of(name: str, about: str) -> Row:
 
 PROGRAM_HELP = (
     "Shows what a Python pickle would import, call and build, and runs nothing of it\n\nUsage: picklestep <COMMAND>\n\n"
-    + columns("Commands:\n", (*WHAT_EACH_DOES, ("help", "Print this message or the help of the given subcommand(s)")))
+    + columns("Commands:\n", (*WHAT_EACH_DOES, GATE_DOES, ("help", "Print this message or the help of the given subcommand(s)")))
     + columns("\nOptions:\n", (NO_MORE_HELP,))
 )
 HELPS = (
@@ -152,6 +161,13 @@ HELPS = (
         for word in ("--help", "-h", "help")
     ),
     *(help_of(name, about) for name, about in WHAT_EACH_DOES),
+    Row(
+        "the help of gate",
+        ("gate", "--help"),
+        status=2,
+        errors=f"{GATE_DOES[1]}\n\nUsage: picklestep {GATE}\n\n" + columns("Arguments:\n", GATE_FILES) + columns("\nOptions:\n", (NO_MORE_HELP,)),
+        is_bare=True,
+    ),
 )
 
 

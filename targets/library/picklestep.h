@@ -33,7 +33,8 @@ enum {
 typedef struct {
     size_t size;    /* its bytes */
     uint8_t status; /* the status of the program: 1 where an opcode or a line is refused, the bytes have a fault, the lines of `calls` end in
-                       `unsure:` or `kept:`, a pickle is not in the form, or a hole ends behind the last byte, else 0 */
+                       `unsure:` or `kept:`, a pickle is not in the form or does not pass a list, or a hole ends behind the last byte, 2 where a
+                       line of a list is no entry, else 0 */
 } picklestep_written;
 
 /* The opcodes of a pickle; with `many`, of several pickles that follow one another (`picklestep list FILE [--many]`). */
@@ -54,6 +55,11 @@ uint8_t picklestep_calls_one_memo(const uint8_t *bytes, size_t length, uint8_t *
 /* Whether the bytes are one pickle in the form that picklers write, with nothing behind it, or the first place at which they are not, and why
  * (`picklestep form FILE`). */
 uint8_t picklestep_form(const uint8_t *bytes, size_t length, uint8_t *out, size_t room, picklestep_written *written);
+
+/* Whether the bytes are one pickle that passes a list, of `list_length` bytes, or the first place at which they do not, and why
+ * (`picklestep gate LIST FILE`). Where a line of the list is no entry, the text says which, and the status is 2. */
+uint8_t picklestep_gate(const uint8_t *list, size_t list_length, const uint8_t *bytes, size_t length, uint8_t *out, size_t room,
+                        picklestep_written *written);
 
 /* The answers of a conversation: those to all lines of a script, of `script_length` bytes, in a session of a pickle, or with `many` of several
  * (`picklestep debug FILE [--many]`, with the script as its standard input). A conversation that goes on is asked with all lines so far. */

@@ -1,6 +1,6 @@
 -- The form that picklers write: the first place of a document at which it is in another, and why.
 -- Source: own; each rule has its source where it is.
-use Rattle.std.specs.Prelude.{◌≡◌, ℕ, ◌+◌, nat_lt, if◌then◌else◌, Bool, true, false, List, [], ◌∷◌, length, Option, Some, None}
+use Rattle.std.specs.Prelude.{◌≡◌, ℕ, ◌+◌, nat_lt, if◌then◌else◌, false, List, [], ◌∷◌, length, Option, Some, None}
 use Rattle.pickle_ops.specs.Spelling.{Operation, size_of}
 use Rattle.pickle_ops.specs.Row.{row_of}
 use Rattle.pickle_doc.specs.declared.fault.TailFault.{TailFault}

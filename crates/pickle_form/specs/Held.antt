@@ -22,7 +22,7 @@ use Rattle.pickle_form.specs.declared.reason.Reason.TheVariants as reason
 use Rattle.pickle_form.specs.declared.role.Role.{Role}
 use Rattle.pickle_form.specs.declared.role.Role.TheVariants as role
 use Rattle.pickle_form.specs.Name.{is_name}
-use Rattle.pickle_form.specs.Spelled.{or_else, unless}
+use Rattle.pickle_form.specs.Spelled.{unless}
 use Rattle.pickle_form.specs.Run.{is_reduce}
 
 -- ---- roles

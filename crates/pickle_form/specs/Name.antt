@@ -1,8 +1,7 @@
 -- Names of modules and of what they have.
 -- Source: Lib/pickle.py: `whichmodule` and `save_global` (`__module__`, `__qualname__`); names are identifiers joined by points. Which
 -- letters beyond ASCII may be in one is not looked at.
-use Rattle.std.specs.Prelude.{ℕ, ◌==◌, ◌&&◌, ◌||◌, nat_le, if◌then◌else◌, Bool, true, false, List, length, fold, codes}
-use Rattle.std.specs.Str.{bytes_eq}
+use Rattle.std.specs.Prelude.{ℕ, ◌==◌, ◌&&◌, ◌||◌, nat_le, if◌then◌else◌, Bool, true, false, List, fold}
 use Rattle.pickle_ops.specs.Shape.{is_digit}
 use Rattle.pickle_names.specs.declared.coding.Coding.{Coding}
 use Rattle.pickle_names.specs.declared.coding.Coding.TheVariants as coding

@@ -2,7 +2,7 @@
 -- Source: Lib/pickle.py, class `_Pickler`: `save_long`, `save_float`, `put`, `get` (`repr`); Modules/_pickle.c and Python 2's
 -- Modules/cPickle.c: `save_int`, `save_long`, `save_float` (`%.17g`, which leaves `.0` out);
 -- Python/pystrtod.c, `format_float_short`: where there is an exponent. Whether fewer digits say which number it is, is not looked at.
-use Rattle.std.specs.Prelude.{ℕ, ◌+◌, ◌-◌, ◌==◌, ◌&&◌, ◌||◌, not, nat_lt, nat_le, if◌then◌else◌, Bool, true, false, List, length, take, drop, get_or, position, codes, Option, Some, None}
+use Rattle.std.specs.Prelude.{ℕ, ◌+◌, ◌-◌, ◌==◌, ◌&&◌, ◌||◌, not, nat_lt, nat_le, if◌then◌else◌, Bool, true, List, length, take, drop, get_or, position, codes, Option, Some, None}
 use Rattle.std.specs.List.{list_all}
 use Rattle.std.specs.Str.{bytes_eq}
 use Rattle.pickle_ops.specs.Shape.{is_digit}

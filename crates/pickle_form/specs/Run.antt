@@ -2,7 +2,7 @@
 -- Source: Lib/pickle.py, class `_Framer` (`commit_frame`, `write_large_bytes`; from 3.7 on fewer than four bytes get no frame), class
 -- `_Pickler`: `dump`, `memoize`, `save_tuple`, `save_frozenset`, `save_reduce` (where objects are dropped); `pickletools.optimize`; PEP 3154
 -- (PROTO, frames), PEP 574 (protocol 5).
-use Rattle.std.specs.Prelude.{ℕ, ◌+◌, ◌-◌, ◌==◌, ◌&&◌, ◌||◌, not, nat_lt, nat_le, if◌then◌else◌, max, min, Bool, true, false, List, length, Option, Some, None}
+use Rattle.std.specs.Prelude.{ℕ, ◌+◌, ◌-◌, ◌==◌, ◌&&◌, ◌||◌, not, nat_lt, nat_le, if◌then◌else◌, max, min, Bool, true, false, Option}
 use Rattle.pickle_ops.specs.declared.opcode.Opcode.{Opcode}
 use Rattle.pickle_ops.specs.declared.opcode.Opcode.TheVariants as op
 use Rattle.pickle_ops.specs.declared.form.Form.TheVariants as form

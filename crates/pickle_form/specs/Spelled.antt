@@ -2,16 +2,12 @@
 -- Source: Lib/pickle.py, class `_Pickler`: the methods `save_*`, `put`, `get`, `memoize`; Modules/_pickle.c; Python 2's pickle.py and
 -- cPickle.c, which write protocols 0 to 2; dill, which writes GLOBAL in each protocol; torch's
 -- csrc/jit/serialization/pickler.cpp, which writes protocol 2 and integers of eight bytes.
-use Rattle.std.specs.Prelude.{ℕ, ℤ, ◌-◌, ◌^◌, ◌==◌, ◌&&◌, ◌||◌, pos, int_lt, not, nat_lt, nat_le, if◌then◌else◌, Bool, true, false, List, length, get_or, codes, Option, Some, None}
-use Rattle.std.specs.Str.{bytes_eq}
+use Rattle.std.specs.Prelude.{ℕ, ◌-◌, ◌^◌, ◌==◌, ◌&&◌, ◌||◌, pos, int_lt, nat_lt, nat_le, if◌then◌else◌, Bool, true, List, length, get_or, Option, Some, None}
 use Rattle.pickle_names.specs.declared.coding.Coding.TheVariants as coding
 use Rattle.pickle_ops.specs.declared.opcode.Opcode.{Opcode}
 use Rattle.pickle_ops.specs.declared.opcode.Opcode.TheVariants as op
-use Rattle.pickle_ops.specs.declared.form.Form.{Form}
 use Rattle.pickle_ops.specs.declared.form.Form.TheVariants as form
-use Rattle.pickle_ops.specs.Table.{form_of, protocol_of}
 use Rattle.pickle_ops.specs.Argument.{payload, number_of, signed_of, first_text, second_text}
-use Rattle.pickle_ops.specs.Spelling.{Operation}
 use Rattle.pickle_form.specs.declared.reason.Reason.{Reason}
 use Rattle.pickle_form.specs.declared.reason.Reason.TheVariants as reason
 use Rattle.pickle_form.specs.Numeral.{is_natural, is_truth, is_int_line, is_long_line, is_float_line, unsigned}

@@ -1,24 +1,17 @@
 //! The first place at which a pickle is in no pickler's form.
 
-ghost use Rattle.std.specs.Prelude.{◌≡◌, ◌≤◌, ◌<◌, ◌^◌, ◌+◌, nat_lt, length, IfOk};
-ghost use Rattle.pickle_ops.specs.Spelling.{size_of};
-ghost use Rattle.pickle_ops.specs.Row.{row_of};
+ghost use Rattle.std.specs.Prelude.{◌≡◌, ◌≤◌, nat_lt, length, IfOk};
 ghost use Rattle.pickle_doc.specs.Document.{size_limit};
-ghost use Rattle.pickle_form.specs.Form.{fault_reason, at_place, reason_of, IsFirstOther};
-ghost use Rattle.pickle_form.specs.Held.{role_of};
-ghost use Rattle.pickle_form.specs.Inside.{before};
+ghost use Rattle.pickle_form.specs.Form.{fault_reason, at_place, IsFirstOther};
 
-use crate::held::Held;
 use crate::reason::{Other, Reason};
-use crate::role::{Role, role_of};
-use crate::run::{Run, is_reduce};
-use crate::spelled::other_argument;
+use crate::so_far::FormSoFar;
 use pickle_doc::{ItemSource, Items, NextRef, TailFault, is_stop};
-use pickle_ops::{OpRef, Row};
+use pickle_ops::Row;
 use std::alloc::{AllocError, Global};
 
 /// Why bytes are no further opcode.
-fn fault_reason(fault: TailFault) -> Reason
+pub fn fault_reason(fault: TailFault) -> Reason
     ensures { result ≡ fault_reason fault }
 {
     match fault {
@@ -27,25 +20,6 @@ fn fault_reason(fault: TailFault) -> Reason
         TailFault::FramePastEnd => Reason::FramePastEnd,
         TailFault::FrameCrossed => Reason::FrameCrossed,
     }
-}
-
-/// Why no pickler writes this opcode here: the first rule that it breaks.
-fn reason_of(op: &OpRef<'_>, row: Row, role: Role, run: &Run, held: &Held) -> Option<Reason>
-    requires row { row ≡ row_of op.now }
-    requires role { role ≡ role_of op.now.opcode op.now.arg }
-    requires small { run.now.loose + size_of op.now < 2 ^ 63 }
-    ensures { result ≡ reason_of op.now (before run.now held.now) }
-{
-    if let Some(why) = other_argument(op) {
-        return Some(why);
-    }
-    if let Some(why) = run.other(op) {
-        return Some(why);
-    }
-    if let Some(why) = held.other_behind_two(is_reduce(op.opcode())) {
-        return Some(why);
-    }
-    held.other(run.first_here(op), row, role)
 }
 
 /// What is at a place.
@@ -73,8 +47,7 @@ pub fn first_other(alloc: Global, bytes: &[u8]) -> Result<Option<Other>, AllocEr
     ensures { IfOk result (IsFirstOther bytes.now) }
 {
     let mut reader = Items::new(bytes);
-    let mut run = Run::begin();
-    let mut held = Held::new(alloc);
+    let mut form = FormSoFar::begin(alloc);
     let mut place = 0;
     let mut offset = 0;
     'items: loop {
@@ -84,12 +57,9 @@ pub fn first_other(alloc: Global, bytes: &[u8]) -> Result<Option<Other>, AllocEr
             }
             NextRef::Item(op) => {
                 let row = Row::of_ref(&op);
-                let role = role_of(&op);
-                if let Some(why) = reason_of(&op, row, role, &run, &held) {
+                if let Some(why) = form.take(&op, row)? {
                     return Ok(Some(at_place(place, offset, why)));
                 }
-                held.perform(run.first_here(&op), row, role)?;
-                run = run.after(&op);
                 offset += op.size() as u64;
                 place += 1;
                 if !is_stop(op.opcode()) {

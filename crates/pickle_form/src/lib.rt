@@ -9,7 +9,9 @@ mod numeral;
 mod reason;
 mod role;
 mod run;
+mod so_far;
 mod spelled;
 
-pub use first::first_other;
+pub use first::{fault_reason, first_other};
 pub use reason::{Other, Reason};
+pub use so_far::FormSoFar;

@@ -7,6 +7,8 @@ pub mod Feeding
 pub mod Endings
 pub mod Outputs
 pub mod FormTexts
+pub mod GateTexts
+pub mod GateLaws
 pub mod Flushes
 pub mod WordLemmas
 pub mod HexWords

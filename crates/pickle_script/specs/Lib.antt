@@ -7,6 +7,7 @@ pub mod Query
 pub mod Transcript
 pub mod Conversation
 pub mod FormText
+pub mod GateText
 pub mod Grammar
 pub mod GivenHoles
 pub mod FaultText

@@ -9,7 +9,7 @@ use pickle_ops::decimal_of;
 use std::alloc::{AllocError, Global};
 
 /// How many bytes come before the first colon.
-fn before_colon(text: &[u8]) -> usize
+pub(crate) fn before_colon(text: &[u8]) -> usize
     ensures { result ≡ before_colon text.now }
 {
     text.iter().take_while(|byte| **byte != b':').count()

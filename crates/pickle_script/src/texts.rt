@@ -3,8 +3,10 @@
 mod calls;
 mod edited;
 mod form;
+mod gate;
 mod written;
 
 pub use calls::calls_of_file;
 pub use edited::write_session_text;
+pub use gate::write_gate;
 pub use written::{Text, list, list_many, objects, objects_many, write_text};

@@ -17,6 +17,7 @@ use Rattle.pickle_script.specs.declared.texts.written.Text.{Text}
 use Rattle.pickle_script.specs.declared.texts.written.Text.TheVariants as text
 use Rattle.pickle_script.specs.FormText.{form_output}
 use Rattle.pickle_script.specs.Output.{AnswersText, AnswersCalls, IsCallsOfFile, StopsText}
+use Rattle.pickle_script.specs.GateText.{IsGateText, AnswersGate, StopsGate}
 use Rattle.pickle_session.specs.Allowed.{SessionState}
 use Rattle.pickle_script.specs.Conversation.{AppendsBeyond, BrokeBeyond, BrokeSince, StopsReading, StopsWriting}
 use Rattle.picklestep.specs.Talk.{StopsAtDevice, Cuts, IsUnopened}
@@ -24,6 +25,7 @@ use Rattle.picklestep.specs.declared.task.CallsOptions.{CallsOptions}
 use Rattle.picklestep.specs.Files.{Gives, Reports, IsRead}
 use Rattle.picklestep.specs.Skips.{StandFor}
 use Rattle.picklestep.specs.Program.{AnswersWords, Answers}
+use Rattle.picklestep.specs.Gated.{TookGate}
 use Rattle.picklestep.specs.Device.{Took, TookText, NoneWithoutMemory, comes_last, nothing, IsTextOf, is_calls, AnswersInput}
 
 -- ---- what was written on the page
@@ -64,6 +66,14 @@ said_calls told how pickles bytes old new (Err stop.Write) few p = inl p.stopped
 said_calls told how pickles bytes old new (Err stop.Memory) few p = inl p.stopped
 said_calls told how pickles bytes old new (Err stop.Read) few p = absurd p.stopped
 said_calls told how pickles bytes old new (Err stop.TooLarge) few p = too_large bytes few (p.too_large.0 refl)
+
+said_gate : {S : Type 0} (told : S → Told) (list bytes : List ℕ) (old new : S) (answer : Result ℕ Stop) → length bytes ≤ size_limit
+    → AnswersGate list bytes told old new answer → TookText (IsGateText list bytes) (told old) (told new) answer
+said_gate told list bytes old new (Ok status) few p = let w = p.whole in inl (w.0, w.1, (w.2, w.3))
+said_gate told list bytes old new (Err stop.Write) few p = inl p.stopped
+said_gate told list bytes old new (Err stop.Memory) few p = inr (refl, wrote_nothing (told old) (told new) p.stopped)
+said_gate told list bytes old new (Err stop.Read) few p = absurd p.stopped
+said_gate told list bytes old new (Err stop.TooLarge) few p = too_large bytes few (p.too_large.0 refl)
 
 -- ---- what it held was handed on, or that failed
 
@@ -190,6 +200,15 @@ unwritten told text.Form many loose bytes old mid answer p last memory =
     subst (λ (r : Result ℕ Stop). IfErr r (StopsText text.Form many loose bytes (told old) (told mid))) memory p.stopped
 unwritten told (text.Calls pickles detail) many loose bytes old mid answer p last memory = absurd cc
 
+-- nothing was written, and nothing handed on
+flushed_nothing : {S : Type 0} (told : S → Told) (old mid new : S) (d e : Told) (first held : List ℕ) → told mid ≡ told old → Wrote (told mid) (told new) []
+    → told old ≡ holding d first → told new ≡ holding e held → (holding d first).held ≡ 0 → (holding e held).held ≡ 0 → Wrote d e []
+flushed_nothing told old mid new d e first held still calm before after none last =
+    let flushed : Wrote (told old) (told new) [] = subst (λ (x : Told). Wrote x (told new) []) still calm in
+    let from : Wrote (holding d first) (told new) [] = subst (λ (x : Told). Wrote x (told new) []) before flushed in
+    let to : Wrote (holding d first) (holding e held) [] = subst (λ (x : Told). Wrote (holding d first) x []) after from in
+    same_below (λ (a b : Told). Wrote a b []) d e first held none last to
+
 -- where memory ran out nothing was written of a text that comes last
 pub last_unwritten : {S : Type 0} (told : S → Told) (t : Text) (many loose : Bool) (bytes : List ℕ) (old mid new : S) (d e : Told) (first held : List ℕ) (answer result : Result ℕ Stop)
     → AnswersText t many loose bytes told old mid answer → (result ≢ Err stop.Write → result ≡ answer) → (result ≢ Err stop.Write → Wrote (told mid) (told new) [])
@@ -198,10 +217,27 @@ pub last_unwritten : {S : Type 0} (told : S → Told) (t : Text) (many loose : B
 last_unwritten told t many loose bytes old mid new d e first held answer result w passed calm before after none all last memory =
     let n : result ≢ Err stop.Write = λ x. let c : err stop.Memory ≡ err stop.Write = sym memory ∙ x in absurd cc in
     let still : told mid ≡ told old = unwritten told t many loose bytes old mid answer w last (sym (passed n) ∙ memory) in
-    let flushed : Wrote (told old) (told new) [] = subst (λ (x : Told). Wrote x (told new) []) still (calm n) in
-    let from : Wrote (holding d first) (told new) [] = subst (λ (x : Told). Wrote x (told new) []) before flushed in
-    let to : Wrote (holding d first) (holding e held) [] = subst (λ (x : Told). Wrote (holding d first) x []) after from in
-    same_below (λ (a b : Told). Wrote a b []) d e first held none (all n) to
+    flushed_nothing told old mid new d e first held still (calm n) before after none (all n)
+
+-- the text of the gate was written, and what the page held handed on
+pub gate_took : {S : Type 0} (told : S → Told) (list bytes : List ℕ) (old mid new : S) (d e : Told) (first held : List ℕ) (answer result : Result ℕ Stop)
+    → length bytes ≤ size_limit → AnswersGate list bytes told old mid answer
+    → (result ≢ Err stop.Write → result ≡ answer) → (result ≢ Err stop.Write → Wrote (told mid) (told new) []) → (answer ≡ Err stop.Write → new ≡ mid)
+    → (result ≡ Err stop.Write → answer ≢ Err stop.Write → Broke (told mid) (told new) [])
+    → told old ≡ holding d first → told new ≡ holding e held → (holding d first).held ≡ 0 → (result ≢ Err stop.Write → (holding e held).held ≡ 0)
+    → TookGate list bytes d e result
+gate_took told list bytes old mid new d e first held answer result few w passed calm untouched failed before after none all =
+    let h : HandsOn (told mid) (told new) answer result = record { passed = passed; calm = calm; untouched = λ e. ap told (untouched e); failed = failed } in
+    let said = text_handed (IsGateText list bytes) (told old) (told mid) (told new) answer result (said_gate told list bytes old mid answer few w) h in
+    let from : TookText (IsGateText list bytes) (holding d first) (told new) result = subst (λ (x : Told). TookText (IsGateText list bytes) x (told new) result) before said in
+    let to : TookText (IsGateText list bytes) (holding d first) (holding e held) result = subst (λ (x : Told). TookText (IsGateText list bytes) (holding d first) x result) after from in
+    record {
+      took = text_below (IsGateText list bytes) d e first held result none all to;
+      last = λ memory.
+          let n : result ≢ Err stop.Write = λ x. let c : err stop.Memory ≡ err stop.Write = sym memory ∙ x in absurd cc in
+          let still : told mid ≡ told old = subst (λ (r : Result ℕ Stop). IfErr r (StopsGate (IsGateText list bytes) (told old) (told mid))) (sym (passed n) ∙ memory) w.stopped in
+          flushed_nothing told old mid new d e first held still (calm n) before after none (all n);
+    }
 
 -- ---- a conversation
 

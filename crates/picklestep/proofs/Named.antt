@@ -1,6 +1,6 @@
 -- What clap's matches name.
-use Rattle.std.proofs.Common.{◌≡◌, ◌≢◌, ◌⊎◌, inl, inr, bytes_eq, true, ℕ, ◌<◌, ◌≤◌, ◌^◌, List, [], Option, Some, None, Result, Ok, Err, refl, sym, ap, subst, ◌∙◌, arith, codes}
-use Rattle.std.specs.Prelude.{Bool, IsTrue, false, IfSome, IfErr, IsErrAnd, option_map}
+use Rattle.std.proofs.Common.{◌≡◌, ◌≢◌, ◌⊎◌, inl, inr, bytes_eq, true, ℕ, ◌<◌, ◌≤◌, ◌^◌, List, [], Option, Some, None, Result, Ok, Err, Bor, refl, sym, ap, subst, ◌∙◌, arith, codes}
+use Rattle.std.specs.Prelude.{Bool, IsTrue, false, IfSome, IfOk, IfErr, IsErrAnd, option_map}
 use Rattle.std.specs.Str.Parse.{IsNumeral, digits_value, without_leading_plus}
 use Rattle.std.specs.Option.{unwrap_or}
 use Rattle.std.proofs.lemmas.Slice.Eq.{bytes_eq-Decides}
@@ -18,7 +18,7 @@ use Rattle.pickle_further.specs.declared.way.Pickles.{Pickles}
 use Rattle.pickle_further.specs.declared.way.Pickles.TheVariants as pickles
 use Rattle.pickle_show.specs.declared.naming.Detail.{Detail}
 use Rattle.pickle_show.specs.declared.naming.Detail.TheVariants as detail
-use Rattle.picklestep.specs.CommandLine.{Matches, FitsCalls, FitsMemo, GivesReading, HasCallsOptions, HasDetail, HasHoles, HasReading, IsMemory, IsWindow, NamesTask, most_records, program, skips_of}
+use Rattle.picklestep.specs.CommandLine.{Matches, FitsCalls, FitsMemo, GivesReading, HasCallsOptions, HasDetail, HasHoles, HasList, HasReading, IsMemory, IsWindow, NamesTask, most_records, program, skips_of}
 
 -- ---- a subcommand
 
@@ -104,6 +104,20 @@ skips_are texts rows e = sym (ap (λ (o : Option (List Text)). unwrap_or o []) e
 
 pub no_skips : (rows : List Row) → None ≡ all_of (codes "skip") rows → skips_of rows ≡ []
 no_skips rows e = sym (ap (λ (o : Option (List Text)). unwrap_or o []) e)
+
+-- ---- the list
+
+pub list_some : {X E : Type 0} (text : X → Text) (o : Option (Bor Text)) (rows : List Row) (r : Result (Option X) E) → option_map (λ (t : Bor Text). t.now) o ≡ first_of (codes "LIST") rows
+    → IfOk r (λ x. option_map text x ≡ option_map (λ (t : Bor Text). t.now) o) → IfOk r (λ x. IfSome x (λ l. HasList rows (text l)))
+list_some text o rows (Ok None) e w = tt
+list_some text o rows (Ok (Some l)) e w = sym e ∙ sym w
+list_some text o rows (Err x) e w = tt
+
+pub list_none : {X E : Type 0} (text : X → Text) (o : Option (Bor Text)) (rows : List Row) (r : Result (Option X) E) → option_map (λ (t : Bor Text). t.now) o ≡ first_of (codes "LIST") rows
+    → IfOk r (λ x. option_map text x ≡ option_map (λ (t : Bor Text). t.now) o) → r ≡ Ok None → first_of (codes "LIST") rows ≡ None
+list_none text o rows (Ok None) e w is = sym e ∙ sym w
+list_none text o rows (Ok (Some l)) e w is = absurd cc
+list_none text o rows (Err x) e w is = absurd cc
 
 -- ---- the options of `calls`
 

@@ -23,7 +23,7 @@ use Rattle.clap.specs.declared.parser.matches.ValueSource.{ValueSource}
 use Rattle.clap.specs.declared.parser.matches.ValueSource.TheVariants.{CommandLine, DefaultValue}
 use Rattle.clap.proofs.ValueTestLemmas.{accepts-Accepts}
 use Rattle.clap.proofs.WalkLemmas.{both}
-use Rattle.picklestep.specs.CommandLine.{FitsOptions, IsCommand, IsCount, IsWindow, NamesTask, file_rule, first_rule, full_rule, many_rule, memo_rule, most_records, program, save_rule, skip_rule, unframed_rule, window_rule}
+use Rattle.picklestep.specs.CommandLine.{FitsOptions, IsCommand, IsCount, IsWindow, NamesTask, file_rule, first_rule, full_rule, list_rule, many_rule, memo_rule, most_records, program, save_rule, skip_rule, unframed_rule, window_rule}
 use Rattle.picklestep.proofs.Walked.{Each, Keeps, KeepsDefault, enters, enters_rows, found_each, level_is_valid, level_keeps, no_help, required}
 
 -- ---- a row
@@ -270,6 +270,7 @@ pub record IsOurs (sub : Shape) : Type 0 where
   pub command : IsCommand sub.name
   pub suits : Each Suits sub.rules
   pub file : (rows : List Row) → list_all (λ a. not a.required || is_given a.id rows) sub.rules ≡ true → is_given (codes "FILE") rows ≡ true
+  pub list : sub.name ≡ codes "gate" → (rows : List Row) → list_all (λ a. not a.required || is_given a.id rows) sub.rules ≡ true → is_given (codes "LIST") rows ≡ true
 
 unnegated : (b x : Bool) → ((b && false) || x) ≡ true → x ≡ true
 unnegated true x e = e
@@ -282,6 +283,9 @@ all_given s rows e =
     let free = both (list_all (λ a. a.is_free) s.rules) _ entered.1 in
     unnegated s.subcommand_negates_reqs _ free.1
 
+is_some_not : {A : Type 0} {o : Option A} → (t : A) × (o ≡ Some t) → o ≡ None → ⊥
+is_some_not h e = let no : None ≡ Some h.0 = sym e ∙ h.1 in absurd cc
+
 -- all words that a command takes whose subcommands are ours name a task
 names_task : (a : App) (words : List Text) → (built a).top.subcommand_required ≡ true
     → ((name : Text) → Each (λ sub. answers_to name (label_of sub) ≡ true → no_help (built a).top name ≡ true → IsOurs sub) (built a).subs)
@@ -293,7 +297,8 @@ names_task a words needed ours taken fits =
     let rows = rows_after e.sub.rules [] e.rest in
     let all = level_keeps Fine e.sub [] e.rest false (each_keeps e.sub.args_override_self e.sub.rules o.suits)
     (each_default e.sub.rules o.suits) refl e.passes in
-    let file = given_first (codes "FILE") rows all (o.file rows (all_given e.sub rows (level_is_valid e.sub [] e.rest false e.passes))) in
+    let given = all_given e.sub rows (level_is_valid e.sub [] e.rest false e.passes) in
+    let file = given_first (codes "FILE") rows all (o.file rows given) in
     let window = window_read rows all in
     record {
       name = e.sub.name;
@@ -302,6 +307,7 @@ names_task a words needed ours taken fits =
       command = o.command;
       file = file.0;
       file_is = file.1;
+      list_is = λ is. is_some_not (given_first (codes "LIST") rows all (o.list is rows given));
       window = window.0;
       window_is = window.1;
       fits = fits;
@@ -309,6 +315,12 @@ names_task a words needed ours taken fits =
 
 file_suits : Suits (with_index 1 (filled file_rule))
 file_suits = record { no_count = refl; gives = refl; window = λ e. absurd cc }
+
+list_suits : Suits (with_index 1 (filled list_rule))
+list_suits = record { no_count = refl; gives = refl; window = λ e. absurd cc }
+
+last_suits : Suits (with_index 2 (filled file_rule))
+last_suits = record { no_count = refl; gives = refl; window = λ e. absurd cc }
 
 many_suits : Suits (filled many_rule)
 many_suits = record { no_count = refl; gives = refl; window = λ e. absurd cc }
@@ -341,6 +353,12 @@ or_false : (b : Bool) → (b || false) ≡ true → b ≡ true
 or_false true e = refl
 or_false false e = e
 
+-- a command of another name is not the gate
+no_gate : {A : Type 0} (name : Text) → bytes_eq name (codes "gate") ≡ false → name ≡ codes "gate" → A
+no_gate name other e =
+    let bad : false ≡ true = sym other ∙ ap (λ (t : Text). bytes_eq t (codes "gate")) e in
+    absurd cc
+
 -- `help` is none of them
 help_is_none : (name : Text) → (bytes_eq (codes "help") name || false) ≡ true → (not (bytes_eq name (codes "help")) || false) ≡ true → ⊥
 help_is_none name t called =
@@ -351,24 +369,39 @@ help_is_none name t called =
 
 ours : (name : Text) → Each (λ sub. answers_to name (label_of sub) ≡ true → no_help (built program).top name ≡ true → IsOurs sub) (built program).subs
 ours name = (
-  (λ t called. record { command = inl refl; suits = (file_suits, (many_suits, (unframed_suits, (help_suits, tt)))); file = λ rows e. (both _ _ e).0 }),
+  (λ t called. record { command = inl refl; suits = (file_suits, (many_suits, (unframed_suits, (help_suits, tt)))); file = λ rows e. (both _ _ e).0; list = no_gate (codes "list") refl }),
   (
-    (λ t called. record { command = inr (inl refl); suits = (file_suits, (many_suits, (unframed_suits, (help_suits, tt)))); file = λ rows e. (both _ _ e).0 }),
+    (λ t called. record { command = inr (inl refl); suits = (file_suits, (many_suits, (unframed_suits, (help_suits, tt)))); file = λ rows e. (both _ _ e).0; list = no_gate (codes "objects") refl }),
     (
       (λ t called. record {
         command = inr (inr (inl refl));
         suits = (file_suits, (many_suits, (first_suits, (memo_suits, (full_suits, (skip_suits, (help_suits, tt)))))));
         file = λ rows e. (both _ _ e).0;
+        list = no_gate (codes "calls") refl;
       }),
       (
         (λ t called. record {
           command = inr (inr (inr (inl refl)));
           suits = (file_suits, (many_suits, (unframed_suits, (window_suits, (save_suits, (help_suits, tt))))));
           file = λ rows e. (both _ _ e).0;
+          list = no_gate (codes "debug") refl;
         }),
         (
-          (λ t called. record { command = inr (inr (inr (inr refl))); suits = (file_suits, (many_suits, (help_suits, tt))); file = λ rows e. (both _ _ e).0 }),
-          ((λ t called. absurd (help_is_none name t called)), tt),
+          (λ t called. record {
+            command = inr (inr (inr (inr (inl refl))));
+            suits = (file_suits, (many_suits, (help_suits, tt)));
+            file = λ rows e. (both _ _ e).0;
+            list = no_gate (codes "form") refl;
+          }),
+          (
+            (λ t called. record {
+              command = inr (inr (inr (inr (inr refl))));
+              suits = (list_suits, (last_suits, (help_suits, tt)));
+              file = λ rows e. (both _ _ (both _ _ e).1).0;
+              list = λ is rows e. (both _ _ e).0;
+            }),
+            ((λ t called. absurd (help_is_none name t called)), tt),
+          ),
         ),
       ),
     ),

@@ -31,6 +31,9 @@ most_records = 1000000
 abbrev pub file_rule : Rule
 file_rule = record (new_rule (codes "FILE")) { required = true; action = Some Set }
 
+abbrev pub list_rule : Rule
+list_rule = record (new_rule (codes "LIST")) { required = true; action = Some Set }
+
 abbrev pub window_rule : Rule
 window_rule =
     record (new_rule (codes "window")) {
@@ -75,13 +78,16 @@ calls_app = with_rule (with_rule (with_rule (with_rule (on_file (codes "calls"))
 abbrev pub debug_app : App
 debug_app = with_rule (with_rule (frames_app (codes "debug")) window_rule) save_rule
 
+abbrev pub gate_app : App
+gate_app = with_rule (with_rule (new_app (codes "gate")) list_rule) file_rule
+
 abbrev pub wants_subcommand : App → App
 wants_subcommand a = record a { top = record a.top { subcommand_required = true } }
 
 abbrev pub program : App
 program =
-    with_subcommand (with_subcommand (with_subcommand (with_subcommand (with_subcommand (wants_subcommand (new_app (codes "picklestep")))
-    (frames_app (codes "list")).top) (frames_app (codes "objects")).top) calls_app.top) debug_app.top) (on_file (codes "form")).top
+    with_subcommand (with_subcommand (with_subcommand (with_subcommand (with_subcommand (with_subcommand (wants_subcommand (new_app (codes "picklestep")))
+    (frames_app (codes "list")).top) (frames_app (codes "objects")).top) calls_app.top) debug_app.top) (on_file (codes "form")).top) gate_app.top
 
 -- ---- the task that matches name
 
@@ -147,6 +153,10 @@ pub record HasCallsOptions (rows : List Row) (options : CallsOptions) : Type 0 w
   pub detail_is : HasDetail rows options.detail
   pub holes_is : HasHoles rows options.holes
 
+-- the words have this LIST
+abbrev pub HasList : List Row → Text → Type 0
+HasList rows list = first_of (codes "LIST") rows ≡ Some list
+
 pub record HasOptions (rows : List Row) (options : Options) : Type 0 where
   pub save_is : first_of (codes "save") rows ≡ option_map string_bytes options.save
   pub window_is : IsWindow (one_of (codes "window") rows) options.window
@@ -156,6 +166,7 @@ IsNamed matches (task.List input) = IsUsed (codes "list") matches input
 IsNamed matches (task.Objects input) = IsUsed (codes "objects") matches input
 IsNamed matches (task.Calls input options) = (u : IsUsed (codes "calls") matches input) × HasCallsOptions u.rows options
 IsNamed matches (task.Form input) = IsUsed (codes "form") matches input
+IsNamed matches (task.Gate input list) = (u : IsUsed (codes "gate") matches input) × HasList u.rows (string_bytes list)
 IsNamed matches (task.Debug input options) = (u : IsUsed (codes "debug") matches input) × HasOptions u.rows options
 
 -- ---- the matches that name a task
@@ -175,9 +186,11 @@ abbrev pub FitsOptions : Matches → Type 0
 FitsOptions matches = (rows : List Row) → matches ≡ Some (codes "calls", rows) → FitsCalls rows
 
 abbrev pub IsCommand : Text → Type 0
-IsCommand name = (name ≡ codes "list") ⊎ ((name ≡ codes "objects") ⊎ ((name ≡ codes "calls") ⊎ ((name ≡ codes "debug") ⊎ (name ≡ codes "form"))))
+IsCommand name =
+    (name ≡ codes "list")
+    ⊎ ((name ≡ codes "objects") ⊎ ((name ≡ codes "calls") ⊎ ((name ≡ codes "debug") ⊎ ((name ≡ codes "form") ⊎ (name ≡ codes "gate")))))
 
--- one of the commands was used, with a FILE, a window that is none or within the bounds, and options of `calls` that fit
+-- one of the commands was used, with a FILE, of `gate` with a LIST, a window that is none or within the bounds, and options of `calls` that fit
 pub record NamesTask (matches : Matches) : Type 0 where
   pub name : Text
   pub rows : List Row
@@ -185,6 +198,7 @@ pub record NamesTask (matches : Matches) : Type 0 where
   pub command : IsCommand name
   pub file : Text
   pub file_is : first_of (codes "FILE") rows ≡ Some file
+  pub list_is : name ≡ codes "gate" → first_of (codes "LIST") rows ≢ None
   pub window : Option ℕ
   pub window_is : IsWindow (one_of (codes "window") rows) window
   pub fits : FitsOptions matches
@@ -195,6 +209,7 @@ IsBounded (task.List input) = ⊤
 IsBounded (task.Objects input) = ⊤
 IsBounded (task.Calls input options) = ⊤
 IsBounded (task.Form input) = ⊤
+IsBounded (task.Gate input list) = ⊤
 IsBounded (task.Debug input options) = IfSome options.window (λ n. (1 ≤ n) × (n ≤ most_records))
 
 -- the words are refused where memory runs out

@@ -93,14 +93,16 @@ input_of (task.List input) = input
 input_of (task.Objects input) = input
 input_of (task.Calls input options) = input
 input_of (task.Form input) = input
+input_of (task.Gate input list) = input
 input_of (task.Debug input options) = input
 
 -- what is imported and called by what is left of a file
 abbrev pub is_calls : CallsOptions → List ℕ → Output → Type 0
 is_calls options bytes o = IsCallsOfFile (manner options.detail options.holes) options.pickles bytes o
 
--- a conversation asks for no text
+-- a conversation asks for no text, and the gate for that of two files
 abbrev pub asks_for_text : Task → Bool
+asks_for_text (task.Gate input list) = false
 asks_for_text (task.Debug input options) = false
 asks_for_text _ = true
 
@@ -113,6 +115,7 @@ AnswersTask (task.Objects input) source source' old new result =
 AnswersTask (task.Calls input options) source source' old new result = AnswersInput (is_calls options) source source' old new result
 AnswersTask (task.Form input) source source' old new result =
     AnswersInput (IsTextOf text.Form false false) source source' old new result × NoneWithoutMemory old new result
+AnswersTask (task.Gate input list) source source' old new result = ⊤
 AnswersTask (task.Debug input options) source source' old new result = ⊤
 
 -- of all bytes of a file that was opened

@@ -17,6 +17,7 @@ use Rattle.picklestep.specs.declared.task.Task.{Task}
 use Rattle.picklestep.specs.declared.task.Task.TheVariants as task
 use Rattle.picklestep.specs.Device.{AnswersFile}
 use Rattle.picklestep.specs.Files.{Gives, Reports, IsRead, IsUnread}
+use Rattle.picklestep.specs.Gated.{GatesFile}
 
 -- ---- what is saved
 
@@ -129,4 +130,6 @@ CarriesOut (task.Objects input) r files files' source source' old new result = W
 CarriesOut (task.Calls input pickles) r files files' source source' old new result =
     WritesText (task.Calls input pickles) r files files' source source' old new result
 CarriesOut (task.Form input) r files files' source source' old new result = WritesText (task.Form input) r files files' source source' old new result
+CarriesOut (task.Gate input list) r files files' source source' old new result =
+    GatesFile input (string_bytes list) r files old new result × ((source' ≡ source) × (files' ≡ files))
 CarriesOut (task.Debug input options) r files files' source source' old new result = TalksOfFile input options r files files' source source' old new result

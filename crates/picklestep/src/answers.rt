@@ -63,11 +63,12 @@ fn input_of(task: &Task) -> &GivenFile
         Task::Objects(input) => input,
         Task::Calls(input, _) => input,
         Task::Form(input) => input,
+        Task::Gate(input, _) => input,
         Task::Debug(input, _) => input,
     }
 }
 
-/// Reads the input of a task that is no conversation from a source whole, writes the text that the task asks for, hands all of it on,
+/// Reads the input of a task that asks for a text of one file from a source whole, writes the text that the task asks for, hands all of it on,
 /// and answers the status.
 ///
 /// `Stop::Read` where the source fails, `Stop::TooLarge` where it has more bytes than `LIMIT`, `Stop::Memory` where memory runs out: a
@@ -96,6 +97,7 @@ fn answer_task<R: Source, K: Sink + Drop>(
         }
         Task::Calls(_, options) => answer_calls(alloc, options, source, page),
         Task::Form(_) => answer_text(alloc, Text::Form, false, false, source, page),
+        Task::Gate(_, _) => unreachable!(),
         Task::Debug(_, _) => unreachable!(),
     }
 }

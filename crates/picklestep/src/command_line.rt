@@ -2,7 +2,7 @@
 
 ghost use Rattle.std.specs.Prelude.{◌≡◌, IfOk, false, codes};
 ghost use Rattle.clap.specs.Words.{rule_of, app_of, new_app};
-ghost use Rattle.picklestep.specs.CommandLine.{file_rule, many_rule, unframed_rule, first_rule, memo_rule, full_rule, skip_rule, window_rule, save_rule, on_file, frames_app, calls_app, debug_app, wants_subcommand, program};
+ghost use Rattle.picklestep.specs.CommandLine.{file_rule, many_rule, unframed_rule, first_rule, memo_rule, full_rule, skip_rule, window_rule, save_rule, list_rule, on_file, frames_app, calls_app, debug_app, gate_app, wants_subcommand, program};
 
 use clap::{Arg, ArgAction, Command};
 use std::alloc::{AllocError, Global};
@@ -26,6 +26,17 @@ fn file_argument<'a>(alloc: Global) -> Arg<'a>
 {
     Arg::new(alloc, "FILE")
         .help("the pickle")
+        .required(true)
+        .action(ArgAction::Set)
+}
+
+/// The list of what a pickle may import and use.
+fn list_argument<'a>(alloc: Global) -> Arg<'a>
+    ensures rule { rule_of result ≡ list_rule }
+    ensures local { result.global ≡ false }
+{
+    Arg::new(alloc, "LIST")
+        .help("the list of names, and of what may be done with each")
         .required(true)
         .action(ArgAction::Set)
 }
@@ -176,6 +187,18 @@ fn debug_command<'a>(alloc: Global) -> Result<Command<'a>, AllocError>
     .arg(save_argument(alloc))
 }
 
+/// The command that says whether a file passes a list.
+fn gate_command<'a>(alloc: Global) -> Result<Command<'a>, AllocError>
+    ensures { IfOk result (λ c. app_of c ≡ gate_app) }
+{
+    Command::new(alloc, "gate")
+        .about(
+            "Says whether all that the pickle in FILE imports and uses is in LIST, else what is not",
+        )
+        .arg(list_argument(alloc))?
+        .arg(file_argument(alloc))
+}
+
 /// The program's command line, which has no commands yet.
 fn without_commands<'a>(alloc: Global) -> Command<'a>
     ensures { app_of result ≡ wants_subcommand (new_app (codes "picklestep")) }
@@ -208,5 +231,6 @@ pub fn command_line<'a>(alloc: Global) -> Result<Command<'a>, AllocError>
             "form",
             "Says whether FILE is a pickle in the form that picklers write, else where it is not and why",
             MANY_OF_FORM,
-        )?)
+        )?)?
+        .subcommand(gate_command(alloc)?)
 }

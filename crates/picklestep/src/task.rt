@@ -4,7 +4,7 @@ ghost use Rattle.std.specs.Prelude.{◌≡◌, ◌≤◌, IsTrue, ℕ, [], Optio
 ghost use Rattle.std.specs.String.{string_bytes};
 ghost use Rattle.clap.specs.Words.{found_of, first_of, one_of, rows_of, fault_of, subcommand_of, subcommand_rows_of, takes};
 ghost use Rattle.pickle_script.specs.GivenHoles.{holes_of};
-ghost use Rattle.picklestep.specs.CommandLine.{program, most_records, GivesReading, HasReading, HasInput, HasDetail, HasCallsOptions, skips_of, HasOptions, IsWindow, IsNamed, FitsOptions, NamesTask, IsBounded, IsMemory};
+ghost use Rattle.picklestep.specs.CommandLine.{program, most_records, GivesReading, HasReading, HasInput, HasDetail, HasCallsOptions, skips_of, HasOptions, HasList, IsWindow, IsNamed, FitsOptions, NamesTask, IsBounded, IsMemory};
 
 use crate::command_line::{MOST_RECORDS, command_line};
 use clap::error::ErrorKind;
@@ -41,6 +41,8 @@ pub enum Task {
     Calls(GivenFile, CallsOptions),
     /// Print whether the first pickle is in the form that picklers write. Whether the file is read as several pickles changes nothing.
     Form(GivenFile),
+    /// Print whether the file is one pickle that passes the list in the file of this name.
+    Gate(GivenFile, String),
     /// Read commands from standard input and answer each.
     Debug(GivenFile, Options),
 }
@@ -103,6 +105,14 @@ fn owned(alloc: Global, text: Option<&str>) -> Result<Option<String>, AllocError
         None => Ok(None),
         Some(text) => Ok(Some(String::from_str(alloc, text)?)),
     }
+}
+
+/// The file of the list; no answer where there is none.
+fn list_of(alloc: Global, found: &ArgMatches<'_>) -> Result<Option<String>, AllocError>
+    ensures some { IfOk result (λ r. IfSome r (λ list. HasList (rows_of (found_of found.now)) (string_bytes list))) }
+    ensures none { result ≡ Ok None → first_of (codes "LIST") (rows_of (found_of found.now)) ≡ None }
+{
+    owned(alloc, found.get_str("LIST"))
 }
 
 /// How many step records are kept; no answer where that is no number within the bounds.
@@ -286,6 +296,11 @@ fn named(alloc: Global, matches: &ArgMatches<'_>) -> Result<Option<Task>, AllocE
         Ok(Some(Task::Debug(input, options)))
     } else if name == "form" {
         Ok(Some(Task::Form(input)))
+    } else if name == "gate" {
+        let Some(list) = list_of(alloc, found)? else {
+            return Ok(None);
+        };
+        Ok(Some(Task::Gate(input, list)))
     } else {
         Ok(None)
     }

@@ -11,6 +11,7 @@ use Rattle.pickle_show.specs.declared.naming.Detail.{Detail}
 use Rattle.pickle_show.specs.Manner.{manner}
 use Rattle.pickle_further.specs.declared.way.Pickles.{Pickles}
 use Rattle.pickle_script.specs.Output.{CompletesText, CompletesFile}
+use Rattle.pickle_script.specs.GateText.{IsGateText, WroteText}
 use Rattle.pickle_script.specs.Conversation.{Finishes}
 use Rattle.pickle_script.specs.ReplyText.{syntax_line}
 use Rattle.pickle_script.specs.declared.conversation.line.Syntax.TheVariants as syntax
@@ -31,6 +32,10 @@ IsTextOf text many loose bytes written status = CompletesText text many loose by
 -- these bytes are the whole text of what is imported and called by what is left of an input without its holes, and this is its status
 abbrev pub IsCallsOf : Detail → List Hole → Pickles → List ℕ → List ℕ → ℕ → Type 0
 IsCallsOf detail holes pickles bytes written status = CompletesFile (manner detail holes) pickles bytes (took []) (took written) status
+
+-- these bytes are the whole text of whether an input passes a list, and this is its status
+abbrev pub IsGateOf : List ℕ → List ℕ → List ℕ → ℕ → Type 0
+IsGateOf list bytes written status = WroteText (IsGateText list bytes) (took []) (took written) status
 
 -- these bytes are all answers to the lines of a script, in a session of an input, and this is its status
 pub record IsTalkOf (many loose : Bool) (bytes script written : List ℕ) (status : ℕ) : Type 0 where

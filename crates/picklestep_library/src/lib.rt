@@ -11,6 +11,7 @@
 mod asked;
 mod edited;
 mod fill;
+mod gate;
 mod talk;
 mod texts;
 
@@ -19,7 +20,7 @@ ghost use Rattle.pickle_show.specs.declared.naming.Detail.TheVariants as detail;
 ghost use Rattle.pickle_script.specs.declared.texts.written.Text.TheVariants as asked_text;
 ghost use Rattle.std.specs.Prelude.{false};
 ghost use Rattle.picklestep_library.specs.Asked.{is_many, is_loose, pickles_of, pickles_left, detail_of, holes_of};
-ghost use Rattle.picklestep_library.specs.Answer.{IsTextOf, IsCallsOf, IsTalkOf, IsTextAfter, Fills, FillsIn, FillsOf};
+ghost use Rattle.picklestep_library.specs.Answer.{IsTextOf, IsCallsOf, IsGateOf, IsTalkOf, IsTextAfter, Fills, FillsIn, FillsOf};
 
 pub use asked::GivenHole;
 pub use fill::Written;
@@ -109,6 +110,21 @@ pub extern "C" fn picklestep_form(
     ensures { Fills (IsTextOf asked_text.Form false false bytes.now) bytes.now out.old out.new written.new result }
 {
     texts::fill(alloc, Text::Form, false, false, bytes, out, written)
+}
+
+/// Whether the bytes are one pickle that passes a list, or the first place at which they do not, and why. `written` has status 2 where a line of
+/// the list is no entry, and the text says which.
+#[unsafe(no_mangle)]
+pub extern "C" fn picklestep_gate(
+    alloc: Global,
+    list: &[u8],
+    bytes: &[u8],
+    out: &mut [u8],
+    written: &mut Written,
+) -> u8
+    ensures { Fills (IsGateOf list.now bytes.now) bytes.now out.old out.new written.new result }
+{
+    gate::fill_gate(alloc, list, bytes, out, written)
 }
 
 /// The answers of a conversation: those to all lines of a script, in a session of a pickle, or where `many` holds of several. `written` has

@@ -34,7 +34,7 @@ fn other_words() -> &'static str
 
 /// Writes the line of the first place.
 #[tactic(auto, using(pickle_io::proofs::Devices::text_steps), unfolding(crate::specs::FormText::other_line))]
-fn write_other<S: Page>(other: Other, page: &mut S) -> Result<(), Failed>
+pub(crate) fn write_other<S: Page>(other: Other, page: &mut S) -> Result<(), Failed>
     ensures { Writes (S.told page.old) (S.told page.new) result (other_line other) }
 {
     write_all(page, other_words().as_bytes())?;

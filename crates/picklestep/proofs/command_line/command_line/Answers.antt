@@ -1,7 +1,7 @@
 use Rattle.std.proofs.Common.{◌≡◌, ◌∙◌, ap, ap₂, codes}
 use Rattle.std.proofs.lemmas.Result.{IfOk-weaker}
 use Rattle.clap.specs.Words.{App, app_of, new_app, with_subcommand}
-use Rattle.picklestep.specs.CommandLine.{on_file, frames_app, calls_app, debug_app, wants_subcommand}
+use Rattle.picklestep.specs.CommandLine.{on_file, frames_app, calls_app, debug_app, gate_app, wants_subcommand}
 use Rattle.picklestep.proofs.Plain.{third}
 use Rattle.picklestep.proofs.command_line.command_line.Goals as goal
 
@@ -12,10 +12,12 @@ returns c =
     let calling : app_of c.in_ok-calls_command.field-0 ≡ calls_app = c.in_ok-calls_command.ensures in
     let debugging : app_of c.in_ok-debug_command.field-0 ≡ debug_app = c.in_ok-debug_command.ensures in
     let forming : app_of c.in_ok-on_file.field-0 ≡ on_file (codes "form") = c.in_ok-on_file.ensures in
+    let gating : app_of c.in_ok-gate_command.field-0 ≡ gate_app = c.in_ok-gate_command.ensures in
     let start : app_of c.without_commands.result ≡ wants_subcommand (new_app (codes "picklestep")) = c.without_commands.ensures in
     let one = c.in_ok-subcommand.ensures.shape (third _ _ _ _ (ap (λ (a : App). a.top.is_plain) listing)) ∙ ap₂ with_subcommand start (ap (λ (a : App). a.top) listing) in
     let two = c.in_ok-subcommand-2.ensures.shape (third _ _ _ _ (ap (λ (a : App). a.top.is_plain) reporting)) ∙ ap₂ with_subcommand one (ap (λ (a : App). a.top) reporting) in
     let three = c.in_ok-subcommand-3.ensures.shape (third _ _ _ _ (ap (λ (a : App). a.top.is_plain) calling)) ∙ ap₂ with_subcommand two (ap (λ (a : App). a.top) calling) in
     let four = c.in_ok-subcommand-4.ensures.shape (third _ _ _ _ (ap (λ (a : App). a.top.is_plain) debugging)) ∙ ap₂ with_subcommand three (ap (λ (a : App). a.top) debugging) in
-    IfOk-weaker c.subcommand-5.result _ _
-    (λ r a. a.shape (third _ _ _ _ (ap (λ (a : App). a.top.is_plain) forming)) ∙ ap₂ with_subcommand four (ap (λ (a : App). a.top) forming)) c.subcommand-5.ensures
+    let five = c.in_ok-subcommand-5.ensures.shape (third _ _ _ _ (ap (λ (a : App). a.top.is_plain) forming)) ∙ ap₂ with_subcommand four (ap (λ (a : App). a.top) forming) in
+    IfOk-weaker c.subcommand-6.result _ _
+    (λ r a. a.shape (third _ _ _ _ (ap (λ (a : App). a.top.is_plain) gating)) ∙ ap₂ with_subcommand five (ap (λ (a : App). a.top) gating)) c.subcommand-6.ensures

@@ -32,3 +32,15 @@ returns-in-Some-4-clause-some c =
       },
       search rules,
     )
+
+pub returns-in-Some-5-clause-some : goal.returns-in-Some-5-clause-some
+returns-in-Some-5-clause-some c =
+    let name : c.in-Some.name.now ≡ codes "gate" = search rules in
+    let rows = rows_of (found_of c.in-Some.found.now) in (
+      record {
+        rows = rows;
+        used = used_is _ _ _ _ _ c.in-Some.ensures.name c.in-Some.ensures.rows ∙ ap (λ (n : Text). Some (n, rows)) name;
+        input_is = search rules;
+      },
+      search rules,
+    )

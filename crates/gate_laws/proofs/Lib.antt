@@ -1,0 +1,10 @@
+-- Lemmas of the laws.
+pub mod Grows
+pub mod Walk
+pub mod Agreeing
+pub mod Protocols
+pub mod Items
+pub mod Loads
+pub mod Law
+pub mod Uses
+pub mod LawC

@@ -1,0 +1,13 @@
+-- What bytes are cut at. These are no definitions of what a list allows.
+use Rattle.std.specs.Prelude.{ℕ, Bool}
+use Rattle.pickle_allow.specs.declared.cut.Separator.{Separator}
+use Rattle.pickle_allow.specs.declared.cut.Separator.TheVariants as cut
+use Rattle.pickle_allow.specs.Allow.{is_point}
+use Rattle.pickle_allow.specs.Grammar.{is_newline, is_blank, is_hash, is_colon}
+
+abbrev pub separates : Separator → ℕ → Bool
+separates cut.Newline = is_newline
+separates cut.Hash = is_hash
+separates cut.Colon = is_colon
+separates cut.Point = is_point
+separates cut.Blank = is_blank

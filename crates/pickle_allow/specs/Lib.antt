@@ -1,0 +1,9 @@
+-- The definitions that contracts cite.
+pub mod Allow
+pub mod Source
+pub mod Granted
+pub mod Grammar
+pub mod Words
+pub mod Rests
+pub mod Cut
+pub mod Lines

@@ -1,0 +1,25 @@
+//! Lists of what a pickle may import, and of what it may do with it.
+#![tactic(auto)]
+
+mod allow;
+mod cut;
+mod grant;
+mod laws;
+mod line;
+mod list;
+mod listing;
+mod names;
+mod pattern;
+mod read;
+mod spelling;
+mod word;
+mod words;
+
+pub use allow::{entry_of, grant_of};
+pub use grant::Grant;
+pub use laws::no_word_is_an_import;
+pub use list::{Entry, Use, Uses};
+pub use listing::Listing;
+pub use names::{import_name, line_text, part_text};
+pub use read::read_list;
+pub use word::extension_word;

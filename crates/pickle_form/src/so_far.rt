@@ -1,0 +1,87 @@
+//! What the opcodes come to that were read.
+
+ghost use Rattle.std.specs.Prelude.{◌≡◌, ◌+◌, ◌<◌, ◌^◌};
+ghost use Rattle.pickle_ops.specs.Spelling.{size_of};
+ghost use Rattle.pickle_ops.specs.Row.{row_of};
+ghost use Rattle.pickle_form.specs.Form.{reason_of};
+ghost use Rattle.pickle_form.specs.Held.{role_of};
+ghost use Rattle.pickle_form.specs.Inside.{before};
+
+use crate::held::Held;
+use crate::reason::Reason;
+use crate::role::{Role, role_of};
+use crate::run::{Run, is_reduce};
+use crate::spelled::other_argument;
+use pickle_ops::{OpRef, Row};
+use std::alloc::{AllocError, Global};
+use std::marker::Model;
+
+/// What the opcodes of a pickle come to that were read, all of them being as picklers write them.
+#[derive(Drop)]
+pub struct FormSoFar {
+    run: Run,
+    held: Held,
+}
+
+impl Model for FormSoFar {
+    ghost use Rattle.pickle_form.specs.Form.{Before};
+    ghost use Rattle.pickle_form.specs.Inside.{before};
+
+    ghost Value = { Before };
+
+    ghost view = { λ f. before f.run f.held };
+}
+
+/// Why no pickler writes this opcode here: the first rule that it breaks.
+fn reason_of(op: &OpRef<'_>, row: Row, role: Role, run: &Run, held: &Held) -> Option<Reason>
+    requires row { row ≡ row_of op.now }
+    requires role { role ≡ role_of op.now.opcode op.now.arg }
+    requires small { run.now.loose + size_of op.now < 2 ^ 63 }
+    ensures { result ≡ reason_of op.now (before run.now held.now) }
+{
+    if let Some(why) = other_argument(op) {
+        return Some(why);
+    }
+    if let Some(why) = run.other(op) {
+        return Some(why);
+    }
+    if let Some(why) = held.other_behind_two(is_reduce(op.opcode())) {
+        return Some(why);
+    }
+    held.other(run.first_here(op), row, role)
+}
+
+impl FormSoFar {
+    ghost use Rattle.std.specs.Prelude.{◌≡◌, ◌+◌, ◌<◌, ◌^◌, IfOk, None};
+    ghost use Rattle.pickle_ops.specs.Spelling.{size_of};
+    ghost use Rattle.pickle_ops.specs.Row.{row_of};
+    ghost use Rattle.pickle_form.specs.Form.{begin, reason_of, after};
+
+    /// Nothing was read.
+    pub fn begin(alloc: Global) -> FormSoFar
+        ensures { result ≡ begin }
+    {
+        FormSoFar {
+            run: Run::begin(),
+            held: Held::new(alloc),
+        }
+    }
+
+    /// Reads the next opcode, whose row this is: why no pickler writes it here, if none does. Else it counts among those that were read. It
+    /// fails only where memory runs out.
+    pub fn take(&mut self, op: &OpRef<'_>, row: Row) -> Result<Option<Reason>, AllocError>
+        requires row { row ≡ row_of op.now }
+        requires small { self.old.run.loose + size_of op.now < 2 ^ 63 }
+        ensures first { IfOk result (λ why. why ≡ reason_of op.now self.old) }
+        ensures next { IfOk result (λ why. why ≡ None → self.new ≡ after op.now self.old) }
+    {
+        let role = role_of(op);
+        if let Some(why) = reason_of(op, row, role, &self.run, &self.held) {
+            return Ok(Some(why));
+        }
+        let first = self.run.first_here(op);
+        self.held.perform(first, row, role)?;
+        self.run = self.run.after(op);
+        Ok(None)
+    }
+}

@@ -1,0 +1,8 @@
+-- Lemmas.
+mod Judged
+mod Growth
+mod Lines
+mod Packing
+pub mod Gating
+pub mod Rounds
+pub mod Verdicts

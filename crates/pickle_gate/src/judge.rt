@@ -1,0 +1,209 @@
+//! What a list says of one object that is made, or that something is put into.
+
+ghost use Rattle.std.specs.Prelude.{◌≡◌, slice_get, Some, IfOk, OnOk};
+ghost use Rattle.std.specs.Option.{option_map};
+ghost use Rattle.pickle_ops.specs.KindRef.{kind_view};
+ghost use Rattle.pickle_allow.specs.Source.{import_name};
+ghost use Rattle.pickle_gate.specs.Gate.{protocol_said};
+ghost use Rattle.pickle_gate.specs.Kept.{granted, may_do, named, found_made, callee, called, making, allowed_if, judged_event, kept_to, protocol_here};
+
+use crate::packed::Packed;
+use pickle_allow::{
+    Entry, Grant, Use, Uses, extension_word, grant_of, import_name, line_text, part_text,
+};
+use pickle_machine::Inspect;
+use pickle_ops::{KindRef, Look, ObjId, OpRef, Opcode};
+use pickle_show::Event;
+use std::alloc::{AllocError, Global};
+
+/// Nothing may be done.
+const NO_USES: Uses = Uses {
+    call: false,
+    new: false,
+    state: false,
+    fill: false,
+};
+
+/// Nothing is granted.
+const NOTHING: Grant = Grant {
+    now: NO_USES,
+    made: NO_USES,
+};
+
+/// What came of an object that is made.
+#[derive(Clone, Copy)]
+pub enum Made {
+    /// It is not allowed.
+    Forbidden,
+    /// It is, and this is granted to it.
+    Allowed(Grant),
+}
+
+/// The protocol that PROTO in front says, or 0.
+fn protocol_said(op: &OpRef<'_>) -> u64
+    ensures { result ≡ protocol_said (Some op.now) }
+{
+    if matches!(op.opcode(), Opcode::Proto) {
+        op.number()
+    } else {
+        0
+    }
+}
+
+/// The protocol that imports go by behind an item at this place, from that before it.
+pub fn protocol_here(place: usize, op: &OpRef<'_>, before: u64) -> u64
+    ensures { result ≡ protocol_here place op.now before }
+{
+    if place == 0 {
+        protocol_said(op)
+    } else {
+        before
+    }
+}
+
+/// What is granted to an object.
+fn grant_at(grants: &[Packed], id: ObjId) -> Grant
+    ensures { result ≡ granted grants.now id }
+{
+    match grants.get(id as usize) {
+        Some(packed) => packed.grant(),
+        None => NOTHING,
+    }
+}
+
+/// Whether this may be done with an object.
+fn may_use(grants: &[Packed], what: Use, id: ObjId) -> bool
+    ensures { result ≡ may_do what (granted grants.now id) }
+{
+    grant_at(grants, id).now.has(what)
+}
+
+/// What is granted to what has a name, if a list has it.
+fn named(alloc: Global, list: &[Entry<'_>], name: &[u8]) -> Result<Made, AllocError>
+    ensures { IfOk result (λ m. m ≡ named list.now name.now) }
+{
+    match grant_of(alloc, list, name)? {
+        Some(grant) => Ok(Made::Allowed(grant)),
+        None => Ok(Made::Forbidden),
+    }
+}
+
+/// What is granted to an import by these names.
+fn imported(
+    alloc: Global,
+    list: &[Entry<'_>],
+    protocol: u64,
+    from: Option<&[u8]>,
+    name: Option<&[u8]>,
+) -> Result<Made, AllocError>
+    ensures { IfOk result (λ m. m ≡ found_made list.now (import_name protocol (option_map (λ t. t.now) from.entry) (option_map (λ t. t.now) name.entry))) }
+{
+    match import_name(alloc, protocol, from, name)? {
+        Some(name) => named(alloc, list, name.as_slice()),
+        None => Ok(Made::Forbidden),
+    }
+}
+
+/// What is granted to what is called, the first part of an object.
+fn callee(grants: &[Packed], parts: &[ObjId]) -> Grant
+    ensures { result ≡ callee grants.now (slice_get parts.now 0) }
+{
+    match parts.get(0) {
+        Some(id) => grant_at(grants, *id),
+        None => NOTHING,
+    }
+}
+
+/// What is granted to what a call makes.
+fn called(grants: &[Packed], what: Use, parts: &[ObjId]) -> Made
+    ensures { result ≡ called grants.now what parts.now }
+{
+    let grant = callee(grants, parts);
+    if grant.now.has(what) {
+        Made::Allowed(Grant {
+            now: grant.made,
+            made: grant.made,
+        })
+    } else {
+        Made::Forbidden
+    }
+}
+
+/// What is granted to an object that is made.
+fn make<M: Inspect>(
+    alloc: Global,
+    list: &[Entry<'_>],
+    protocol: u64,
+    machine: &M,
+    grants: &[Packed],
+    look: Look<'_>,
+) -> Result<Made, AllocError>
+    ensures { IfOk result (λ m. m ≡ making list.now protocol (M.state machine.now).heap grants.now (kind_view look.entry.kind) look.entry.parts.now) }
+{
+    match look.kind {
+        KindRef::Global(names) => {
+            let from = line_text(names.first())?;
+            let name = line_text(names.second())?;
+            imported(alloc, list, protocol, from, name)
+        }
+        KindRef::StackGlobal => {
+            let from = part_text(machine, look.parts, 0)?;
+            let name = part_text(machine, look.parts, 1)?;
+            imported(alloc, list, protocol, from, name)
+        }
+        KindRef::Ext(code) => named(alloc, list, extension_word(alloc, code)?.as_slice()),
+        KindRef::PersistentLine(_) => named(alloc, list, b"persistent"),
+        KindRef::Persistent => named(alloc, list, b"persistent"),
+        KindRef::Buffer(_) => named(alloc, list, b"buffer"),
+        KindRef::Call => Ok(called(grants, Use::Call, look.parts)),
+        KindRef::New => Ok(called(grants, Use::New, look.parts)),
+        KindRef::NewEx => Ok(called(grants, Use::New, look.parts)),
+        KindRef::Obj => Ok(called(grants, Use::Call, look.parts)),
+        KindRef::Inst(_) => Ok(Made::Forbidden),
+        _ => Ok(Made::Allowed(NOTHING)),
+    }
+}
+
+/// What comes of an event that made nothing.
+fn allowed_if(good: bool) -> Made
+    ensures { result ≡ allowed_if good }
+{
+    if good {
+        Made::Allowed(NOTHING)
+    } else {
+        Made::Forbidden
+    }
+}
+
+/// What comes of the event of a step: whether it is allowed, and what is granted to the object that it made. A name is decoded and matched once,
+/// where it is imported.
+pub fn judge<M: Inspect>(
+    alloc: Global,
+    list: &[Entry<'_>],
+    protocol: u64,
+    machine: &M,
+    grants: &[Packed],
+    event: Option<Event>,
+) -> Result<Made, AllocError>
+    ensures { IfOk result (λ m. m ≡ judged_event list.now protocol (M.state machine.now).heap grants.now event) }
+{
+    match event {
+        None => Ok(Made::Allowed(NOTHING)),
+        Some(Event::Made(id)) => match machine.look(id) {
+            Some(look) => make(alloc, list, protocol, machine, grants, look),
+            None => Ok(Made::Allowed(NOTHING)),
+        },
+        Some(Event::State(_, target)) => Ok(allowed_if(may_use(grants, Use::State, target))),
+        Some(Event::Filled(_, _, target)) => Ok(allowed_if(may_use(grants, Use::Fill, target))),
+    }
+}
+
+/// Keeps what is granted to the newest of so many objects, if it is not kept yet.
+pub fn keep(grants: &mut Vec<Packed>, objects: usize, grant: Grant) -> Result<(), AllocError>
+    ensures { OnOk result (grants.new.items ≡ kept_to objects grant grants.old.items) }
+{
+    if grants.len() < objects {
+        grants.push(Packed::of(grant))?;
+    }
+    Ok(())
+}

@@ -1,0 +1,110 @@
+"""Whether a pickle passes a list: a list, a pickle and the one line for both, and what is said where a file cannot be read."""
+
+from __future__ import annotations
+
+import functools
+from dataclasses import dataclass
+
+from .room import Room, run
+from .row import CLOSED, FULL, LITTLE_MEMORY, MISSING, Row, fails, trials_of
+from .trial import Trial
+
+PASSES = "passes\n"
+# `OrderedDict(a=1)` in protocol 2.
+ORDERED = b"\x80\x02ccollections\nOrderedDict\nq\x00)Rq\x01X\x01\x00\x00\x00aq\x02K\x01s."
+# The same in protocol 4, where names are on the stack.
+ORDERED_ON_STACK = b"\x80\x04\x95)\x00\x00\x00\x00\x00\x00\x00\x8c\x0bcollections\x94\x8c\x0bOrderedDict\x94\x93\x94)R\x94\x8c\x01a\x94K\x01s."
+# An object that is made by `__new__` and given a state.
+WITH_STATE = b"\x80\x02cm\nC\nq\x00)\x81q\x01}q\x02X\x01\x00\x00\x00aq\x03K\x01sb."
+# In Python 2 `reduce` was in `__builtin__`.
+RENAMED = b"\x80\x02c__builtin__\nreduce\nq\x00."
+PERSISTENT = b"\x80\x02X\x01\x00\x00\x00aq\x00Q."
+EXTENSION = b"\x80\x02\x82\x05."
+BUFFER = b"\x80\x05\x97."
+SYSTEM = b"cposix\nsystem\n(X\x02\x00\x00\x00idtR."
+IMPORT = "2: not allowed: import 'collections' 'OrderedDict' as #0\n"
+CALL = "30: not allowed: call 'collections' 'OrderedDict' () as #2\n"
+FILL = "43: not allowed: set 1 in #2\n"
+NEW = "10: not allowed: new 'm' 'C' () as #2\n"
+STATE = "27: not allowed: state #3 to #2\n"
+
+
+@dataclass(frozen=True)
+class Case:
+    """A list, a pickle, and what is said of both. The status is 0 where it passes, 2 where the list is none, and else 1."""
+
+    name: str
+    listed: bytes
+    pickle: bytes
+    output: str
+
+    @property
+    def status(self) -> int:
+        return 0 if self.output == PASSES else 2 if self.output.startswith("not a list: ") else 1
+
+    def fault(self, room: Room) -> str:
+        folder = room.folder / "gate"
+        folder.mkdir(parents=True, exist_ok=True)
+        (folder / "list").write_bytes(self.listed)
+        (folder / "pickle").write_bytes(self.pickle)
+        return run([room.program, "gate", "list", "pickle"], folder).difference(self.status, self.output, "")
+
+
+CASES = (
+    Case("a name with its uses", b"collections.OrderedDict: call made-fill\n", ORDERED, PASSES),
+    Case("the same of names on the stack", b"collections.OrderedDict: call made-fill\n", ORDERED_ON_STACK, PASSES),
+    Case("a name without a colon", b"collections.OrderedDict", ORDERED, PASSES),
+    Case("a call without a word for what it makes", b"collections.OrderedDict: call", ORDERED, PASSES),
+    Case("a pattern among notes and blanks", b"# a note\n\r\n\t collections.* # dictionaries\r\n", ORDERED, PASSES),
+    Case("a star inside a name", b"coll*.*Dict", ORDERED, PASSES),
+    Case("two stars", b"**", ORDERED, PASSES),
+    Case("two entries that have the name", b"collections.OrderedDict: call made\ncollections.*: made-fill\n", ORDERED, PASSES),
+    Case("an empty list", b"", ORDERED, IMPORT),
+    Case("a pickle without an import, and an empty list", b"", b"N.", PASSES),
+    Case("a name that is not there", b"collections.deque\n", ORDERED, IMPORT),
+    Case("a name that goes on", b"collections.OrderedDict.x\n", ORDERED, IMPORT),
+    Case("a name that ends before", b"collections.Ordered\n", ORDERED, IMPORT),
+    Case("a star goes over no point", b"*\n", ORDERED, IMPORT),
+    Case("a call that is not allowed", b"collections.OrderedDict: new state fill made-fill\n", ORDERED, CALL),
+    Case("no use at all", b"collections.OrderedDict:\n", ORDERED, CALL),
+    Case("what a call made is filled", b"collections.OrderedDict: call made\n", ORDERED, FILL),
+    Case("what a call made has other uses", b"collections.OrderedDict: call fill made-call made-new made-state\n", ORDERED, FILL),
+    Case("a state, by its uses", b"m.C: new made-state\n", WITH_STATE, PASSES),
+    Case("a call allows __new__ too", b"m.C: call made-state\n", WITH_STATE, PASSES),
+    Case("__new__ that is not allowed", b"m.C: state made-state\n", WITH_STATE, NEW),
+    Case("a state that is not allowed", b"m.C: new state made-fill\n", WITH_STATE, STATE),
+    Case("a name of Python 3", b"functools.reduce:\n", RENAMED, PASSES),
+    Case("a name of Python 2", b"__builtin__.reduce:\n", RENAMED, "2: not allowed: import 'functools' 'reduce' for '__builtin__' 'reduce' as #0\n"),
+    Case("a persistent id", b"persistent\n", PERSISTENT, PASSES),
+    Case("a persistent id that is not allowed", b"buffer\n**.x\n", PERSISTENT, "10: not allowed: persistent 'a' as #1\n"),
+    Case("an extension", b"ext 5\n", EXTENSION, PASSES),
+    Case("any extension", b"ext *\n", EXTENSION, PASSES),
+    Case("another extension", b"ext 6\n", EXTENSION, "2: not allowed: import ext 5 as #0\n"),
+    Case("a buffer", b"buffer\n", BUFFER, PASSES),
+    Case("a buffer that is not allowed", b"persistent\n", BUFFER, "2: not allowed: buffer 0 as #0\n"),
+    Case("a command", b"collections.*\n", SYSTEM, "0: not allowed: import 'posix' 'system' as #0\n"),
+    Case("a command that is only imported", b"posix.system:\n", SYSTEM, "23: not allowed: call 'posix' 'system' ('id') as #3\n"),
+    Case("no bytes", b"**", b"", "not in form: item 0 at 0: no opcode can be read\n"),
+    Case("bytes that end too early", b"**", ORDERED[:-1], "not in form: item 10 at 44: no opcode can be read\n"),
+    Case("bytes behind STOP", b"**", b"N.N.", "not in form: item 2 at 2: bytes behind STOP\n"),
+    Case("another form before what is not allowed", b"", b"J\x01\0\0\0" + ORDERED, "not in form: item 0 at 0: a number that has a shorter form\n"),
+    Case("another form behind what is not allowed", b"", ORDERED[:-1] + b"0N.", IMPORT),
+    Case("a line that is no entry", b"collections.*\n\n# a note\nno name\n", ORDERED, "not a list: line 4 is no entry\n"),
+    Case("a word that there is not", b"collections.OrderedDict: cal\n", ORDERED, "not a list: line 1 is no entry\n"),
+    Case("two lines that are no entries, and no pickle", b"a.b\n1.b\n:\n", b"", "not a list: line 2 is no entry\n"),
+)
+
+ROWS = (
+    Row("a list through a pipe", ("gate", "/dev/stdin"), output=PASSES, through='printf "a.b: call" | "$@" <(printf N.)'),
+    Row("a pickle through a pipe", ("gate", "empty.pickle", "/dev/stdin"), output=PASSES, through='printf N. | "$@"'),
+    fails("no such list", "cannot read", "gate", "missing.list", "pair.pickle", unread=f"missing.list: {MISSING}"),
+    fails("a list, and no such pickle", "cannot read", "gate", "empty.pickle", "missing.pickle", unread=f"missing.pickle: {MISSING}"),
+    fails("a list past the size limit, with little memory", "too large", "gate", "too_large.pickle", "pair.pickle", through=LITTLE_MEMORY),
+    fails("a pickle past the size limit, with little memory", "too large", "gate", "empty.pickle", "too_large.pickle", through=LITTLE_MEMORY),
+    fails("the line, on a full device", "cannot write", "gate", "empty.pickle", "pair.pickle", through=FULL),
+    fails("the line, with closed standard output", "cannot write", "gate", "empty.pickle", "pair.pickle", through=CLOSED),
+)
+
+
+def trials(room: Room) -> list[Trial]:
+    return [*(Trial(case.name, functools.partial(case.fault, room)) for case in CASES), *trials_of(ROWS, room)]
