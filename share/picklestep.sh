@@ -9,7 +9,11 @@ while [ -h "$here" ]; do # (an older macOS has no readlink -f)
     *) here=$(dirname -- "$here")/$link ;;
     esac
 done
-package=$(CDPATH='' cd -- "$(dirname -- "$here")/.." && pwd -P)/lib/picklestep/picklestep
+case $here in
+*/*) ;;
+*) here=./$here ;;
+esac
+package=$(CDPATH='' cd -- "${here%/*}/.." && pwd -P)/lib/picklestep/picklestep
 . "$package/help/start.sh"
 
 choose_program() {

@@ -1,6 +1,7 @@
-"""Starts the program for a word of its own, and says behind its lines what these do not: which file cannot be read, and where else to look.
+"""Starts the program for a word of its own: opens what is in a container before, and says behind its lines what these do not: which file cannot be
+read, and where else to look.
 
-What the program prints is passed on as it comes, and its status is this one's. The hints are on standard error.
+What the program prints is passed on as it comes, and its status is this one's. What was opened is said on standard error, as the hints are.
 """
 
 from __future__ import annotations
@@ -11,16 +12,20 @@ import signal
 import stat
 import subprocess
 import sys
-from typing import Iterator, List, Optional
+from dataclasses import dataclass
+from typing import Iterator, List, Optional, Tuple
 
 from .errors import PicklestepError, reason
-from .hints import Watch
+from .hints import OLD_TORCH, WRAPPER, Watch
+from .opens import has_zip_behind, is_taken_apart
 from .place import NOT_FOR_NODE, find_program, program_words
 from .wording import shown
 
 __all__ = ['main']
 
 _BLOCK = 1 << 16
+_BLOCK_OF_FILE, _MOST_SEARCHED = 1 << 18, 64 << 20
+_BEGIN_OF_TORCH = 32
 # Options of the program whose value is a word of its own.
 _WITH_VALUES = ('--memo', '--save', '--skip', '--window')
 _SIGNALS = ('SIGINT', 'SIGTERM', 'SIGHUP')  # (Windows has not all of them)
@@ -28,10 +33,24 @@ _SIGNALS = ('SIGINT', 'SIGTERM', 'SIGHUP')  # (Windows has not all of them)
 
 def main(words: List[str]) -> int:
     """Does what the words say, of which the first is the program's, and answers the status."""
+    with contextlib.ExitStack() as held:
+        try:
+            given = _given(words, held)
+        except PicklestepError as error:
+            return _complain(reason(error))
+        for line in given.said:
+            print(line if line.startswith('  ') else f'picklestep: {line}', file=sys.stderr)
+        status = _run(given)
+    if status < 0:
+        _end_by(-status)
+    return status
+
+
+def _run(given: _Given) -> int:
     environment = {name: value for name, value in os.environ.items() if name not in NOT_FOR_NODE}
-    is_watched = words[0] == 'calls'
+    is_watched = given.words[0] == 'calls'
     try:
-        command = [*program_words(find_program()), *words]
+        command = [*program_words(find_program()), *given.words]
         # (A file may be one that the shell has opened, as in `<(..)`: it stays open for the program.)
         process = subprocess.Popen(command, env=environment, stdout=subprocess.PIPE if is_watched else None, close_fds=False)
     except PicklestepError as error:
@@ -42,10 +61,11 @@ def main(words: List[str]) -> int:
     watch = _pass_on(process) if is_watched else Watch()
     status = process.wait()
     if status < 0:
-        _end_by(-status)
+        return status
     if watch is None and status != 2:  # (the program had written all before its reader left)
         return _complain('cannot write')
-    for why in _unread(words[1:]) if status == 2 else watch.hints if watch is not None else ():
+    hints = () if watch is None else watch.hints_of_frames if given.leaves_out else watch.hints
+    for why in _unread(given.words[1:]) if status == 2 else hints:
         _complain(why)
     return status
 
@@ -53,6 +73,90 @@ def main(words: List[str]) -> int:
 def _complain(text: str) -> int:
     print(f'picklestep: {text}', file=sys.stderr)
     return 2
+
+
+# --- What it is given ---
+
+@dataclass(frozen=True)
+class _Given:
+    """The words for the program, whether arrays are left out of what it reads, and what is said before."""
+
+    words: List[str]
+    leaves_out: bool = False
+    said: Tuple[str, ...] = ()
+
+    def without(self, skip: Tuple[Tuple[int, int], ...], held: contextlib.ExitStack, said: List[str]) -> _Given:
+        """The same where `calls` leaves bytes out."""
+        from .tasks import left_out
+        word, *rest = self.words  # (behind `--` they would be files)
+        return _Given([word, *held.enter_context(left_out(skip)), *rest], True, (*self.said, *said))
+
+
+def _given(words: List[str], held: contextlib.ExitStack) -> _Given:
+    """What the program is given: the file, or the bytes that are opened in it, for as long as they are held. Raises NotOpened."""
+    at = _place_of_file(words)
+    if at is None:
+        return _Given(words)
+    if is_taken_apart(words[at]):
+        given = _opened(words, at, held)
+        if given is not None:
+            return given
+    return _beside(words, words[at], held) if words[0] == 'calls' else _Given(words)
+
+
+def _opened(words: List[str], at: int, held: contextlib.ExitStack) -> Optional[_Given]:
+    """The same where something is opened."""
+    from . import addresses  # (it takes longer to import than most answers take)
+    from .sources import Input
+    found = addresses.opened(words[at])
+    if found is None:
+        return None
+    out = _value_of(words, '--save')
+    if out and addresses.is_in(out, found.path):
+        raise PicklestepError(f'cannot write {shown(out)}: nothing is written into a container')
+    given = held.enter_context(Input(found.content))
+    for file in given.files:
+        os.set_inheritable(file, True)
+    made = _Given([*words[:at], given.path, *words[at + 1:]], said=found.said)
+    if not found.skip or _value_of(words, '--skip'):
+        return made
+    if words[0] == 'calls':
+        return made.without(found.skip, held, addresses.left_out(found.address, found.skip))
+    return _Given(made.words, said=(*made.said, addresses.ends_early(found)))
+
+
+def _beside(words: List[str], path: str, held: contextlib.ExitStack) -> _Given:
+    """What `calls` is given of a file that is a pickle itself. Arrays in it are left out."""
+    given = _Given(words)
+    try:
+        has_arrays, has_zip = not _value_of(words, '--skip') and _may_have_arrays(path), has_zip_behind(path)
+        if not has_arrays and not has_zip:
+            return given
+        from . import addresses
+        if has_zip:
+            given = _Given(words, said=tuple(addresses.zip_behind(path)))
+        skip, said = addresses.arrays_of(path) if has_arrays else ((), [])
+    except OSError:
+        return given  # (the program says so)
+    return given.without(skip, held, said) if skip else given
+
+
+def _may_have_arrays(path: str) -> bool:
+    """Whether a file has the name of joblib's arrays near its beginning, or begins as torch wrote before 1.6. (Behind the first array that comes
+    later a hint leads to `scan`.)"""
+    if path.startswith(('/dev/', '/proc/')) or not os.path.isfile(path):
+        return False
+    room, kept, left = bytearray(_BLOCK_OF_FILE), 0, _MOST_SEARCHED
+    view = memoryview(room)
+    with open(path, 'rb', buffering=0) as file:
+        while left > 0 and (count := file.readinto(view[kept:])):
+            end = kept + count
+            if room.find(WRAPPER, 0, end) >= 0 or left == _MOST_SEARCHED and room.find(OLD_TORCH, 0, _BEGIN_OF_TORCH) >= 0:
+                return True
+            kept = min(len(WRAPPER) - 1, end)
+            room[:kept] = room[end - kept:end]
+            left -= count
+    return False
 
 
 # --- The program ---
@@ -116,14 +220,38 @@ def _unread(words: List[str]) -> Iterator[str]:
 
 def _files(words: List[str]) -> Iterator[str]:
     """The names of files among the words of the program."""
-    before, is_option_over = '', False
-    for word in words:
+    for word, before, is_option_over in _with_options(words):
         if before == '--skip' and word.startswith('@') or word.startswith('--skip=@') and not is_option_over:
             yield word.partition('@')[2]
-        elif is_option_over or before not in _WITH_VALUES and not word.startswith('-'):
+        elif _is_file(word, before, is_option_over):
             yield word
+
+
+def _with_options(words: List[str]) -> Iterator[Tuple[str, str, bool]]:
+    """Each word with the option before it, and whether options are over there."""
+    before, is_option_over = '', False
+    for word in words:
+        yield word, before, is_option_over
         is_option_over = is_option_over or word == '--'
         before = '' if is_option_over else word
+
+
+def _is_file(word: str, before: str, is_option_over: bool) -> bool:
+    return is_option_over or before not in _WITH_VALUES and not word.startswith('-')
+
+
+def _place_of_file(words: List[str]) -> Optional[int]:
+    """Where among the words of the program its file is, if there is one."""
+    found = [at for at, each in enumerate(_with_options(words)) if at and _is_file(*each)]
+    return found[0] if len(found) == 1 else None
+
+
+def _value_of(words: List[str], option: str) -> str:
+    """The value that an option has among the words, or none."""
+    for word, before, is_option_over in _with_options(words):
+        if not is_option_over and (before == option or word.startswith(f'{option}=')):
+            return word.partition('=')[2] if word.startswith(f'{option}=') else word
+    return ''
 
 
 def _try(path: str) -> None:

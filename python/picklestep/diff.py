@@ -9,6 +9,7 @@ from collections import Counter
 from itertools import chain
 from typing import Any, Iterator, List, Optional, Tuple
 
+from .addresses import given
 from .alike import paired
 from .answers import Calls
 from .comparing import Comparison, Difference, shown_value
@@ -31,13 +32,13 @@ def main(arguments: List[str]) -> int:
     parser = argparse.ArgumentParser(prog='picklestep diff', description='Prints what two pickles differ in: their results, their imports and '
                                      'calls (- only in A, + only in B), and how they end. Nothing of them is run.',
                                      epilog='Status: 0 if nothing differs; 1 if something does; 2 if they cannot be compared.')
-    parser.add_argument('old', metavar='A', help='a pickle')
+    parser.add_argument('old', metavar='A', help='a pickle, or its address')
     parser.add_argument('new', metavar='B', help='another one')
     parser.add_argument('--many', action='store_true', help='each file has several pickles that follow one another')
     parser.add_argument('--unframed', action='store_true', help='ignore the lengths of frames')
     options = parser.parse_args(arguments)
     try:
-        old, new = rereadable(options.old), rereadable(options.new)
+        old, new = (rereadable(given(name)[0]) for name in (options.old, options.new))
         comparison = Comparison(_values(options.old, old, options), _values(options.new, new, options))
         lines = [*map(str, comparison.of_results()), *of_reaches(old, new, options.unframed, comparison)]
         lines += [] if options.many else _of_what_is_behind(old, new, options.unframed)

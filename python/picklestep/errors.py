@@ -7,7 +7,7 @@ from typing import List, Optional, Sequence
 from .texts import code_of
 from .wording import shown
 
-__all__ = ['NoResult', 'NotAllowed', 'OutOfMemory', 'PicklestepError', 'ProgramError', 'Refused', 'TimedOut', 'TooLarge']
+__all__ = ['NoResult', 'NotAllowed', 'NotOpened', 'OutOfMemory', 'PicklestepError', 'ProgramError', 'Refused', 'TimedOut', 'TooLarge']
 
 
 # What reads on where reading ended at a frame: in Python, and on the command line.
@@ -62,6 +62,21 @@ class NoResult(PicklestepError):
         super().__init__(text + (_READS_ON[0] if is_of_frame else ''))
         self.text = text
         self.is_of_frame = is_of_frame
+
+
+class NotOpened(PicklestepError):
+    """There is no one pickle at an address in a file. The text says in several lines what is there, with the addresses of other pickles.
+
+    >>> import picklestep, pathlib, zipfile
+    >>> with zipfile.ZipFile('a.zip', 'w') as archive:
+    ...     archive.writestr('a.pkl', b'N.')
+    >>> try:
+    ...     picklestep.calls('a.zip > b.pkl')
+    ... except picklestep.NotOpened as error:
+    ...     print(error)
+    nothing in a.zip has the address 'b.pkl': it has 1 pickle
+      'a.zip > a.pkl'  # 2 bytes
+    """
 
 
 class ProgramError(PicklestepError):

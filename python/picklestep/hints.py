@@ -5,7 +5,7 @@ from __future__ import annotations
 import re
 from typing import Optional, Set, Tuple
 
-__all__ = ['ARRAY', 'FRAME', 'OF_FRAMES', 'Watch', 'is_array_wrapper', 'of_array', 'of_frame']
+__all__ = ['ARRAY', 'FRAME', 'OF_FRAMES', 'OLD_TORCH', 'WRAPPER', 'Watch', 'is_array_wrapper', 'of_array', 'of_frame']
 
 # The lines, with a place for an offset, and for the word that reads on.
 ARRAY = 'a joblib file goes on at {} with an array, which is not read here: `picklestep scan FILE` reads on behind it'
@@ -15,6 +15,9 @@ FRAME = 'what is in that frame is not read: `picklestep {} --unframed FILE` does
 OF_FRAMES = ('F6', 'F7', 'F8')
 # joblib goes on by itself where such an object gets its state: it reads an array, whose numbers are no opcodes.
 _WRAPPER = 'NumpyArrayWrapper'
+WRAPPER = _WRAPPER.encode('ascii')
+# The number at the beginning of torch's layout before 1.6, in protocols 2 and later: LONG1 and its bytes. Its tensors are behind five pickles.
+OLD_TORCH = b'\x8a\x0al\xfc\x9cF\xf9 j\xa8P\x19'
 # A line of `calls` that makes one, or gets its class, and one that gives an object its state. (A line with --full may have the name a hundred
 # thousand times: it is looked for once.)
 _MADE = re.compile(rf"^ *[0-9]+: (?!import )[a-z]+ (?=.*{_WRAPPER}').* as #([0-9]+)$", re.MULTILINE)
@@ -82,4 +85,9 @@ class Watch:
     def hints(self) -> Tuple[str, ...]:
         """What the lines do not show, as far as they were read."""
         array = () if self.array_at is None else (of_array(self.array_at),)
-        return (*array, of_frame()) if self._is_at_frame else array
+        return array + self.hints_of_frames
+
+    @property
+    def hints_of_frames(self) -> Tuple[str, ...]:
+        """The same where arrays are left out."""
+        return (of_frame(),) if self._is_at_frame else ()

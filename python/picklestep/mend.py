@@ -7,10 +7,12 @@ import os
 import sys
 from typing import List, Optional
 
+from .addresses import Opened, given, is_in
 from .errors import PicklestepError, reason
 from .mending import mended
 from .python_source.command import print_text
 from .session import Session
+from .wording import shown
 
 __all__ = ['main']
 
@@ -21,7 +23,7 @@ def main(arguments: List[str]) -> int:
     parser = argparse.ArgumentParser(
         prog='picklestep mend', description='Makes a pickle that reads to its STOP from one that was cut off or damaged. Nothing of it is run.',
         epilog='Status: 0 if the pickle was whole; 1 if it was mended, or if bytes after it were not read; 2 if there is no result.')
-    parser.add_argument('file', metavar='FILE', help='the pickle, which stays as it is')
+    parser.add_argument('file', metavar='FILE', help='the pickle, or its address, which stays as it is')
     parser.add_argument('out', metavar='OUT', nargs='?', help='write the result to this file, which cannot be FILE')
     parser.add_argument('--many', action='store_true', help='FILE has several pickles that follow one another')
     parser.add_argument('--save', metavar='OUT', help='the same as OUT')
@@ -33,7 +35,9 @@ def main(arguments: List[str]) -> int:
         print('picklestep: OUT is FILE, which stays as it is', file=sys.stderr)
         return 2
     try:
-        answer = mended(options.file, options.many)
+        pickle, found = given(options.file)
+        _check_out(out, found)
+        answer = mended(pickle, options.many)
         kept = (f'{answer.kept} bytes after STOP are not read (try --many)',) if answer.kept else ()
         print_text(''.join(f'{step}\n' for step in (*answer.steps, *kept)) or 'it is whole\n')
         if out is not None:
@@ -44,6 +48,12 @@ def main(arguments: List[str]) -> int:
         print(f'picklestep: {reason(error)}', file=sys.stderr)
         return 2
     return 1 if answer.steps or answer.kept else 0
+
+
+def _check_out(out: Optional[str], found: Optional[Opened]) -> None:
+    """Raises PicklestepError where the result would be written into a container, or in its place."""
+    if out is not None and is_in(out, '' if found is None else found.path):
+        raise PicklestepError(f'cannot write {shown(out)}: nothing is written into a container')
 
 
 def _is_same(file: str, out: Optional[str]) -> bool:

@@ -13,6 +13,7 @@ from pathlib import Path
 from typing import Dict, Iterator, List, Optional, Sequence, Tuple, Union, overload
 
 from . import library, replies
+from .addresses import at_address
 from .answers import Calls, Heap, Items, Listing, ShownObjects
 from .arguments import ArgumentValue, encoded
 from .errors import ProgramError, Refused, TimedOut
@@ -165,7 +166,8 @@ class Session(contextlib.AbstractContextManager['Session']):
                  timeout: Optional[float] = None, memory: Optional[int] = None) -> None:
         check_timeout(timeout)
         self._limits = (timeout, memory)
-        self._input = Input(source, own=True)
+        opened = at_address(source)
+        self._input = Input(source if opened is None else opened.content, own=True)
         self._many, self._unframed = many, unframed
         self._words = ['debug', self._input.path, *modes(many, unframed)]
         try:

@@ -10,6 +10,7 @@ from contextlib import contextmanager
 from typing import Callable, Iterable, Iterator, List, Optional, Tuple, Type, TypeVar
 
 from . import library
+from .addresses import at_address
 from .answers import Calls, Listing, Objects
 from .errors import ProgramError
 from .listed import TooDeep, bounded
@@ -66,7 +67,8 @@ def calls(source: Source, *, first: bool = False, memo_kept: bool = False, full:
 
     With `first` only the first pickle is read. With `memo_kept` they are read as by one unpickler that loads again and again, and keeps
     its memo. With `full` arguments are whole: texts of more than 64 characters, tuples of more than 16 parts. `many` changes nothing.
-    `skip` has the offset and the length of bytes that are left out, in order: what is left is read, with the offsets of the source.
+    `skip` has the offset and the length of bytes that are left out, in order: what is left is read, with the offsets of the source. At an address
+    (`model.joblib.gz > (gzip)`) the numbers of joblib's arrays are left out without that.
 
     >>> for reach in calls(b'cposix\\nsystem\\n(X\\x02\\x00\\x00\\x00idtR.'):
     ...     print(reach.offset, reach.text)
@@ -76,7 +78,7 @@ def calls(source: Source, *, first: bool = False, memo_kept: bool = False, full:
     [0, 27]
     """
     with _Asked(source, timeout, memory) as asked:
-        return calls_of(asked, first, memo_kept, full, skip)
+        return calls_of(asked, first, memo_kept, full, skip or asked.skip)
 
 
 def form(source: Source, *, timeout: Optional[float] = None, memory: Optional[int] = None) -> Optional[OtherForm]:
@@ -158,6 +160,10 @@ class _Asked:
 
     def __init__(self, source: Source, timeout: Optional[float], memory: Optional[int]) -> None:
         check_timeout(timeout)
+        opened = at_address(source)
+        # The bytes of it that are no opcodes, as far as that is known.
+        self.skip = () if opened is None else opened.skip
+        source = source if opened is None else opened.content
         self._memory = memory
         self._timeout = timeout
         self._begun = 0.0

@@ -123,9 +123,9 @@ class Reports(EntranceCase):
 
     def test_a_report_of_a_part(self) -> None:
         container = (MODELS / 'torch_state.pt').read_bytes()
-        said = {'a.joblib': 'picklestep scan FILE', 'b.pt': 'zip archive (picklestep scan looks into it)', 'c.pickle': 'picklestep source --unframed FILE',
-                'd.pickle': 'refused: S2', 'e.pickle': 'picklestep scan FILE'}
-        for (name, why), data in zip(said.items(), (HIDDEN, container, CUT, b'N0.', SWALLOWED)):
+        said = {'a.joblib': 'picklestep scan FILE', 'c.pickle': 'picklestep source --unframed FILE', 'd.pickle': 'refused: S2',
+                'e.pickle': 'picklestep scan FILE'}
+        for (name, why), data in zip(said.items(), (HIDDEN, CUT, b'N0.', SWALLOWED)):
             with self.subTest(name), contextlib.redirect_stderr(io.StringIO()) as errors:
                 out = self.folder / f'{name}.html'
                 self.assertEqual(view([str(self.file(name, data)), '--export', str(out)]), 1)
@@ -134,9 +134,13 @@ class Reports(EntranceCase):
                 self.assertIn('Not all of the file is in this report:', top)
                 for text in (top.partition('</strong>')[2].partition('</p>')[0], errors.getvalue()):
                     self.assertIn(why, text)
-        out = self.folder / 'whole.html'
-        self.assertEqual(view([str(self.file('f.pickle', b'N.')), '--export', str(out)]), 0)
-        self.assertNotIn('Not all of the file', out.read_text(encoding='utf-8'))
+        for name, data in (('f.pickle', b'N.'), ('b.pt', container)):
+            out = self.folder / f'{name}.html'
+            with contextlib.redirect_stderr(io.StringIO()):
+                self.assertEqual(view([str(self.file(name, data)), '--export', str(out)]), 0)
+            self.assertNotIn('Not all of the file', out.read_text(encoding='utf-8'))
+        with contextlib.closing(Document(container, 'b.pt')) as document:  # (whose bytes are read as they are)
+            self.assertIn('begins like a container: zip archive (picklestep scan looks into it)', document.missing)
 
 
 class Entrance(EntranceCase):
@@ -144,7 +148,7 @@ class Entrance(EntranceCase):
 
     def test_calls(self) -> None:
         whole = pickle.dumps([print, 1], 4)
-        for name, data, said in (('a.joblib', HIDDEN, '`picklestep scan FILE`'), ('b.joblib', SWALLOWED, '`picklestep scan FILE`'),
+        for name, data, said in (('b.joblib', SWALLOWED, '`picklestep scan FILE`'),
                                  ('cut.pickle', CUT, '`picklestep source --unframed FILE`'), ('whole.pickle', whole, '')):
             self.file(name, data)
             alone = self.start([find_program(), 'calls', name])

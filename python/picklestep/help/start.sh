@@ -13,8 +13,31 @@ is_for_program() {
     esac
 }
 
-# Whether Python has something to say behind the program's own lines: where else to look, or which file cannot be read (entrance.py asks the
-# same). Without Python the program's lines are all.
+# Whether a file begins like a container, or has the values of dbm.dumb: opens.py has the same signs, and looks closer. Bash reads them itself,
+# and drops NUL bytes. No pickle begins with a control character, with Z or with x.
+holds_others() {
+    case $1 in
+    /dev/* | /proc/*) return 1 ;; # (what was given open is read once)
+    *.dat) [ ! -f "${1%.dat}.dir" ] || return 0 ;;
+    esac
+    [ -f "$1" ] || return 1
+    bash_version=${BASH_VERSION-}
+    if [ "${bash_version%%.*}" -ge 4 ] 2>/dev/null; then
+        # shellcheck disable=SC3045
+        LC_ALL=C IFS='' read -r -N 262 begin <"$1"
+    else
+        begin=$(head -c 262 <"$1")
+    fi
+    case $begin in
+    ']'[q\(aK.2]*) return 1 ;; # (a list in a pickle; lzma has zeros there)
+    PK* | [[:cntrl:]]* | BZh* | ']'* | '('?/* | '('??/* | Z* | x* | 'SQLite format 3'* | a[[:cntrl:]]*) return 0 ;;
+    ?NUMPY* | ?7zXZ* | ?HDF* | ?W[[:cntrl:]]* | ??W[[:cntrl:]]* | *ustar*) return 0 ;;
+    esac
+    return 1
+}
+
+# Whether Python has something to say beside the program's own lines: where else to look, which file cannot be read, or what it opens, an
+# address or a container (entrance.py asks the same). Without Python the program's lines are all.
 is_told_more() {
     command -v python3 >/dev/null || return 1
     [ "$1" != calls ] || return 0
@@ -23,7 +46,7 @@ is_told_more() {
         case $word in
         --) return 0 ;; # (a file behind it may have a name like an option)
         -*) ;;
-        *) [ -r "$word" ] && [ ! -d "$word" ] || return 0 ;;
+        *) [ -r "$word" ] && [ ! -d "$word" ] && ! holds_others "$word" || return 0 ;;
         esac
     done
     return 1
@@ -42,6 +65,6 @@ enter() {
     if command -v python3 >/dev/null; then
         exec python3 -I ${PYTHONDONTWRITEBYTECODE:+-B} "$package/entrance.py" "$@"
     fi
-    echo 'picklestep: python3 (3.9 or later) is not there: only list, objects, calls, form and debug work without it' >&2
+    echo 'picklestep: python3 (3.9 or later) is not there: only list, objects, calls, form, gate and debug work without it' >&2
     exit 2
 }

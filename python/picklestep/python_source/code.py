@@ -7,6 +7,7 @@ import gc
 import re
 from typing import Iterator, List, Optional
 
+from ..addresses import at_address
 from ..answers import Answer
 from ..hints import OF_FRAMES, of_array, of_frame
 from ..listed import Listed
@@ -70,7 +71,8 @@ def source(pickle: Source, *, full: bool = True, many: bool = False, unframed: b
     <BLANKLINE>
     """
     check_timeout(timeout)
-    with _without_collector(), Input(pickle) as given:
+    opened = at_address(pickle)
+    with _without_collector(), Input(pickle if opened is None else opened.content) as given:
         return _source(given, full, modes(many, unframed), timeout, memory)
 
 

@@ -6,6 +6,7 @@ import argparse
 import sys
 from typing import List
 
+from ..addresses import given
 from ..errors import PicklestepError, reason
 from .code import source
 
@@ -16,7 +17,7 @@ def _parser() -> argparse.ArgumentParser:
     parser = argparse.ArgumentParser(
         prog='picklestep source', description='Prints a pickle as Python source, to be read. Nothing of it is run.',
         epilog='Status: 0 if the pickle was read to its STOP; 1 if reading ended before; 2 if there is no source.')
-    parser.add_argument('file', metavar='FILE', help='the pickle')
+    parser.add_argument('file', metavar='FILE', help='the pickle, or its address')
     parser.add_argument('--many', action='store_true', help='FILE has several pickles that follow one another')
     parser.add_argument('--unframed', action='store_true', help='ignore the lengths of frames, so that a pickle that was cut off is read to the cut')
     parser.add_argument('--full', action='store_true', help='print whole texts, lists and the like, which are cut without it')
@@ -34,7 +35,7 @@ def main(arguments: List[str]) -> int:
     """Writes the source of a pickle. The status is 1 where reading ended early, and 2 where there is no answer."""
     options = _parser().parse_args(arguments)
     try:
-        answer = source(options.file, full=options.full, many=options.many, unframed=options.unframed)
+        answer = source(given(options.file)[0], full=options.full, many=options.many, unframed=options.unframed)
         print_text(answer.text)
     except (OSError, PicklestepError) as error:
         print(f'picklestep: {reason(error)}', file=sys.stderr)

@@ -6,6 +6,7 @@ import argparse
 import sys
 from typing import Iterable, Iterator, List
 
+from ..addresses import given
 from ..errors import PicklestepError, reason
 from ..python_source.command import print_text
 from ..wording import shown
@@ -20,7 +21,7 @@ def _parser() -> argparse.ArgumentParser:
     parser = argparse.ArgumentParser(
         prog='picklestep shell', description='A prompt at which you step through a pickle, look at it and edit it. Nothing of it is run.',
         epilog='Status: 0; 1 if a line of SCRIPT was refused; 2 if FILE or SCRIPT could not be read; 130 after Ctrl-C.')
-    parser.add_argument('file', metavar='FILE', help='the pickle')
+    parser.add_argument('file', metavar='FILE', help='the pickle, or its address')
     parser.add_argument('--many', action='store_true', help='FILE has several pickles that follow one another')
     parser.add_argument('--unframed', action='store_true', help='ignore the lengths of frames, so that a pickle that was cut off is read to the cut')
     parser.add_argument('--batch', metavar='SCRIPT', help='run the lines of this file instead of a prompt, up to the first that is refused')
@@ -31,7 +32,9 @@ def main(arguments: List[str]) -> int:
     """Runs lines. The status is 1 where a line of a script could not be run, 2 where the pickle could not be opened, and 130 after Ctrl-C."""
     options = _parser().parse_args(arguments)
     try:
-        with Shell(options.file, options.file, options.many, unframed=options.unframed) as shell:
+        pickle, found = given(options.file)
+        path, container = (options.file, '') if found is None else ('', found.path)
+        with Shell(pickle, path, options.many, unframed=options.unframed, container=container) as shell:
             if options.batch is not None:
                 with open(options.batch, encoding='utf-8') as script:
                     return _obey_all(shell, options.batch, _lines(options.batch, script))

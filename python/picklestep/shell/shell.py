@@ -59,8 +59,11 @@ class Shell:
     made:  #0 7
     """
 
-    def __init__(self, pickle: Source, path: str, many: bool = False, ask: Optional[Callable[[str], bool]] = None, unframed: bool = False) -> None:
+    def __init__(self, pickle: Source, path: str, many: bool = False, ask: Optional[Callable[[str], bool]] = None, unframed: bool = False,
+                 container: str = '') -> None:
+        """`container` is the file that the pickle was opened in, which is not written over."""
         self.pickle = Opened(pickle, path, many, unframed=unframed)
+        self.pickle.container = container
         self._modes: Dict[str, bool] = {'many': many, 'unframed': unframed}
         self._path = path
         self.ask = ask

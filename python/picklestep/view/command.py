@@ -5,6 +5,7 @@ from __future__ import annotations
 import argparse
 import contextlib
 import math
+import os
 import signal
 import sys
 import tempfile
@@ -12,11 +13,13 @@ import webbrowser
 from pathlib import Path
 from typing import Iterator, List, Optional
 
+from ..addresses import given
 from ..errors import PicklestepError, reason
 from ..saving import naming, written_whole
 from ..wording import shown
 from .document import Document
 from .export import MOST, write_report
+from .lines import silent
 from .server import IDLE, Viewer
 
 __all__ = ['main']
@@ -37,7 +40,7 @@ def _parser() -> argparse.ArgumentParser:
         prog='picklestep view', description='Shows a pickle in a browser. Nothing of it is run.',
         epilog='Status: 0; 1 if the report of --export does not have all of FILE; 2 if FILE could not be read or OUT.html not written; 130 after '
                'Ctrl-C while it opens or exports.')
-    parser.add_argument('file', metavar='FILE', help='the pickle')
+    parser.add_argument('file', metavar='FILE', help='the pickle, or its address')
     parser.add_argument('--many', action='store_true', help='FILE has several pickles that follow one another')
     parser.add_argument('--export', metavar='OUT.html', type=Path, help='write a report into this page, and end')
     parser.add_argument('--force', action='store_true', help='let --export replace a file that is there')
@@ -96,12 +99,16 @@ def _count(text: str) -> None:
 
 def _opened(options: argparse.Namespace) -> Document:
     """The document. A terminal gets a line that says how far it is, which is wiped out at the end."""
-    if not sys.stderr.isatty():
-        return Document(options.file, Path(options.file).name, options.many)
+    pickle, found = given(options.file)
+    path, rest = (options.file, '') if found is None else (found.path, found.address[len(found.path):])
+    name, is_told = os.path.basename(path) + rest, sys.stderr.isatty()
     try:
-        return Document(options.file, Path(options.file).name, options.many, _count)
+        document = Document(pickle, name, options.many, _count if is_told else silent)
     finally:
-        _count('')
+        if is_told:
+            _count('')
+    document.container = '' if found is None else found.path
+    return document
 
 
 def _do(options: argparse.Namespace) -> int:

@@ -9,6 +9,7 @@ from itertools import chain, islice
 from pathlib import Path
 from typing import Any, Callable, Dict, Iterator, List, NamedTuple, Optional, Set, Tuple
 
+from ..addresses import is_in
 from ..answers import Calls
 from ..errors import Refused
 from ..python_source import source
@@ -17,6 +18,7 @@ from ..session import SHIFTS, Session
 from ..sources import Input, Source
 from ..tasks import modes
 from ..texts import as_made, broken_places, end_of_texts, held_in, holding, made_by, without_number
+from ..wording import shown
 from .lines import Lines, OpcodeLines, add_items, cut_text, lines_of, read_all, read_answers, silent
 
 __all__ = ['MOST_EXACT', 'MOST_TEXT', 'Document', 'Done', 'Fields', 'Reaches', 'around', 'in_a_line', 'places_edited']
@@ -160,6 +162,8 @@ class Document:
     def __init__(self, source: Source, name: str, many: bool = False, progress: Callable[[str], None] = silent, unframed: bool = False) -> None:
         """Reads a pickle. While that goes on, `progress` is given how far it is."""
         self.name = name
+        # The file that the pickle was opened in, if it was: it is not written over.
+        self.container = ''
         self._progress = progress
         self.session = Session(source, many=many, unframed=unframed)
         self._options = modes(many, unframed)
@@ -504,6 +508,8 @@ class Document:
         if not name.strip():
             raise ValueError('a name is wanted')
         path = Path(os.path.abspath(os.path.expanduser(name)))
+        if is_in(str(path), self.container) or is_in(name, self.container):
+            raise ValueError(f'cannot write {shown(name)}: nothing is written into a container')
         if over:
             self.session.save(path)
         else:

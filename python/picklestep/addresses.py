@@ -1,0 +1,300 @@
+"""Pickles in containers, by the addresses that `scan` prints, as in `model.pt > archive/data.pkl`.
+
+The readers are those of `scan`, which are imported where there is something to open.
+"""
+
+from __future__ import annotations
+
+import os
+import shlex
+import sys
+from dataclasses import dataclass
+from importlib import import_module
+from typing import TYPE_CHECKING, Any, List, Optional, Sequence, Tuple, Union, overload
+
+from .errors import NotOpened
+from .opens import BETWEEN, has_zip_behind, holds_others, split
+from .sources import Source, is_opened
+from .wording import shown
+
+if TYPE_CHECKING:
+    from .scan.finder import Finding, Found
+
+__all__ = ['Member', 'Members', 'Opened', 'arrays_of', 'at_address', 'ends_early', 'given', 'is_in', 'left_out', 'members', 'opened',
+           'quoted', 'ranges', 'zip_behind']
+
+# So many addresses are shown, and so many lines of what was not looked at.
+_MOST_SHOWN = 100
+_MOST_MISSED = 5
+# So many ranges of bytes that are left out are named.
+_MOST_RANGES = 3
+
+
+@dataclass(frozen=True)
+class Opened:
+    """A pickle that was opened in a file: its address, its bytes, and what is said of it, a line each. `skip` are the bytes that are no opcodes, as
+    `calls` takes them, and `path` is the file."""
+
+    path: str
+    address: str
+    content: bytes
+    skip: Tuple[Tuple[int, int], ...] = ()
+    said: Tuple[str, ...] = ()
+
+
+@dataclass(frozen=True)
+class Member:
+    """A pickle in a file: its address, and how many bytes it has. `skip` are those of them that are no opcodes (the numbers of joblib's arrays), as
+    `calls` takes them.
+
+    >>> Member('model.pt > archive/data.pkl', 495)
+    Member(address='model.pt > archive/data.pkl', size=495, skip=())
+    """
+
+    address: str
+    size: int
+    skip: Tuple[Tuple[int, int], ...] = ()
+
+
+class Members(Sequence[Member]):
+    """The pickles in a file. `missed` has a line for each thing that was not looked at: where there is one, there may be other pickles.
+
+    >>> import gzip, pathlib
+    >>> _ = pathlib.Path('a.pkl.gz').write_bytes(gzip.compress(b'N.'))
+    >>> found = members('a.pkl.gz')
+    >>> found[0].address, found[0].size, found.missed
+    ('a.pkl.gz > (gzip)', 2, ())
+    """
+
+    def __init__(self, found: Sequence[Member], missed: Sequence[str] = ()) -> None:
+        self._found = tuple(found)
+        self.missed = tuple(missed)
+
+    def __len__(self) -> int:
+        return len(self._found)
+
+    @overload
+    def __getitem__(self, index: int) -> Member: ...
+
+    @overload
+    def __getitem__(self, index: slice) -> Sequence[Member]: ...
+
+    def __getitem__(self, index: Union[int, slice]) -> Union[Member, Sequence[Member]]:
+        return self._found[index]
+
+    def __repr__(self) -> str:
+        return f'<Members: {_pickles(len(self))}{", and not all was looked at" if self.missed else ""}>'
+
+
+def members(path: 'Union[str, os.PathLike[str]]') -> Members:
+    """The pickles in a file, or below an address in it: those that `picklestep scan` finds, by its readers and within its limits.
+
+    `calls` and the other functions take each address. A file that is a pickle itself has its own path for one. Raises OSError where the file cannot
+    be read.
+
+    >>> import pathlib, zipfile
+    >>> with zipfile.ZipFile('two.zip', 'w') as archive:
+    ...     archive.writestr('a.pkl', b'N.'), archive.writestr('b.pkl', b'K\\x01.')
+    (None, None)
+    >>> [member.address for member in members('two.zip')]
+    ['two.zip > a.pkl', 'two.zip > b.pkl']
+    """
+    name = os.fsdecode(path)
+    file, address = split(name) or (name, '')
+    with open(file, 'rb'):  # (which says why it cannot be read)
+        pass
+    finding = _finder().find(file, address)
+    if finding.error is not None:
+        raise OSError(f'cannot read {shown(file)}: {finding.error}')
+    return Members([Member(_address(file, each.name), each.size, each.raw) for each in finding.found], finding.missed)
+
+
+def _finder() -> Any:
+    return import_module('picklestep.scan.finder')
+
+
+def _address(file: str, name: str) -> str:
+    return f'{file}{BETWEEN}{name}' if name else file
+
+
+# --- One pickle ---
+
+def at_address(source: Source) -> Optional[Opened]:
+    """The pickle that a source is the address of. None of any other source."""
+    if not isinstance(source, (str, os.PathLike)):
+        return None
+    name = os.fsdecode(source)
+    return None if split(name) is None else opened(name)
+
+
+def opened(word: str) -> Optional[Opened]:
+    """The pickle at an address; that in a container, where it has one. None where the file is read as it is. Raises NotOpened where no one pickle is
+    meant."""
+    parts = split(word)
+    if parts is None and (is_opened(word) or not holds_others(word)):
+        return None
+    file, address = parts or (word, '')
+    finding = _finder().find(file, address)
+    if '(' in address and not finding.found and finding.content is None:
+        finding = _finder().find(file, address, everywhere=True)
+    if finding.error is not None:
+        raise NotOpened(f'cannot read {shown(file)}: {finding.error}')
+    return _Choice(file, address, finding).opened()
+
+
+class _Choice:
+    """Which pickle is opened of what is at an address and below it."""
+
+    def __init__(self, file: str, address: str, finding: Finding) -> None:
+        self.file = file
+        self.address = address
+        self.finding = finding
+        self.here = [each for each in finding.found if each.name == address]
+        self.below = [each for each in finding.found if each.name != address and not each.is_of_arrays]
+        self._of_arrays = [each for each in finding.found if each.is_of_arrays and each.name != address]
+        self._name = shown(_address(file, address))
+
+    def opened(self) -> Optional[Opened]:
+        """The one pickle, if the file is not read as it is. Raises NotOpened."""
+        if self.address and self.here:
+            return self._of_here()
+        if not self.below and not self.finding.kinds:
+            return self._of_bytes() if self.address else None  # (it only begins like a container)
+        what = f'{self._name} is a container ({", ".join(self.finding.kinds)})' if self.finding.kinds else f'{self._name} is no pickle itself'
+        if not self.below:
+            raise NotOpened('\n'.join([f'{what}, and no pickle is found in it', *self._too(), *self._missed()]))
+        if len(self.below) > 1:
+            head = f'{what} with {_pickles(len(self.below))}: give the address of one'
+            raise NotOpened('\n'.join([head, *_shown(self.file, self.below), *self._missed()]))
+        return self._of(self.below[0], [f'{what}: the one pickle in it is opened, {_quoted(self.file, self.below[0])}', *self._too()])
+
+    def _of_here(self) -> Opened:
+        if len(self.here) > 1:
+            raise NotOpened(f'{len(self.here)} pickles have the address {_quoted(self.file, self.here[0])}, and loaders differ in which they take: '
+                            f'picklestep scan {quoted(self.file)} shows what each does')
+        lines = [f'opened {_quoted(self.file, self.here[0])}']
+        if self.below:
+            kinds = ' and '.join(self.finding.kinds) or 'a container'
+            lines += [f'it is {kinds} too, with {_pickles(len(self.below))}; as the address is its own, it is read as a pickle itself. In it:',
+                      *_shown(self.file, self.below)]
+        return self._of(self.here[0], lines)
+
+    def _of_bytes(self) -> Opened:
+        """The bytes at an address that are no pickle."""
+        if self.finding.content is None:
+            raise NotOpened('\n'.join(self._where_else()))
+        lines = [f'opened {quoted(self._name)}, where scan finds no pickle', *self._missed()]
+        return Opened(self.file, _address(self.file, self.address), self.finding.content, (), tuple(lines))
+
+    def _where_else(self) -> List[str]:
+        found = _finder().find(self.file)
+        lines = [f'nothing in {shown(self.file)} has the address {self.address!a}' + (f': it has {_pickles(len(found.found))}' if found.found else '')]
+        return [*lines, *_shown(self.file, found.found), *_missed(list(dict.fromkeys([*self.finding.missed, *found.missed])))]
+
+    def _of(self, found: Found, lines: List[str]) -> Opened:
+        if found.content is None or found.is_cut:
+            raise NotOpened(f'{_quoted(self.file, found)} is too large to be opened: it has more than {found.size:,} bytes' if found.is_cut else
+                            f'{_quoted(self.file, found)} is too large to be opened: it has {found.size:,} bytes')
+        inner = [each for each in self._of_arrays if each.where[:-1] == found.where]
+        lines += [f'pickles are within its arrays of objects too: {_quoted(self.file, each)}' for each in inner]
+        return Opened(self.file, _address(self.file, found.name), found.content, found.raw, (*lines, *self._missed()))
+
+    def _too(self) -> List[str]:
+        """That loaders which open no container may take its bytes for a pickle."""
+        if not self.here:
+            return []
+        return [f'to a loader that opens no container its bytes are a pickle too: picklestep calls /dev/stdin <{quoted(self.file)}']
+
+    def _missed(self) -> List[str]:
+        return _missed(self.finding.missed)
+
+
+def _missed(lines: Sequence[str]) -> List[str]:
+    more = [f'  .. and {len(lines) - _MOST_MISSED} more'] if len(lines) > _MOST_MISSED else []
+    return ['picklestep scan marks in it:', *(f'  {shown(line)}' for line in lines[:_MOST_MISSED]), *more] if lines else []
+
+
+def quoted(address: str) -> str:
+    """An address as it is typed into a shell."""
+    return shlex.quote(shown(address))
+
+
+def _pickles(count: int) -> str:
+    return '1 pickle' if count == 1 else f'{count:,} pickles'
+
+
+def _quoted(file: str, found: Found) -> str:
+    """An address as it is typed into a shell, and its size."""
+    return f'{quoted(_address(file, found.name))} ({found.size:,} bytes)'
+
+
+def _shown(file: str, found: Sequence[Found]) -> List[str]:
+    """Addresses, a line each, as they are typed into a shell."""
+    lines = [f'  {quoted(_address(file, each.name))}  # {each.size:,} bytes' for each in found[:_MOST_SHOWN]]
+    return [*lines, f'  .. and {len(found) - _MOST_SHOWN:,} more: picklestep scan {quoted(file)}'] if len(found) > _MOST_SHOWN else lines
+
+
+# --- Arrays between opcodes ---
+
+def arrays_of(path: str) -> Tuple[Tuple[Tuple[int, int], ...], List[str]]:
+    """The bytes of a file that are no opcodes, as `calls` takes them, and what is said of them: of one that joblib wrote, or torch before 1.6. There are
+    none where it is not in the form that these write."""
+    blobs = import_module('picklestep.scan.blobs')
+    with open(path, 'rb', buffering=0) as file:
+        arrays = _finder().arrays_in(blobs.FileBlob(file, os.fstat(file.fileno()).st_size))
+    if arrays is None or not arrays.raw:
+        return (), []
+    return arrays.raw, left_out(path, arrays.raw, arrays.of_objects)
+
+
+def left_out(address: str, skip: Sequence[Tuple[int, int]], of_objects: int = 0) -> List[str]:
+    """What is said of bytes that are left out."""
+    size = sum(length for _, length in skip)
+    lines = [f'{size:,} bytes are the numbers of arrays and no opcodes, and are left out: {ranges(skip)}']
+    if of_objects:
+        lines.append(f'arrays of objects are pickles of their own: {quoted(f"{address}{BETWEEN}(arrays of objects)")}')
+    return lines
+
+
+def ends_early(found: Opened) -> str:
+    """What is said of a pickle whose reading ends at its first array, where no bytes are left out."""
+    return (f'its opcodes end at {found.skip[0][0]}, where the numbers of an array begin: picklestep calls {quoted(found.address)} reads on behind '
+            'them')
+
+
+def ranges(skip: Sequence[Tuple[int, int]]) -> str:
+    """Bytes that are left out, as words of `calls`.
+
+    >>> ranges([(9, 11), (30, 1), (40, 1), (50, 1)])
+    '--skip 9:11 --skip 30:1 --skip 40:1 ..'
+    """
+    return ' '.join([*(f'--skip {offset}:{size}' for offset, size in skip[:_MOST_RANGES]), *(['..'] if len(skip) > _MOST_RANGES else [])])
+
+
+# --- Words of the command line ---
+
+def given(word: str) -> 'Tuple[Source, Optional[Opened]]':
+    """What a word of the package reads: the file, or the bytes that are opened in it, which is said on standard error. Raises NotOpened."""
+    found = opened(word)
+    if found is None:
+        lines = zip_behind(word)
+    else:
+        lines = [*found.said, *([ends_early(found)] if found.skip else [])]
+    for line in lines:
+        print(line if line.startswith('  ') else f'picklestep: {line}', file=sys.stderr)
+    source: Source = word if found is None else found.content
+    return source, found
+
+
+def zip_behind(word: str) -> List[str]:
+    """That a file which is read as a pickle ends as a zip archive, if it does."""
+    if not has_zip_behind(word):
+        return []
+    return [f'a zip archive stands at the end of {shown(word)}, which some loaders open; the pickle at its beginning is read: '
+            f'picklestep scan {quoted(word)} looks into both']
+
+
+def is_in(path: str, container: str) -> bool:
+    """Whether a path to write to is that of a container that was opened, or an address in one: a member is not replaced."""
+    return split(path) is not None or bool(container) and os.path.exists(path) and os.path.samefile(path, container)
+

@@ -1,0 +1,84 @@
+"""Which words are opened: the address of a pickle in a container, as `scan` prints it, and a file that begins like a container.
+
+This imports only what an interpreter has loaded when it starts, since the entrance uses it.
+"""
+
+import os
+
+__all__ = ['BEGINS', 'BETWEEN', 'has_zip_behind', 'holds_others', 'is_taken_apart', 'split']
+
+# What stands between the names of an address.
+BETWEEN = ' > '
+# How files begin that hold others: at which offset, and with which bytes. (`scan` has the table of what it opens, and looks closer. help/start.sh
+# asks the same.)
+BEGINS = (
+    *((0, b'PK' + sign) for sign in (b'\x03\x04', b'\x05\x06', b'\x06\x06', b'\x01\x02', b'\x07\x08')),
+    (0, b'\x1f\x8b\x08'), (0, b'BZh'), (0, b'\xfd7zXZ\0'), (0, b'\x5d\0\0'), (0, b'\x28\xb5\x2f\xfd'), (0, b'ZF0x'),
+    *((0, b'x' + level) for level in (b'\x01', b'\x5e', b'\x9c', b'\xda')),
+    (0, b'\x93NUMPY'), (257, b'ustar'), (0, b'SQLite format 3\0'), (0, b'\x89HDF\r\n\x1a\n'),
+    *((0, b'\x13\x57\x9a' + bytes([last])) for last in range(0xcd, 0xd2)), *((0, bytes([first]) + b'\x9a\x57\x13') for first in range(0xcd, 0xd2)),
+    (12, b'\x61\x15\x06\0'), (12, b'\0\x06\x15\x61'),
+)
+_ENOUGH = max(offset + len(magic) for offset, magic in BEGINS)
+# The record that closes a zip archive has so many bytes, and then a comment, whose length its last two bytes say.
+_CLOSING, _RECORD, _MOST_OF_COMMENT = b'PK\x05\x06', 22, 0xffff
+
+
+def split(word: str) -> 'tuple[str, str] | None':
+    """The file of an address, and the names behind it: the longest beginning that names a file. None where the word is no address: a file has this
+    name, or none has that of a beginning.
+
+    >>> split('no file > a') is None, split('model.pt') is None
+    (True, True)
+    """
+    if BETWEEN not in word or os.path.lexists(word):
+        return None
+    at = word.rfind(BETWEEN)
+    while at > 0:
+        if os.path.isfile(word[:at]):
+            return word[:at], word[at + len(BETWEEN):]
+        at = word.rfind(BETWEEN, 0, at)
+    return None
+
+
+def holds_others(path: str) -> bool:
+    """Whether a file begins like a container, or has the values of `dbm.dumb`. What this process was given open is taken as it is, and is not read
+    here.
+
+    >>> holds_others('no file'), holds_others('/dev/stdin')
+    (False, False)
+    """
+    if path.startswith(('/dev/', '/proc/')) or not os.path.isfile(path):
+        return False
+    if path.endswith('.dat') and os.path.isfile(path[:-4] + '.dir'):
+        return True
+    try:
+        with open(path, 'rb', buffering=0) as file:
+            head = file.read(_ENOUGH)
+    except OSError:
+        return False  # (whoever opens it says so)
+    return any(head.startswith(magic, offset) for offset, magic in BEGINS)
+
+
+def is_taken_apart(word: str) -> bool:
+    """Whether a word is opened, rather than read as it is."""
+    return split(word) is not None or holds_others(word)
+
+
+def has_zip_behind(path: str) -> bool:
+    """Whether a file that begins like something else ends with the record that closes a zip archive: then some loaders open it as one."""
+    if path.startswith(('/dev/', '/proc/')) or not os.path.isfile(path):
+        return False
+    try:
+        with open(path, 'rb', buffering=0) as file:
+            size = file.seek(0, os.SEEK_END)
+            file.seek(max(0, size - _RECORD - _MOST_OF_COMMENT))
+            tail = file.read(_RECORD + _MOST_OF_COMMENT)
+    except OSError:
+        return False
+    at = tail.rfind(_CLOSING)
+    while at >= 0:
+        if at + _RECORD + int.from_bytes(tail[at + _RECORD - 2:at + _RECORD], 'little') == len(tail):
+            return True
+        at = tail.rfind(_CLOSING, 0, at)
+    return False

@@ -1,0 +1,227 @@
+"""Finds the pickles at an address, or below it: those that `scan` finds there, by its own readers.
+
+What is at other places of the file is left out, as far as a container says where its members are.
+"""
+
+from __future__ import annotations
+
+from dataclasses import dataclass, replace
+from typing import Iterator, List, Optional, Sequence, Tuple
+
+from ..opens import BETWEEN
+from ..sources import LIMIT
+from ..wording import shown
+from .blobs import Blob, Budget, BytesBlob, LimitMet, Limits
+from .canonical import NotCanonical
+from .canonical.layouts import layout_of
+from .containers import Held
+from .looking import OF_ARRAYS, Looker, Options, Unpacked, look_by
+from .packed import Unpacking
+from .results import Pickle, Place
+from .stores.dbm_files import has_index
+from .wording import place_of
+
+__all__ = ['Arrays', 'Finding', 'Found', 'arrays_in', 'content_at', 'find']
+
+# So many pickles are kept of a file: a database may have millions.
+_MOST = 100_000
+_MOST_HELD = 2
+
+
+@dataclass(frozen=True)
+class Found:
+    """A pickle in a file: the names that lead to it, how many bytes it has, and the ranges of these that are no opcodes, each as an offset and a
+    length.
+
+    `content` are its bytes, of one that is asked for and of one that is alone. `is_cut` is set where there are more, which a limit keeps from
+    being unpacked.
+    """
+
+    where: Place
+    size: int
+    raw: Tuple[Tuple[int, int], ...] = ()
+    content: Optional[bytes] = None
+    is_cut: bool = False
+
+    @property
+    def name(self) -> str:
+        """The names as `scan` prints them."""
+        return _name_of(self.where)
+
+    @property
+    def is_of_arrays(self) -> bool:
+        """Whether these are pickles that joblib has within arrays of another one."""
+        return self.where[-1:] == (OF_ARRAYS,)
+
+
+@dataclass(frozen=True)
+class Finding:
+    """What is at an address. `kinds` are the containers that it is, `content` its bytes where they are held, `missed` has a line for each thing that
+    was not looked at, and `error` says why the file cannot be read."""
+
+    found: Tuple[Found, ...]
+    kinds: Tuple[str, ...]
+    content: Optional[bytes]
+    missed: Tuple[str, ...]
+    error: Optional[str]
+
+
+def find(path: str, address: str = '', everywhere: bool = False, limits: Optional[Limits] = None) -> Finding:
+    """The pickles at an address in a file and below it; without one, all of them."""
+    options = Options(everywhere=everywhere) if limits is None else Options(limits, everywhere=everywhere)
+    finder = _Finder(options, path, address)
+    result = look_by(finder, path)
+    missed = [f'{place_of(path, note.where)}: {note.text}' for note in result.notes if note.is_marked and finder.wants(note.where)]
+    return Finding(tuple(finder.found()), tuple(finder.held_kinds), finder.content, tuple(missed), result.error)
+
+
+def content_at(path: str, where: Place, most: int, limits: Optional[Limits] = None) -> Optional[bytes]:
+    """The first bytes, so many at most, of the pickle at a place in a file. None where it has none. Raises OSError."""
+    if not where:
+        with open(path, 'rb') as file:
+            return file.read(most)
+    held = (each.content for each in find(path, _name_of(where), limits=limits).found if each.where == where)
+    content = next((each for each in held if each is not None), None)
+    return None if content is None else content[:most]
+
+
+def _name_of(where: Place) -> str:
+    return BETWEEN.join(map(shown, where))
+
+
+class _Finder(Looker):
+    """A looker that keeps the pickles at an address and below it."""
+
+    def __init__(self, options: Options, path: str, address: str) -> None:
+        super().__init__(options)
+        self.held_kinds: List[str] = ['dbm.dumb'] if not address and has_index(path) else []
+        self.content: Optional[bytes] = None
+        self.wants_value = self._wants_value if address else None
+        self._address = address
+        self._below = address + BETWEEN if address else ''
+        # Each with what is known of the pickle, if it is not a plain one: what was only guessed may be taken back.
+        self._found: List[Tuple[Optional[Pickle], Found]] = []
+        # How many pickles are below the address, and those whose bytes are held: of one that is alone, and of two of one name.
+        self._count = 0
+        self._held: List[Found] = []
+
+    def found(self) -> Iterator[Found]:
+        """The pickles, in order."""
+        known = set(map(id, self.pickles))
+        return (found for pickle, found in self._found if pickle is None or id(pickle) in known)
+
+    # --- What is left out ---
+
+    def wants(self, where: Place) -> bool:
+        """Whether a place is on the way to the address, or at it or below it."""
+        name = _name_of(where)
+        return not name or name == self._address or name.startswith(self._below) or self._address.startswith(name + BETWEEN)
+
+    def _wants_value(self, content: bytes, where: Place) -> bool:
+        if self._is_at(where):
+            self._hold(BytesBlob(content))
+        return self.wants(where)
+
+    def look_at(self, blob: Blob, where: Place, names: Tuple[str, ...], depth: int, is_gap: bool = False) -> None:
+        if self.wants(where):
+            before = len(self._found)
+            super().look_at(blob, where, names, depth, is_gap)
+            if where and self._is_at(where) and len(self._found) == before and not self.held_kinds:
+                self._hold(blob)
+
+    def look_at_numbers(self, blob: Blob, where: Place, names: Tuple[str, ...], depth: int) -> None:
+        if self.wants(where):
+            super().look_at_numbers(blob, where, names, depth)
+            if self._is_at(where):
+                self._hold(blob)
+
+    def look_at_unpacked(self, unpacking: Unpacking, where: Place, names: Tuple[str, ...], depth: int, holder: Unpacked) -> None:
+        if self._is_at(where):
+            self.at = where
+            self._look_at_held(self._counted(unpacking, holder), where, names, depth, holder)
+        elif self.wants(where):
+            super().look_at_unpacked(unpacking, where, names, depth, holder)
+
+    # --- What is kept ---
+
+    def _open(self, held: Held) -> bool:
+        is_one = super()._open(held)
+        if is_one and self._is_at(held.where) and str(held.kind) not in self.held_kinds:
+            self.held_kinds.append(str(held.kind))
+        return is_one
+
+    def take(self, pickle: Pickle, blob: Blob, raw: Sequence[Tuple[int, int]] = ()) -> None:
+        super().take(pickle, blob, raw)
+        self._keep(pickle, Found(pickle.where, blob.size, _joined(raw)), blob)
+
+    def take_plain(self, content: bytes, where: Place) -> None:
+        super().take_plain(content, where)
+        self._keep(None, Found(where, len(content)), BytesBlob(content))
+
+    def _look_at_held(self, pieces: Iterator[bytes], where: Place, names: Tuple[str, ...], depth: int, holder: Unpacked) -> None:
+        before = len(self._found)
+        super()._look_at_held(pieces, where, names, depth, holder)
+        if holder.is_cut:
+            self._found[before:] = [(pickle, replace(found, is_cut=True)) for pickle, found in self._found[before:]]
+
+    def _is_at(self, where: Place) -> bool:
+        return _name_of(where) == self._address
+
+    def _hold(self, blob: Blob) -> None:
+        if blob.size <= LIMIT:
+            self.content = b''.join(blob.chunks())
+
+    def _keep(self, pickle: Optional[Pickle], found: Found, blob: Blob) -> None:
+        """Keeps a pickle that is at the address or below it, once: several readers may come to the same bytes."""
+        is_at = self._is_at(found.where)
+        if len(self._found) >= _MOST or not (is_at or found.name.startswith(self._below)):
+            return
+        known = [other for other in self._held if other.where == found.where]
+        is_alone = not self._count and not found.is_of_arrays
+        if found.where and blob.size <= LIMIT and (is_at or is_alone or known):
+            whole = replace(found, content=b''.join(blob.chunks()))
+            if whole in known:
+                return
+            if len(known) < _MOST_HELD:
+                self._held.append(whole)
+                found = whole
+        self._count += int(not is_at and not found.is_of_arrays)
+        self._found.append((pickle, found))
+
+
+# --- Arrays between opcodes ---
+
+@dataclass(frozen=True)
+class Arrays:
+    """The ranges of a file that are no opcodes, as its writer has them, each as an offset and a length; and how many arrays of objects are among
+    them, which are pickles of their own."""
+
+    raw: Tuple[Tuple[int, int], ...]
+    of_objects: int
+
+
+def arrays_in(blob: Blob) -> Optional[Arrays]:
+    """The arrays of a file of joblib, and the numbers of one that torch wrote before 1.6. None where it is not in the form that these write."""
+    budget = Budget(Limits())
+    budget.size = blob.size
+    try:
+        with budget.half():
+            layout = layout_of(blob, budget)
+    except (NotCanonical, LimitMet):
+        return None
+    return Arrays(_joined(layout.raw), len(layout.inner))
+
+
+def _joined(raw: Sequence[Tuple[int, int]]) -> Tuple[Tuple[int, int], ...]:
+    """Ranges from one offset to another as an offset and a length, those as one that follow at once (as an array does its padding).
+
+    >>> _joined([(9, 11), (11, 20), (30, 31)])
+    ((9, 11), (30, 1))
+    """
+    joined: List[Tuple[int, int]] = []
+    for start, end in raw:
+        if joined and sum(joined[-1]) == start:
+            joined[-1] = joined[-1][0], end - joined[-1][0]
+        else:
+            joined.append((start, end - start))
+    return tuple(joined)
