@@ -8,29 +8,26 @@ import json
 import os
 import re
 import sys
-from contextlib import ExitStack, closing, suppress
+from contextlib import closing, suppress
 from itertools import chain
 from typing import Dict, Generator, Iterable, List, Optional, TextIO, Union
 
 from ..errors import PicklestepError
-from ..program import MOST_SECONDS, find_program
-from ..saving import check_writable, naming, open_text
+from ..program import find_program
 from ..wording import shown
-from .allow import SETS, read_names
-from .blobs import Limits
+from .allow import SETS
 from .cluster import NoCluster, look_on_cluster
 from .files import NoNames, find_files
-from .looking import Options, is_unchanged, is_url, look
-from .looks import Judge
+from .looking import is_unchanged, is_url, look
 from .pool import look_at_all
+from .outputs import Output, leave
 from .progress import with_progress
-from .report import Report
 from .results import Result, from_json
-from .sarif import Sarif
+from .settings import Settings
+from .severity import FAILING
 from .stores.address import Address, is_server
 from .stores.follow import follow
 from .stores.server import NoServer, Task, Wanted, tasks, total_of
-from .written import Used, check_list, write_list
 
 __all__ = ['main']
 
@@ -66,14 +63,21 @@ def _parser(fewest: str = '+') -> argparse.ArgumentParser:
     parser = argparse.ArgumentParser(
         prog='picklestep scan', description='Prints what the pickles in files import and call, with ! before what to look at first. Nothing of them is run '
                                            'or loaded.',
-        epilog='Status: 0 if nothing is marked; 1 if something is marked with !; 2 if it could not begin, or not write; 130 after Ctrl-C; 141 if '
-               'whoever read the output has left. Good files have marks too, and a file without a mark may still do harm.')
+        epilog='Status: 0 if nothing is marked; 1 if something is found; 3 if nothing is found, and something could not be looked at; 2 if it '
+               'could not begin, or not write; 130 after Ctrl-C; 141 if whoever read the output has left. Good files have marks too, and a file '
+               'without a mark may still do harm.')
     parser.add_argument('paths', metavar='PATH', nargs=fewest,
                         help='a file, a folder, a server (redis://, memcached://, postgresql://, mysql://), a URL for fsspec, or - for names on '
                              'standard input')
     _add_lists(parser)
+    _add_policy(parser)
     parser.add_argument('--json', action='store_true', help='print a line of JSON for each file, and the summary on standard error')
+    parser.add_argument('--report', metavar='FILE', help='also write a report for people to FILE, whose name ends in .html or .md')
     parser.add_argument('--sarif', metavar='FILE', help='also write what is marked to FILE, as SARIF 2.1.0')
+    parser.add_argument('--junit', metavar='FILE', help='also write a test for each file to FILE, as JUnit does')
+    parser.add_argument('--code-quality', metavar='FILE', help="also write what is marked to FILE, as GitLab's code quality has it")
+    parser.add_argument('--fail-on', metavar='SEVERITY', choices=FAILING,
+                        help=f'end with status 1 only for findings of this severity or a worse one: {", ".join(FAILING)}')
     parser.add_argument('--brief', action='store_true', help='print only what is marked, and the summary')
     parser.add_argument('--lines', action='store_true', help="print all lines of the program about each pickle")
     parser.add_argument('--full', action='store_true', help='print whole arguments: texts are not cut, nor tuples')
@@ -86,16 +90,17 @@ def _parser(fewest: str = '+') -> argparse.ArgumentParser:
     parser.add_argument('--sample', metavar='N', type=_positive, help='look only at the first N keys that a server lists')
     parser.add_argument('--follow', action='store_true', help='look at new values of a Redis server as they come, and print a line of JSON for each')
     parser.add_argument('--null', action='store_true', help='each name on standard input ends in a NUL byte')
-    limits = Limits()
-    parser.add_argument('--max-bytes', metavar='N', type=_bytes, default=limits.unpacked, help='unpack at most N bytes of a file (1G)')
-    parser.add_argument('--max-members', metavar='N', type=_positive, default=limits.members, help='look at N members of a file at most (100000)')
-    parser.add_argument('--max-depth', metavar='N', type=_positive, default=limits.depth, help='open containers in one another to this depth (4)')
-    parser.add_argument('--max-seconds', metavar='N', type=_positive, default=limits.seconds,
-                        help='take at most N seconds of processor time for a file (60)')
-    parser.add_argument('--max-memory', metavar='N', type=_bytes, default=limits.memory, help='let all processes take at most N bytes of memory for a file (1G)')
-    parser.add_argument('--max-lines', metavar='N', type=_positive, default=limits.lines,
-                        help='read at most N lines of the answers about a file (10000000)')
+    _add_limits(parser)
     return parser
+
+
+def _add_limits(parser: argparse.ArgumentParser) -> None:
+    parser.add_argument('--max-bytes', metavar='N', type=_bytes, help='unpack at most N bytes of a file (1G)')
+    parser.add_argument('--max-members', metavar='N', type=_positive, help='look at N members of a file at most (100000)')
+    parser.add_argument('--max-depth', metavar='N', type=_positive, help='open containers in one another to this depth (4)')
+    parser.add_argument('--max-seconds', metavar='N', type=_positive, help='take at most N seconds of processor time for a file (60)')
+    parser.add_argument('--max-memory', metavar='N', type=_bytes, help='let all processes take at most N bytes of memory for a file (1G)')
+    parser.add_argument('--max-lines', metavar='N', type=_positive, help='read at most N lines of the answers about a file (10000000)')
 
 
 def _add_lists(parser: argparse.ArgumentParser) -> None:
@@ -106,6 +111,14 @@ def _add_lists(parser: argparse.ArgumentParser) -> None:
     parser.add_argument('--no-known', action='store_true', help='do not mark names for being known to run what they are given')
     parser.add_argument('--write-allow', metavar='FILE',
                         help='write a list for --allow with the names that these files import. If FILE is there, add to it the names that it lacks')
+
+
+def _add_policy(parser: argparse.ArgumentParser) -> None:
+    parser.add_argument('--policy', metavar='FILE', help='follow the policy FILE. Without it a picklestep.toml that is found in the folder of the files, '
+                                                         'or in one above it, adds marks and takes none away')
+    parser.add_argument('--no-policy', action='store_true', help='follow no policy')
+    parser.add_argument('--baseline', metavar='FILE', help='do not mark what the baseline FILE has')
+    parser.add_argument('--write-baseline', metavar='FILE', help='write what is marked today to FILE, for --baseline')
 
 
 def _parsed(words: List[str]) -> argparse.Namespace:
@@ -159,91 +172,13 @@ def _is_same(path: str, earlier: Result) -> bool:
         return False
 
 
-def _options(words: argparse.Namespace) -> Options:
-    limits = Limits(words.max_bytes, words.max_members, words.max_depth, min(words.max_seconds, MOST_SECONDS), words.max_memory, words.max_lines,
-                    read_names(words.allow).with_shapes() if words.allow else ())
-    return Options(limits, words.lines, words.everywhere, words.full, words.json)
-
-
-def _results(words: argparse.Namespace, paths: Iterable[Union[str, Task]]) -> Generator[Result, None, None]:
-    options = _options(words)
-    if words.cluster is not None:
-        return look_on_cluster(paths, options, words.cluster)
-    return look_at_all(paths, options, words.jobs)
-
-
-def _judge(words: argparse.Namespace) -> Judge:
-    return Judge(read_names(words.allow) if words.allow else None, read_names(words.deny, with_needed=False), not words.no_known)
-
-
-class _Output:
-    """All that a run writes: the report, and files of other forms that are written at its end."""
-
-    def __init__(self, words: argparse.Namespace) -> None:
-        """Raises PicklestepError where a file that is wanted cannot be written, or is no list to add names to: at the end the work would be
-        lost."""
-        for path in (words.sarif, words.write_allow):
-            if path is not None:
-                with naming(path):
-                    check_writable(path)
-        if words.write_allow is not None:
-            with naming(words.write_allow):
-                check_list(words.write_allow)
-        self.report = Report(sys.stdout, _judge(words), words.json, words.brief)
-        self.summary = sys.stderr if words.json else sys.stdout
-        self._words = words
-        self._sarif = Sarif()
-        self._used = Used()
-        # Whether the reader of standard output has left.
-        self.is_left = False
-
-    def add(self, result: Result, is_new: bool = True) -> None:
-        """Writes a result. Where other files are wanted the run goes on though the reader of this output has left."""
-        looks = self.report.count(result)
-        if is_new and not self.is_left:
-            try:
-                self.report.write(result, looks)
-            except BrokenPipeError:
-                if self._words.sarif is None and self._words.write_allow is None:
-                    raise
-                self.is_left = True
-                _leave()
-        if self._words.sarif is not None:
-            self._sarif.add(result.path, looks)
-        if self._words.write_allow is not None:
-            self._used.add(result)
-
-    def end(self, is_whole: bool) -> None:
-        """Writes the summary, and the other files where the run came to its end: each of them, also where another cannot be written.
-
-        Raises BrokenPipeError where the reader of standard output has left, and PicklestepError where a file cannot be written.
-        """
-        with ExitStack() as files:
-            if is_whole and self._words.sarif is not None:
-                files.callback(lambda: _write(self._words.sarif, json.dumps(self._sarif.object(), indent=1) + '\n'))
-            if is_whole and self._words.write_allow is not None:
-                files.callback(lambda: _write_list(self._words.write_allow, self._used))
-            if self.is_left:
-                raise BrokenPipeError
-            for line in self.report.summary():
-                print(line, file=self.summary)
-            self.summary.flush()
-            sys.stdout.flush()  # (one of the files may be standard output)
-
-
-def _leave() -> None:
-    """The reader of standard output has left. What is still held cannot be written, at the end of Python neither."""
-    os.dup2(os.open(os.devnull, os.O_WRONLY), sys.stdout.fileno())
-
-
-def _write(path: str, text: str) -> None:
-    with naming(path), open_text(path) as file:
-        file.write(text)
-
-
-def _write_list(path: str, used: Used) -> None:
-    with naming(path):
-        write_list(path, used)
+def _results(words: argparse.Namespace, settings: Settings, paths: List[str], keys: Iterable[Task]) -> Generator[Result, None, None]:
+    """The results of files and keys, of those that are looked at in one way after another. Keys come with the first of them."""
+    for number, (options, group) in enumerate(settings.groups(paths) or [(settings.options, [])]):
+        tasks_of: Iterable[Union[str, Task]] = chain(group, keys if number == 0 else ())
+        made = look_at_all(tasks_of, options, words.jobs) if words.cluster is None else look_on_cluster(tasks_of, options, words.cluster)
+        with closing(made) as results:
+            yield from results
 
 
 def _in_a_row(first: Iterable[Result], results: Generator[Result, None, None], others: List[Result]) -> Generator[Result, None, None]:
@@ -252,6 +187,11 @@ def _in_a_row(first: Iterable[Result], results: Generator[Result, None, None], o
         yield from first
         yield from results
     yield from others
+
+
+def _output(words: argparse.Namespace, settings: Settings) -> Output:
+    words.fail_on = settings.fail_on
+    return Output(words, settings.judges, settings.options, settings.about())
 
 
 def _follow(words: argparse.Namespace) -> int:
@@ -263,9 +203,10 @@ def _follow(words: argparse.Namespace) -> int:
         if getattr(words, name) != parser.get_default(name):
             raise NoServer(f'--follow takes no --{name}')
     words.json = True
-    output = _Output(words)
+    settings = Settings(words)
+    output = _output(words, settings)
     with suppress(KeyboardInterrupt):
-        for result in follow(Address(words.paths[0]), _options(words), Wanted(words.match)):
+        for result in follow(Address(words.paths[0]), settings.options, Wanted(words.match)):
             output.add(result)
             if output.is_left:
                 break
@@ -285,7 +226,8 @@ def _refuse_useless(words: argparse.Namespace) -> None:
 
 def _scan(words: argparse.Namespace) -> int:
     _refuse_useless(words)
-    output = _Output(words)
+    settings = Settings(words)
+    output = _output(words, settings)
     earlier = _earlier(words.resume)
     if words.resume is not None and words.json:
         _end_cut_line(words.resume, sys.stdout)
@@ -305,8 +247,8 @@ def _scan(words: argparse.Namespace) -> int:
         # (Where a server does not answer, the result that says so comes when the others have come.)
         failed: List[Result] = []
         keys = chain.from_iterable(tasks(server, wanted, failed.append) for server in servers)
-        opened = (look(path, _options(words)) for path in found.opened)
-        results = _in_a_row(opened, _results(words, chain(paths, keys)), failed)
+        opened = (look(path, settings.options) for path in found.opened)
+        results = _in_a_row(opened, _results(words, settings, paths, keys), failed)
         files = len(paths) + len(found.opened)
         total = files + sum(total_of(server, wanted) for server in servers)
         what = 'files' if not servers else 'files and keys' if files else 'keys'
@@ -318,7 +260,7 @@ def _scan(words: argparse.Namespace) -> int:
     if interrupted:
         print(f'interrupted: this is what was found in {output.report.counts["files"]} files', file=output.summary)
     output.end(is_whole=not interrupted)
-    return 130 if interrupted else int(output.report.has_marks)
+    return 130 if interrupted else output.report.status
 
 
 def main(words: Optional[List[str]] = None) -> int:
@@ -331,7 +273,7 @@ def main(words: Optional[List[str]] = None) -> int:
         find_program()
         return _follow(parsed) if parsed.follow else _scan(parsed)
     except BrokenPipeError:
-        _leave()
+        leave()
         return _OF_NO_READER
     except OSError as error:
         why = error.strerror or str(error)

@@ -1,7 +1,7 @@
 """Looks at one file: opens containers, finds the pickles in them, and asks the program about each.
 
 A container that is in the one form that its usual writers write (`canonical`) is read by that. Whatever is in another form gets a note that
-counts as missed, and is then looked at by the lenient readers, as all kinds that some reader may take it for. The kinds are in `containers`,
+says so, and is then looked at by the lenient readers, as all kinds that some reader may take it for. The kinds are in `containers`,
 what opens them in `opening` and `stores`.
 """
 
@@ -20,13 +20,13 @@ from functools import reduce
 from importlib import import_module
 from io import FileIO
 from operator import or_
-from typing import BinaryIO, Callable, Iterator, List, Optional, Tuple, Union, cast
+from typing import Any, BinaryIO, Callable, Iterator, List, Optional, Sequence, Tuple, Union, cast
 
 from ..sources import LIMIT, is_opened
 from . import stores, zips
 from .begins import HEAD, is_pickle_name, is_storage_name
 from .blobs import CHUNK, Blob, Budget, BytesBlob, FileBlob, JoinedBlob, LimitMet, Limits, OpenedBlob, PartMet, spooled
-from .canonical import Form, NotCanonical, torch
+from .canonical import Form, NotCanonical, NotKnown, torch
 from .canonical.forms import WRITERS
 from .canonical.kinds import asked_form, begun_form, kinds_of
 from .canonical.layouts import Layout, another_import, layout_of
@@ -39,7 +39,7 @@ from .results import Note, Pickle, Place, Result
 from .unread import kind_by_end
 from .zarr import has_pickles
 
-__all__ = ['Looker', 'Options', 'Reads', 'Unpacked', 'is_unchanged', 'look', 'look_at_bytes']
+__all__ = ['OF_ARRAYS', 'Looker', 'Options', 'Reads', 'Unpacked', 'is_unchanged', 'look', 'look_at_bytes', 'look_by']
 
 _URL = re.compile(r'[A-Za-z][A-Za-z0-9+.-]*(::|://)')
 # The program ends at a frame in a frame, and at an opcode that crosses the end of one. Raw numbers do not get there, and CPython goes on.
@@ -50,6 +50,8 @@ _GLANCE = HEAD + zips.TAIL
 _AT_END = tuple(each for each in CONTAINERS if each.opener_at_end)
 # Of a pickle that is too large for the program, this much is looked at.
 _FIRST_BYTES = 64 << 20
+# Where pickles are that joblib has within arrays.
+OF_ARRAYS = '(arrays of objects)'
 # What reads the pickles of some bytes strictly.
 Reads = Callable[[Blob, Budget], Layout]
 
@@ -79,10 +81,30 @@ class Looker:
         self.plain = 0
         self.at: Place = ()
         self.name = ''
+        # What readers take the file itself for.
+        self.kinds_of_file: Tuple[str, ...] = ()
+        # Whether a value is looked at, where not all of them are.
+        self.wants_value: Optional[Callable[[bytes, Place], bool]] = None
+
+    def wants(self, where: Place) -> bool:
+        """Whether a member or a value is looked at. (Who looks for one alone leaves others out.)"""
+        return True
+
+    def take(self, pickle: Pickle, blob: Blob, raw: Sequence[Tuple[int, int]] = ()) -> None:
+        """Keeps what is known of a pickle: that of these bytes, but for the raw ones, each from one offset to another."""
+        self.pickles.append(pickle)
+
+    def take_plain(self, content: bytes, where: Place) -> None:
+        """Counts a value that is a pickle which imports and calls nothing."""
+        self.plain += 1
 
     def note(self, where: Place, text: str, missed: bool = False) -> None:
         """Keeps something to know about a place."""
         self.notes.append(Note(where, text, missed))
+
+    def note_odd(self, where: Place, text: str) -> None:
+        """Keeps that a form is not the one that its usual writers write. It is looked at as whatever some reader may take it for."""
+        self.notes.append(Note(where, text, odd=True))
 
     def _count_other(self, where: Place, form: str = '') -> None:
         """Counts what is no pickle, with its ending or the form given. (A value of a store, which has a budget of its own, has neither.)"""
@@ -92,7 +114,7 @@ class Looker:
 
     def note_form(self, where: Place, writers: str, reason: NotCanonical) -> None:
         """Says that something is not in the form that its usual writers write."""
-        self.note(where, f'not in the form that {writers}: {reason}', missed=True)
+        self.note_odd(where, f'not in the form that {writers}: {reason}')
 
     # --- Bytes at hand ---
 
@@ -105,6 +127,8 @@ class Looker:
             self.note(where, 'an array of zarr whose items are pickles (numcodecs.Pickle): zarr loads them, and its chunks may be packed by what is not '
                              'opened here', missed=True)
         kinds = [] if is_gap else self._kinds(blob, head, where, names)
+        if not where and not is_gap:
+            self.kinds_of_file = tuple(map(str, kinds))
         spans: List[Tuple[int, int]] = []
         opened = False
         for kind in kinds:
@@ -126,15 +150,15 @@ class Looker:
         if asked is not None and not kinds and asked.is_empty is not None and asked.is_empty(blob):
             kinds = [asked]
         if asked is not None and asked not in kinds:
-            self.note(where, f'its name says {asked}, and it is not in the form that {asked.writers}', missed=True)
+            self.note_odd(where, f'its name says {asked}, and it is not in the form that {asked.writers}')
         begun = begun_form(head) if not kinds else None
         if begun is not None and begun is not asked:
-            self.note(where, f'it begins like {begun}, and is not in the form that {begun.writers}', missed=True)
+            self.note_odd(where, f'it begins like {begun}, and is not in the form that {begun.writers}')
         if any(kind.is_odd_as(name) for kind in kinds):
-            self.note(where, f'its name is that of a pickle, and it is {" or ".join(map(str, kinds))}', missed=True)
+            self.note_odd(where, f'its name is that of a pickle, and it is {" or ".join(map(str, kinds))}')
         if len(kinds) > 1:
             named = ' or '.join(map(str, kinds))
-            self.note(where, f'not in one form: readers take it for {named}: it is looked at as each of them', missed=True)
+            self.note_odd(where, f'not in one form: readers take it for {named}: it is looked at as each of them')
         return kinds
 
     def _may_be_pickle_too(self, kinds: List[Container], blob: Blob, names: Tuple[str, ...]) -> bool:
@@ -167,7 +191,7 @@ class Looker:
             self._count_other(where, 'numbers')
             return
         found = f'begin as {" or ".join(map(str, kinds))}' if reach is None else f'lead a loader of pickles to {reach.what} at {reach.offset}'
-        self.note(where, f'raw numbers that {found}: they are looked at as that', missed=True)
+        self.note_odd(where, f'raw numbers that {found}: they are looked at as that')
         self.look_at(blob, where, names, depth)
 
     # --- Pickles ---
@@ -177,37 +201,38 @@ class Looker:
         """Asks the program, and keeps its answer where the bytes are a pickle. False where they are none. `calls` is its answer, if it was
         asked. What the pickle holds may be looked at where it is said in how many others it is."""
         self.at = where
-        layout, layout_note = self._layout(blob, reads)
+        layout, layout_note = self._layout(blob, reads, where)
         opcodes = JoinedBlob(blob, layout.raw) if layout is not None and layout.raw else blob
         pickle = self._asked(opcodes, blob, where, is_sure or _begins_as_pickle(head, names), calls)
         if pickle is None:
             return False
-        self.pickles.append(pickle if pickle.size == blob.size else replace(pickle, size=blob.size))
+        self.take(pickle if pickle.size == blob.size else replace(pickle, size=blob.size), blob, () if layout is None else layout.raw)
         why = why_unread(head, pickle)
         if why is not None:
             self.note(where, why)
         if layout_note is not None:
-            self.note(where, layout_note, missed=True)
+            self.notes.append(layout_note)
         if layout is not None and layout.inner:
             self._look_at_inner(blob, layout, where)
         if depth is not None:
             stores.look_inside(self, opcodes, where, depth)
         return True
 
-    def _layout(self, blob: Blob, reads: Reads) -> Tuple[Optional[Layout], Optional[str]]:
-        """Which bytes are opcodes, or why that is not known."""
+    def _layout(self, blob: Blob, reads: Reads, where: Place) -> Tuple[Optional[Layout], Optional[Note]]:
+        """Which bytes are opcodes, or why that is not known. A note says what is odd."""
         try:
             with self.budget.half():
                 layout = reads(blob, self.budget)
         except NotCanonical as reason:
             kind = 'torch-legacy' if torch.MAGIC in blob.read(0, 32) else 'pickle'
-            return None, f'not in the form that {WRITERS[kind]}: {reason}'
+            is_known = not isinstance(reason, NotKnown)
+            return None, Note(where, f'not in the form that {WRITERS[kind]}: {reason}', missed=not is_known, odd=is_known)
         except PartMet as limit:
-            return None, f'{limit}: its form is not known'
+            return None, Note(where, f'{limit}: its form is not known', missed=True)
         other = another_import(layout, blob, self.budget)
         if other is None:
             return layout, None
-        return layout, f'another loader, which keeps its memo from pickle to pickle or knows no raw arrays, imports {other}'
+        return layout, Note(where, f'another loader, which keeps its memo from pickle to pickle or knows no raw arrays, imports {other}', odd=True)
 
     def _asked(self, opcodes: Blob, blob: Blob, where: Place, is_pickle: bool, calls: Optional[bytes] = None) -> Optional[Pickle]:
         """What the program says of opcodes, with offsets in `blob`. None where they are no pickle."""
@@ -240,9 +265,9 @@ class Looker:
             cut.append((at, start))
             at = end
         opcodes = JoinedBlob(blob, [*cut, (at, blob.size)])
-        pickle = self._asked(opcodes, opcodes, where + ('(arrays of objects)',), True)
+        pickle = self._asked(opcodes, opcodes, where + (OF_ARRAYS,), True)
         assert pickle is not None
-        self.pickles.append(pickle)
+        self.take(pickle, opcodes)
 
     # --- Containers ---
 
@@ -477,9 +502,19 @@ def _look_at_url(looker: Looker, path: str) -> Result:
     try:
         fsspec = import_module('fsspec')
     except ImportError:
-        return Result(path, error='a URL is opened where fsspec is installed')
-    with fsspec.open(path, 'rb') as file:
+        return Result(path, error='fsspec is not installed, which opens URLs: pip install fsspec')
+    try:
+        opened = fsspec.open(path, 'rb')
+    except ImportError as error:  # (fsspec names the package that it needs for such URLs)
+        return Result(path, error=f'{error}: pip install {_package_of(fsspec, path)}')
+    with opened as file:
         return _gone_through(looker, OpenedBlob(file), path)
+
+
+def _package_of(fsspec: Any, path: str) -> str:
+    """The package by which fsspec opens a URL."""
+    known = fsspec.registry.known_implementations.get(path.partition(':')[0], {})
+    return str(known.get('class', 'fsspec')).partition('.')[0]
 
 
 def is_url(path: str) -> bool:
@@ -500,13 +535,17 @@ def _gone_through(looker: Looker, blob: Blob, path: str, modified: int = 0, chan
     except OSError as failure:
         error = failure.strerror or str(failure)
     return Result(path, blob.size, modified, tuple(looker.pickles), looker.others, tuple(looker.notes), error, changed=changed,
-                  plain=looker.plain, forms=forms_of(looker.others, looker.forms))
+                  plain=looker.plain, forms=forms_of(looker.others, looker.forms), kinds=looker.kinds_of_file)
 
 
 def look(path: Union[str, 'os.PathLike[str]'], options: Options = Options()) -> Result:
     """All that is found in a file. Whatever is wrong with it becomes part of the result."""
-    looker, name = Looker(options), os.fspath(path)
-    return _whatever_happens(looker, name, lambda: _look_at_url(looker, name) if is_url(name) else _look_at_file(looker, name))
+    return look_by(Looker(options), os.fspath(path))
+
+
+def look_by(looker: Looker, path: str) -> Result:
+    """The same by a looker."""
+    return _whatever_happens(looker, path, lambda: _look_at_url(looker, path) if is_url(path) else _look_at_file(looker, path))
 
 
 def look_at_bytes(name: str, content: bytes, options: Options = Options()) -> Result:

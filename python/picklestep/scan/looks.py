@@ -3,6 +3,7 @@
 from __future__ import annotations
 
 from dataclasses import dataclass
+from functools import lru_cache
 from typing import Dict, Iterable, Iterator, List, Optional, Tuple
 
 from ..records import End
@@ -11,6 +12,7 @@ from .known import known_names
 from .names import Names
 from .reading import is_plain_name, is_worked_out
 from .results import OF_ARGUMENTS, ODD, Call, Import, Pickle, Place, Result
+from .severity import UNREAD, severity_of
 from .through import part_through, why_through
 from .wording import shown, times
 
@@ -26,6 +28,7 @@ RULES = {
     'odd': 'It says of kinds of items or arrays what numpy believes and does not write, so that memory may be overwritten; or loaders call '
            'what it imports.',
     'not-read': 'It was not read to its end (STOP), and a loader may go on.',
+    'unusual-form': 'It is not in the form that its usual writers write, so that two programs may read it in two ways.',
     'not-looked-at': 'Something in it was not looked at.',
     'cannot-be-read': 'The file cannot be read.',
 }
@@ -43,7 +46,8 @@ class Look:
     """Something to look at.
 
     `where` is the place in the file, `rule` one of RULES, `text` says what and why, `name` is what is imported (or ''), `offset` where in the
-    pickle, and `calls` are the first calls of what is imported, with their arguments.
+    pickle, `calls` are the first calls of what is imported, with their arguments, and `severity` is one of the steps of `severity`.
+    A policy may take a mark, which is none then (`is_taken`), and says why in the `remark`.
     """
 
     where: Place
@@ -52,11 +56,14 @@ class Look:
     name: str = ''
     offset: Optional[int] = None
     calls: Tuple[str, ...] = ()
+    severity: str = 'medium'
+    is_taken: bool = False
+    remark: str = ''
 
     @property
     def lines(self) -> Tuple[str, ...]:
-        """The text and the calls, each on a line of its own."""
-        return (self.text, *self.calls)
+        """The text, with what a policy says of it, and the calls, each on a line of its own."""
+        return (f'{self.text} [{self.remark}]' if self.remark else self.text, *self.calls)
 
 
 def end_text(end: End) -> str:
@@ -98,20 +105,28 @@ def calls_of(pickle: Pickle, name: str) -> List[Call]:
     return [done for done in pickle.calls if done.name == name]
 
 
+@lru_cache(maxsize=None)
+def _known_anywhere() -> Names:
+    """The known names that are reached through whatever stands before them."""
+    return Names(text for text, _, _ in known_names().patterns if text.startswith('**.'))
+
+
 class Judge:
     """Which names are marked, and why.
 
     `denied` goes before `allowed`, and that before the names that are known: a team that allows `builtins.getattr` has looked at it. Where
     there is a list of allowed names, all others are marked. What is known to be reached through another module or through the inside of an object
-    is allowed by its name alone, by a pattern that says as much, or by `**`.
+    is allowed by its name alone, by a pattern that says as much, or by `**`. What `least` marks is marked too.
     """
 
-    def __init__(self, allowed: Optional[Names] = None, denied: Optional[Names] = None, with_known: bool = True) -> None:
+    def __init__(self, allowed: Optional[Names] = None, denied: Optional[Names] = None, with_known: bool = True,
+                 least: 'Optional[Judge]' = None) -> None:
         self.allowed = allowed
         self._denied = denied or Names(())
         self._known = known_names() if with_known else Names(())
-        self._through = Names(text for text, _, _ in self._known.patterns if text.startswith('**.'))
+        self._through = _known_anywhere() if with_known else Names(())
         self._with_known = with_known
+        self._least = least
         self._marks: Dict[Tuple[str, str], Optional[Tuple[str, str]]] = {}
 
     def mark(self, name: str, member: str = '') -> Optional[Tuple[str, str]]:
@@ -131,7 +146,7 @@ class Judge:
         if note is not None:
             return 'denied', f'denied{": " + note if note else ""}'
         if self.allowed is not None and any(self._allows(line, name, member) for line in self.allowed.lines_of(name)):
-            return None
+            return None if self._least is None else self._least.mark(name, member)
         known = self._known.note(name)
         if known is None and self._with_known:
             known = why_through(name, member or name.rpartition('.')[2])
@@ -146,6 +161,17 @@ class Judge:
             return 'known', 'no dotted name, so no program imports it, and yet it may lead to any module'
         return None
 
+    def _severity(self, rule: str, name: str, member: str = '') -> str:
+        """The severity of the mark of a name. Also where a list decides, it is that of what is known of the name."""
+        if rule == 'odd' or not self._with_known:
+            return severity_of(rule)
+        does = self._known.note(name)
+        if does is None and rule == 'not-allowed' and is_worked_out(name):
+            return severity_of('worked-out')
+        if does is None and rule == 'not-allowed' and (why_through(name, member or name.rpartition('.')[2]) or not is_plain_name(name)):
+            return severity_of('known')
+        return severity_of(rule, does)
+
     def _allows(self, line: str, name: str, member: str) -> bool:
         """Whether a line that has a name allows it."""
         if line in (name, '**'):
@@ -157,17 +183,20 @@ class Judge:
 
     def allows_done(self, what: str, name: str, fits: Iterable[str] = ()) -> bool:
         """Whether this may be done with what is imported by a name that is not marked, with arguments of these shapes."""
-        return what != ODD and (self.allowed is None or self.mark(name) is not None or self.allowed.allows_done(what, name, fits))
+        if what == ODD or self._least is not None and not self._least.allows_done(what, name, fits):
+            return False
+        return self.allowed is None or self.mark(name) is not None or self.allowed.allows_done(what, name, fits)
 
     def looks(self, result: Result) -> Iterator[Look]:
         """All that is to be looked at in a file."""
         if result.error is not None:
-            yield Look((), 'cannot-be-read', f'cannot be read: {shown(result.error)}')
+            yield Look((), 'cannot-be-read', f'cannot be read: {shown(result.error)}', severity=UNREAD)
         for pickle in result.pickles:
             yield from self.looks_in(pickle)
         for note in result.notes:
-            if note.missed:
-                yield Look(note.where, 'not-looked-at', shown(note.text))
+            if note.is_marked:
+                rule = 'not-looked-at' if note.missed else 'unusual-form'
+                yield Look(note.where, rule, shown(note.text), severity=severity_of(rule))
 
     def looks_in(self, pickle: Pickle) -> Iterator[Look]:
         """All that is to be looked at in one pickle. A marked import brings its calls; the last one those of what has no name, too."""
@@ -176,9 +205,13 @@ class Judge:
             calls = [done for done in calls_of(pickle, found.name) if done.part == found.part or not found.part]
             if found is marked[-1][0]:
                 calls += [done for done in pickle.calls if not done.name and done.what in _OF_OBJECTS]
-            yield Look(pickle.where, rule, import_text(found, why), found.name, found.offset, tuple(map(call_text, calls)))
+            yield Look(pickle.where, rule, import_text(found, why), found.name, found.offset, tuple(map(call_text, calls)),
+                       self._severity(rule, found.name, found.member))
         for done in pickle.calls:
             if not self.allows_done(done.what, done.name, done.fits):
-                yield Look(pickle.where, 'odd' if done.what == ODD else 'not-allowed-done', call_text(done), done.name, done.offset)
+                rule = 'odd' if done.what == ODD else 'not-allowed-done'
+                yield Look(pickle.where, rule, call_text(done), done.name, done.offset, severity=self._severity(rule, done.name))
         if not pickle.end.is_stopped:
-            yield Look(pickle.where, 'not-read', f'end: {end_text(pickle.end)}', offset=pickle.end.offset)
+            # (of what was not read for want of time, memory or the program nobody knows the form)
+            severity = UNREAD if pickle.end.how == 'unknown' else severity_of('not-read')
+            yield Look(pickle.where, 'not-read', f'end: {end_text(pickle.end)}', offset=pickle.end.offset, severity=severity)

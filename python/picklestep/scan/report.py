@@ -4,25 +4,48 @@ from __future__ import annotations
 
 import json
 from collections import Counter
-from typing import Dict, Iterator, List, Set, TextIO, Tuple
+from typing import Any, Dict, Iterator, List, Optional, Set, TextIO, Tuple, Union
 
+from .judges import Judges, judges_of
 from .looks import OF_CALLS, Judge, Look, call_text, end_text, import_text
 from .other_forms import named_forms
 from .results import Pickle, Result, to_json
+from .severity import FAILING, status_of, worst_of
 from .wording import count_of, place_of, shown, times
 
 __all__ = ['Report']
 
 
-class Report:
-    """Writes each result as it comes, and counts for the summary. `has_marks` is set where something is marked."""
+# The rules of what notes say.
+_OF_NOTES = ('not-looked-at', 'unusual-form')
 
-    def __init__(self, out: TextIO, judge: Judge, as_json: bool = False, brief: bool = False) -> None:
+
+def _mark(look: Optional[Look]) -> str:
+    """What stands before a line."""
+    return ' ' if look is None or look.is_taken else '!'
+
+
+def _line(look: Optional[Look], text: str) -> str:
+    """A line about a pickle, which may be a mark."""
+    return f'{_mark(look)}     {text if look is None else look.lines[0]}'
+
+
+def _look_object(look: Look) -> Dict[str, Any]:
+    """The object of a mark. What a policy says of it is there alone where it says something."""
+    return {name: value for name, value in vars(look).items() if name != 'is_taken' and (value or name != 'remark')}
+
+
+class Report:
+    """Writes each result as it comes, and counts for the summary. `fail_on` is the severity from which on a mark is a failure."""
+
+    def __init__(self, out: TextIO, judge: Union[Judge, Judges], as_json: bool = False, brief: bool = False, fail_on: str = FAILING[-1]) -> None:
         self.out = out
-        self.judge = judge
+        self.judges = judges_of(judge)
         self.as_json = as_json
         self.brief = brief
-        self.has_marks = False
+        self.fail_on = fail_on
+        # How many marks there are of each severity.
+        self.severities: Counter[str] = Counter()
         self.counts: Counter[str] = Counter()
         self.forms: Counter[str] = Counter()
         self.imports: Counter[str] = Counter()
@@ -33,19 +56,25 @@ class Report:
         self.servers: Dict[str, bool] = {}
         self.errors: Counter[Tuple[str, str]] = Counter()
 
+    @property
+    def status(self) -> int:
+        """The status of the run, as far as it has come."""
+        return status_of(self.severities, self.fail_on)
+
     # --- Results ---
 
     def add(self, result: Result, is_new: bool = True) -> List[Look]:
-        """Counts a result and writes it, and answers what is marked in it. One that an earlier run wrote is counted alone."""
+        """Counts a result and writes it, and answers its marks. One that an earlier run wrote is counted alone."""
         looks = self.count(result)
         if is_new:
             self.write(result, looks)
         return looks
 
     def count(self, result: Result) -> List[Look]:
-        """Counts a result, and answers what is marked in it."""
-        looks = list(self.judge.looks(result))
-        self._count(result, looks)
+        """Counts a result, and answers its marks, also those that a policy takes."""
+        looks = self.judges.looks(result)
+        self.counts['taken'] += sum(look.is_taken for look in looks)
+        self._count(result, [look for look in looks if not look.is_taken])
         return looks
 
     def write(self, result: Result, looks: List[Look]) -> None:
@@ -53,7 +82,7 @@ class Report:
         if self.as_json:
             self.out.write(json.dumps(self._object(result, looks)) + '\n')
         else:
-            for line in self._brief_lines(result, looks) if self.brief else self._lines(result):
+            for line in self._brief_lines(result, looks) if self.brief else self._lines(result, looks):
                 self.out.write(line + '\n')
         self.out.flush()
 
@@ -77,18 +106,18 @@ class Report:
             place = place_of(result.path, pickle.where)
             for found in pickle.imports:
                 self.imports[found.name] += found.count
-                if self.judge.mark(found.name, found.member) is not None:
-                    self.marked.add(found.name)
                 self.pickles_with[found.name] += 1
                 # The first by name: files come in any order.
                 self.first_with[found.name] = min(place, self.first_with.get(found.name, place))
 
     def _count_looks(self, result: Result, looks: List[Look]) -> None:
-        self.has_marks = True
+        self.severities.update(look.severity for look in looks)
+        self.marked.update(look.name for look in looks if look.name and look.rule not in OF_CALLS)
         rules = Counter(look.rule for look in looks)
         if self._is_repeated(result):
             del rules['cannot-be-read']
-        self.counts['not-looked-at'] += rules.pop('not-looked-at', 0) > 0
+        for rule in ('not-looked-at', 'unusual-form'):
+            self.counts[rule] += rules.pop(rule, 0) > 0
         self.counts.update(rules)
 
     def _is_repeated(self, result: Result) -> bool:
@@ -98,46 +127,52 @@ class Report:
     def _object(self, result: Result, looks: List[Look]) -> Dict[str, object]:
         """The object of a line of JSON. With a list of allowed names each import says whether it is allowed."""
         made = to_json(result)
-        if self.judge.allowed is not None:
+        judge = self.judges.of(result.path)
+        if judge.allowed is not None:
             for pickle in made['pickles']:
                 for found in pickle['imports']:
-                    found['allowed'] = self.judge.mark(found['name'], found.get('member', '')) is None
+                    found['allowed'] = judge.mark(found['name'], found.get('member', '')) is None
                 for done in pickle['calls']:
-                    done['allowed'] = self.judge.allows_done(done['what'], done['name'], done.get('fits', ()))
-        return {**made, 'looks': [vars(look) for look in looks], 'status': int(bool(looks))}
+                    done['allowed'] = judge.allows_done(done['what'], done['name'], done.get('fits', ()))
+        severities = [look.severity for look in looks if not look.is_taken]
+        taken = [_look_object(look) for look in looks if look.is_taken]
+        return {**made, 'looks': [_look_object(look) for look in looks if not look.is_taken], **({'taken': taken} if taken else {}),
+                'severity': worst_of(severities), 'status': status_of(severities, self.fail_on)}
 
     def _brief_lines(self, result: Result, looks: List[Look]) -> Iterator[str]:
         for look in looks:
-            if look.rule != 'cannot-be-read' or not self._is_repeated(result):
+            if not look.is_taken and (look.rule != 'cannot-be-read' or not self._is_repeated(result)):
                 yield from (f'! {place_of(result.path, look.where)}: {line}' for line in look.lines)
 
-    def _lines(self, result: Result) -> Iterator[str]:
+    def _lines(self, result: Result, looks: List[Look]) -> Iterator[str]:
         """A line for each thing that was found; `!` is before those that are marked."""
         path = place_of(result.path, ())
+        notes = {(look.where, look.text): look for look in looks if look.rule in _OF_NOTES}
         if result.left is not None:
             yield f'  {path}: skipped: {result.left}'
         if result.error is not None and not self._is_repeated(result):
-            yield f'! {path}: cannot be read: {shown(result.error)}'
+            yield from (f'{_mark(look)} {path}: {look.lines[0]}' for look in looks if look.rule == 'cannot-be-read')
         for pickle in result.pickles:
             yield from self._pickle_lines(result, pickle)
         for note in result.notes:
-            yield f'{"!" if note.missed else " "} {place_of(result.path, note.where)}: {shown(note.text)}'
+            look = notes.get((note.where, shown(note.text))) if note.is_marked else None
+            yield f'{_mark(look)} {place_of(result.path, note.where)}: {shown(note.text) if look is None else look.lines[0]}'
 
     def _pickle_lines(self, result: Result, pickle: Pickle) -> Iterator[str]:
         """The imports of a pickle, those that are marked with their calls next to them; then all other calls."""
         yield f'  {place_of(result.path, pickle.where)}: {pickle.size} bytes'
-        all_looks = list(self.judge.looks_in(pickle))
+        all_looks = list(self.judges.settled(result, self.judges.of(result.path).looks_in(pickle)))
         looks = {(look.name, look.offset): look for look in all_looks if look.name and look.rule not in OF_CALLS}
         beside = {call for look in looks.values() for call in look.calls}
-        done = {look.text for look in all_looks if look.rule in OF_CALLS}
+        others = {look.text: look for look in all_looks if look.rule in OF_CALLS or look.rule == 'not-read'}
         for found in pickle.imports:
-            if (found.name, found.offset) in looks:
-                yield from (f'!     {line}' for line in looks[found.name, found.offset].lines)
-            else:
-                yield f'      {import_text(found, None)}'
-        yield from (f'{"!" if text in done else " "}     {text}' for text in map(call_text, pickle.calls) if text not in beside)
+            look = looks.get((found.name, found.offset))
+            yield from (f'{_mark(look)}     {line}' for line in ((import_text(found, None),) if look is None else look.lines))
+        for text in (text for text in map(call_text, pickle.calls) if text not in beside):
+            yield _line(others.get(text), text)
         yield from (f'      {shown(line)}' for line in pickle.lines)
-        yield f'{" " if pickle.end.is_stopped else "!"}     end: {end_text(pickle.end)}'
+        end = f'end: {end_text(pickle.end)}'
+        yield _line(others.get(end), end)
 
     # --- The summary ---
 
@@ -152,16 +187,18 @@ class Report:
             forms = named_forms(self.forms.items())
             parts.append(f'{count_of(counts["others"], "file or member", "files or members")} of other forms{": " if forms else ""}{forms}')
         for key, *words in (('not-read', 'pickle not read to a STOP', 'pickles not read to a STOP'),
+                            ('unusual-form', 'file in an unusual form', 'files in an unusual form'),
                             ('not-looked-at', 'file not looked at whole', 'files not looked at whole'),
                             ('cannot-be-read', 'file that cannot be read', 'files that cannot be read'), ('skipped', 'skipped', 'skipped'),
                             ('not-allowed', 'import not allowed', 'imports not allowed'), ('denied', 'import denied', 'imports denied'),
                             ('known', 'import to look at', 'imports to look at'),
                             ('not-allowed-done', 'thing done that is not allowed', 'things done that are not allowed'),
                             ('odd', 'thing that no library writes', 'things that no library writes'),
-                            ('worked-out', 'import worked out while loading', 'imports worked out while loading')):
+                            ('worked-out', 'import worked out while loading', 'imports worked out while loading'),
+                            ('taken', 'mark that the policy takes', 'marks that the policy takes')):
             if counts[key]:
                 parts.append(count_of(counts[key], *words))
-        lines = [', '.join(parts)]
+        lines = [', '.join(parts), *self.judges.lines()]
         for name in sorted(self.imports, key=lambda name: (name not in self.marked, self.pickles_with[name], name)):
             mark = '!' if name in self.marked else ' '
             lines.append(f'{mark} {shown(name)}: {times(self.imports[name])}, in {count_of(self.pickles_with[name], "pickle")}, first in '

@@ -64,11 +64,18 @@ class Pickle:
 
 @dataclass(frozen=True)
 class Note:
-    """Something to know about a place in a file. `missed` is set where something there was not looked at."""
+    """Something to know about a place in a file. `missed` is set where something there was not looked at, and `odd` where all of it was, and
+    its form is not the one that its usual writers write."""
 
     where: Place
     text: str
     missed: bool = False
+    odd: bool = False
+
+    @property
+    def is_marked(self) -> bool:
+        """Whether it is to be looked at."""
+        return self.missed or self.odd
 
 
 @dataclass(frozen=True)
@@ -81,6 +88,7 @@ class Result:
     `beside` (of what is beside it and read with it) whether that is. `keys` is how many keys of a server this is about (several results may be
     of one server), and 0 where it is about a file. `plain` counts pickles that are values of a store, import and call nothing, and end with STOP:
     there may be millions, so they are not in `pickles`. `forms` says of what is no pickle how many have which ending.
+    `kinds` are the kinds of containers that readers take the file for.
     """
 
     path: str
@@ -99,6 +107,7 @@ class Result:
     inode: int = 0
     digest: str = ''
     beside: str = ''
+    kinds: Tuple[str, ...] = ()
 
     def _repr_html_(self) -> str:
         """The report about the file, for notebooks."""
@@ -112,7 +121,7 @@ def to_json(result: Result) -> Dict[str, Any]:
             'pickles': [_pickle_object(pickle) for pickle in result.pickles], 'not_pickles': result.others, 'forms': dict(result.forms),
             'notes': [dict(vars(note)) for note in result.notes], 'error': result.error, 'skipped': result.left,
             **({'device': result.device, 'inode': result.inode, 'sha256': result.digest} if result.digest else {}),
-            **{name: value for name, value in (('beside', result.beside), ('keys', result.keys), ('plain', result.plain)) if value}}
+            **{name: value for name, value in (('beside', result.beside), ('keys', result.keys), ('plain', result.plain), ('kinds', result.kinds)) if value}}
 
 
 def _object(each: Union[Import, Call]) -> Dict[str, Any]:
@@ -132,9 +141,9 @@ def from_json(made: Dict[str, Any]) -> Result:
     """The result that such an object stands for."""
     return Result(
         made['path'], made['size'], made['modified'], tuple(_pickle(pickle) for pickle in made['pickles']), made['not_pickles'],
-        tuple(Note(tuple(note['where']), note['text'], note['missed']) for note in made['notes']), made['error'], made['skipped'],
+        tuple(Note(tuple(note['where']), note['text'], note['missed'], note.get('odd', False)) for note in made['notes']), made['error'], made['skipped'],
         made['changed'], made.get('keys', 0), made.get('plain', 0), tuple(made['forms'].items()),
-        made.get('device', 0), made.get('inode', 0), made.get('sha256', ''), made.get('beside', ''),
+        made.get('device', 0), made.get('inode', 0), made.get('sha256', ''), made.get('beside', ''), tuple(made.get('kinds', ())),
     )
 
 

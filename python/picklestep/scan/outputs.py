@@ -1,0 +1,147 @@
+"""All that a run writes: what it prints, and files of other forms, which are written at its end."""
+
+from __future__ import annotations
+
+import argparse
+import json
+import os
+import sys
+from contextlib import ExitStack
+from functools import partial
+from typing import Callable, List, Optional, Protocol, Sequence, Tuple
+
+from ..errors import PicklestepError
+from ..saving import check_writable, naming, open_text
+from .looking import Options
+from .judges import Judges
+from .looks import Look
+from .policy.baseline import IN_BASELINE, Marks
+from .report import Report
+from .results import Result
+from .sarif import Sarif
+from .written import Used, check_list, write_list
+
+__all__ = ['WRITES', 'Output', 'leave']
+
+# The options that name a file to write.
+WRITES = ('sarif', 'report', 'junit', 'code_quality', 'write_baseline', 'write_allow')
+_ENDINGS = {'.html': 'page', '.htm': 'page', '.md': 'markdown'}
+
+
+class _Collector(Protocol):
+    """What keeps results for a file."""
+
+    def add(self, result: Result, looks: Sequence[Look]) -> None:
+        """Keeps what is said of a file."""
+
+
+class Output:
+    """All that a run writes: the report, and files of other forms that are written at its end."""
+
+    def __init__(self, words: argparse.Namespace, judges: Judges, options: Options, policy: str = '') -> None:
+        """Raises PicklestepError where a file that is wanted cannot be written, or is no list to add names to: at the end the work would be
+        lost."""
+        for option in WRITES:
+            path = getattr(words, option)
+            if path is not None:
+                with naming(path):
+                    check_writable(path)
+        if words.write_allow is not None:
+            with naming(words.write_allow):
+                check_list(words.write_allow)
+        self.report = Report(sys.stdout, judges, words.json, words.brief, words.fail_on)
+        self.summary = sys.stderr if words.json else sys.stdout
+        # What keeps results, and what writes each file at the end.
+        self._collectors: List[_Collector] = []
+        self._files: List[Callable[[], None]] = []
+        self._marks: Optional[Marks] = None
+        self._open_files(words, options, policy)
+        # Whether the reader of standard output has left.
+        self.is_left = False
+
+    def _open_files(self, words: argparse.Namespace, options: Options, policy: str) -> None:
+        """Begins each file that is wanted."""
+        if words.sarif is not None:
+            sarif = Sarif()
+            self._collectors.append(sarif)
+            self._write_at_end(words.sarif, lambda: json.dumps(sarif.object(), indent=1) + '\n')
+        reports = [(getattr(words, option), maker) for option, maker in _reports(words)]
+        if reports:
+            # (what makes sources is imported where a report is wanted alone)
+            from .reports import About, Findings
+            findings, about = Findings(options), About.now(policy)
+            self._collectors.append(findings)
+            for path, maker in reports:
+                self._write_at_end(path, partial(maker, findings, about))
+        if words.write_baseline is not None:
+            self._marks = Marks()
+            self._write_at_end(words.write_baseline, self._marks.text)
+        if words.write_allow is not None:
+            used = Used()
+            self._collectors.append(used)
+            self._files.append(lambda: _write_list(words.write_allow, used))
+
+    def _write_at_end(self, path: str, text: Callable[[], str]) -> None:
+        self._files.append(lambda: _write(path, text()))
+
+    def add(self, result: Result, is_new: bool = True) -> None:
+        """Writes a result. Where other files are wanted the run goes on though the reader of this output has left."""
+        looks = self.report.count(result)
+        if is_new and not self.is_left:
+            try:
+                self.report.write(result, looks)
+            except BrokenPipeError:
+                if not self._files:
+                    raise
+                self.is_left = True
+                leave()
+        in_force = [look for look in looks if not look.is_taken]
+        for collector in self._collectors:
+            collector.add(result, in_force)
+        if self._marks is not None:  # (a new baseline has what an older one takes)
+            self._marks.add(result, [look for look in looks if not look.is_taken or look.remark == IN_BASELINE])
+
+    def end(self, is_whole: bool) -> None:
+        """Writes the summary, and the other files where the run came to its end: each of them, also where another cannot be written.
+
+        Raises BrokenPipeError where the reader of standard output has left, and PicklestepError where a file cannot be written.
+        """
+        with ExitStack() as files:
+            for write in self._files if is_whole else ():
+                files.callback(write)
+            if self.is_left:
+                raise BrokenPipeError
+            for line in self.report.summary():
+                print(line, file=self.summary)
+            self.summary.flush()
+            sys.stdout.flush()  # (one of the files may be standard output)
+
+
+def _reports(words: argparse.Namespace) -> List[Tuple[str, Callable[..., str]]]:
+    """The options that want a report, each with what makes it. Raises PicklestepError where the ending of a name says no form."""
+    wanted = [option for option in ('report', 'junit', 'code_quality') if getattr(words, option) is not None]
+    if not wanted:
+        return []
+    from .reports.markdown import markdown_report
+    from .reports.page import html_report
+    from .reports.servers import code_quality, junit
+    makers = {'junit': junit, 'code_quality': code_quality, 'page': html_report, 'markdown': markdown_report}
+    form = _ENDINGS.get(os.path.splitext(words.report or '')[1].lower())
+    if 'report' in wanted and form is None:
+        raise PicklestepError('--report wants a name that ends in .html or .md')
+    return [(option, makers[form if option == 'report' and form else option]) for option in wanted]
+
+
+def leave() -> None:
+    """The reader of standard output has left. What is still held cannot be written, at the end of Python neither."""
+    os.dup2(os.open(os.devnull, os.O_WRONLY), sys.stdout.fileno())
+
+
+def _write(path: str, text: str) -> None:
+    with naming(path), open_text(path) as file:
+        file.write(text)
+
+
+def _write_list(path: str, used: Used) -> None:
+    with naming(path):
+        write_list(path, used)

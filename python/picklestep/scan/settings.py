@@ -1,0 +1,84 @@
+"""What the command line and the policy say of a run: who judges, and how each file is looked at."""
+
+from __future__ import annotations
+
+import argparse
+import os
+from dataclasses import replace
+from pathlib import Path
+from typing import Dict, Iterable, List, Mapping, Optional, Tuple
+
+from ..program import MOST_SECONDS
+from .blobs import Limits
+from .judges import Judges
+from .looking import Options
+from .policy.finding import find_policy
+from .policy.judging import Given, PolicyJudges
+from .policy.model import BadPolicy, Policy, Rule, Target, sees_digest
+from .policy.reader import LIMITS, read_policy
+from .severity import FAILING
+
+__all__ = ['Settings', 'chosen_policy']
+
+# What wants the digests of files.
+_SEE_DIGESTS = ('json', 'report', 'baseline', 'write_baseline')
+
+
+def chosen_policy(path: Optional[str], paths: Iterable[str]) -> Optional[Policy]:
+    """The policy that is named, or else the one that is found for some paths. Raises BadPolicy."""
+    if path is not None:
+        return read_policy(Path(path))
+    found = find_policy(paths)
+    try:
+        return None if found is None else read_policy(found, is_found=True)
+    except BadPolicy as error:
+        raise BadPolicy(f'{error} (--no-policy goes without it)') from None
+
+
+class Settings:
+    """The policy of a run, its judges, and the options of each file. Raises BadPolicy, NoList, and OSError where a list cannot be read."""
+
+    def __init__(self, words: argparse.Namespace) -> None:
+        self._words = words
+        self.policy = None if words.no_policy else chosen_policy(words.policy, words.paths)
+        given = Given(tuple(words.allow), tuple(words.deny), not words.no_known, () if words.baseline is None else (words.baseline,),
+                      '' if words.write_baseline is None else os.path.abspath(words.write_baseline))
+        policy = self.policy
+        if policy is None and given.baselines:
+            policy = Policy(Path(), Path.cwd(), Rule('', Target()))
+        self.judges = Judges(given.judge()) if policy is None else PolicyJudges(policy, given)
+        self._named = None if policy is None or policy.is_found else policy
+        self.fail_on: str = words.fail_on or self._named and self._named.fail_on or FAILING[-1]
+        self._shapes = self.judges.shapes()
+        self.options = self._options(self._named.default.limits if self._named is not None else {})
+
+    def groups(self, paths: Iterable[str]) -> List[Tuple[Options, List[str]]]:
+        """The paths by how they are looked at: a rule may have limits of its own."""
+        policy = self._named
+        if policy is None or not any(rule.limits for rule in policy.rules):
+            return [(self.options, list(paths))]
+        groups: Dict[Options, List[str]] = {}
+        for path in paths:
+            limits = {**policy.default.limits, **self._rule_of(path).limits}
+            groups.setdefault(self._options(limits), []).append(path)
+        return list(groups.items())
+
+    def _rule_of(self, path: str) -> Rule:
+        assert isinstance(self.judges, PolicyJudges)
+        return self.judges.rule_of(path)
+
+    def about(self) -> str:
+        """The policy, as a report names it."""
+        if self.policy is None:
+            return ''
+        return f'{os.path.relpath(self.policy.path)}, which was found: it only adds marks' if self.policy.is_found else os.path.relpath(self.policy.path)
+
+    def _options(self, limits: Mapping[str, int]) -> Options:
+        """The options with the limits of a policy, which those of the command line go before."""
+        words = self._words
+        given = {field: getattr(words, f'max_{key}') for key, field in LIMITS.items() if getattr(words, f'max_{key}') is not None}
+        chosen = {**limits, **given}
+        if 'seconds' in chosen:
+            chosen['seconds'] = min(chosen['seconds'], MOST_SECONDS)
+        digest = any(getattr(words, name) not in (None, False) for name in _SEE_DIGESTS) or self.policy is not None and sees_digest(self.policy)
+        return Options(replace(Limits(), shapes=self._shapes, **chosen), words.lines, words.everywhere, words.full, digest)
