@@ -77,12 +77,15 @@ CHECKLISTS = [
             "equipment/surface.txt": "names of the specification",
             "equipment/trials/begins.py": "scan has a field of that name",
             "equipment/trials/large.py": "asks it of a large pickle",
+            "python/picklestep/scan/folder.py": "scan has a field of that name",
+            "python/picklestep/scan/policy/baseline.py": "scan has a field of that name",
             "python/picklestep/scan/results.py": "scan has a field of that name",
             "python/picklestep/shell/words.py": "the shell has words of its own",
             "python/picklestep/view/alone/opening.js": "the page has an element of that name",
             "python/picklestep/view/alone/session.js": "asks it, as the page needs it",
             "python/picklestep/view/page.html": "the page has an element of that name",
             "python/picklestep/view/script.js": "the page has an element of that name",
+            "share/picklestep-scan.schema.json": "scan has a field of that name",
         },
     ),
     Checklist(
@@ -104,6 +107,7 @@ CHECKLISTS = [
             "python/tests/test_other_systems.py": "asks it of files on other drives",
             "python/tests/test_shell.py": "the shell has words of its own",
             "python/tests/test_view.py": "the page shows it",
+            "share/picklestep-scan.schema.json": "scan has a field of that name",
         },
     ),
 ]

@@ -11,28 +11,31 @@ What is public is imported when it is first used: the entrance starts faster, an
 
 __version__ = '1.0.0'
 
-__all__ = ['Answer', 'Argument', 'Brief', 'Briefs', 'Call', 'Calls', 'Change', 'Difference', 'End', 'Extension', 'Global', 'Heap', 'Item',
-           'Items', 'Listing', 'Mark', 'Name', 'NoResult', 'NotAllowed', 'Object', 'Objects', 'Opcode', 'OtherForm', 'OutOfMemory', 'Part',
-           'PicklestepError', 'PlainValue', 'ProgramError', 'PythonSource', 'Ran', 'Reach', 'Reached', 'Ref', 'Refused',
-           'Session', 'Shown', 'ShownObjects', 'TimedOut', 'TooLarge', 'Value', 'Where', 'calls', 'check', 'compare', 'form', 'listing',
+__all__ = ['Answer', 'Argument', 'Brief', 'Briefs', 'Call', 'Calls', 'Change', 'Difference', 'End', 'Extension', 'GateAnswer', 'Global', 'Heap', 'Item',
+           'Items', 'Listing', 'Mark', 'Member', 'Members', 'Name', 'NoResult', 'NotAllowed', 'NotOpened', 'Object', 'Objects', 'Opcode', 'OtherForm',
+           'OutOfMemory', 'Part', 'PicklestepError', 'PlainValue', 'ProgramError', 'PythonSource', 'Ran', 'Reach', 'Reached', 'Ref', 'Refused',
+           'Session', 'Shown', 'ShownObjects', 'TimedOut', 'TooLarge', 'Value', 'Where', 'calls', 'check', 'compare', 'form', 'gate', 'listing', 'members',
            'objects', 'source', 'tree']
 
 TYPE_CHECKING = False  # (`typing` would be an import)
 if TYPE_CHECKING:
+    from .addresses import Member, Members, members
     from .answers import Answer, Calls, Heap, Items, Listing, Objects, Part, Reached, ShownObjects
     from .comparing import Difference, compare
-    from .errors import NoResult, NotAllowed, OutOfMemory, PicklestepError, ProgramError, Refused, TimedOut, TooLarge
+    from .errors import NoResult, NotAllowed, NotOpened, OutOfMemory, PicklestepError, ProgramError, Refused, TimedOut, TooLarge
     from .python_source import PythonSource, source
-    from .records import (Argument, Brief, Briefs, Change, End, Extension, Global, Item, Mark, Name, Object, Opcode, OtherForm, Ran, Reach, Ref,
-                          Shown, Value, Where)
+    from .records import (Argument, Brief, Briefs, Change, End, Extension, GateAnswer, Global, Item, Mark, Name, Object, Opcode, OtherForm, Ran,
+                          Reach, Ref, Shown, Value, Where)
     from .scan.checking import check
+    from .scan.gating import gate
     from .session import Session
     from .tasks import calls, form, listing, objects
     from .trees import Call, tree
     from .values import PlainValue
 
 # No public name is that of a module: who imports the module would get that in its place.
-_MODULES = ('answers', 'comparing', 'errors', 'python_source', 'records', 'scan.checking', 'session', 'tasks', 'trees', 'values')
+_MODULES = ('addresses', 'answers', 'comparing', 'errors', 'python_source', 'records', 'scan.checking', 'scan.gating', 'session', 'tasks', 'trees',
+            'values')
 
 
 def __getattr__(name: str) -> object:

@@ -17,7 +17,7 @@ _HERE = os.path.dirname(os.path.realpath(__file__))
 # Each word of the program has a page here, by which it is known.
 _PAGES = os.path.join(_HERE, 'help')
 # The words of this package, and the modules that do them.
-_OWN = {'diff': 'diff', 'mend': 'mend', 'scan': 'scan', 'shell': 'shell', 'source': 'python_source', 'view': 'view'}
+_OWN = {'diff': 'diff', 'mend': 'mend', 'policy': 'scan.policy.command', 'scan': 'scan', 'shell': 'shell', 'source': 'python_source', 'view': 'view'}
 _MOST_WRONG = 2  # letters that are taken for a slip
 _ASKS_HELP = ('--help', '-h')
 
@@ -27,7 +27,7 @@ def main(words: 'list[str]') -> int:
     if sys.version_info < (3, 9):
         if words and _is_of_program(words[0]):
             return _hand_over(words)
-        return _complain('python3 is older than 3.9: only list, objects, calls, form and debug work with it')
+        return _complain('python3 is older than 3.9: only list, objects, calls, form, gate and debug work with it')
     if not words or words[0] in _ASKS_HELP:
         return _print_page('picklestep', to_output=bool(words))
     first, rest = words[0], words[1:]
@@ -43,6 +43,9 @@ def main(words: 'list[str]') -> int:
         return _do_apart(['scan', *words])
     if os.path.lexists(first):  # (one that begins like an option is none)
         return _do_apart(['scan', os.path.join('.', first) if first.startswith('-') else first, *rest])
+    from .opens import split
+    if split(first) is not None:
+        return _complain(f'{first!r} is the address of a pickle, which a word opens: picklestep calls ADDRESS')
     return _complain(f'{first!r} is neither a word of picklestep nor a file that is there: {_meant(first)}see picklestep --help')
 
 
@@ -102,10 +105,12 @@ def _slips(one: str, other: str) -> int:
 
 
 def _is_told_more(words: 'list[str]') -> bool:
-    """Whether something stands behind the program's own lines: where else to look, or which file cannot be read (help/start.sh asks the same)."""
+    """Whether something stands beside the program's own lines: where else to look, or which file cannot be read; or something is opened, an
+    address or a container (help/start.sh asks the same)."""
     if words[0] == 'calls' or '--' in words:  # (behind that a file may have a name like an option)
         return True
-    return any(not os.access(word, os.R_OK) or os.path.isdir(word) for word in words[1:] if not word.startswith('-'))
+    from .opens import holds_others
+    return any(not os.access(word, os.R_OK) or os.path.isdir(word) or holds_others(word) for word in words[1:] if not word.startswith('-'))
 
 
 def _hand_over(words: 'list[str]') -> int:

@@ -66,6 +66,7 @@ function ask(name, options, inputs) {
         library = new WebAssembly.Instance(module, {}).exports;
         least = library.memory.buffer.byteLength;
     }
+    if (!library[name]) return OUT_OF_MEMORY; // (a module of an earlier version has not all of them)
     const given = put(inputs), written = library.take(16n);
     if (!given || !written) return OUT_OF_MEMORY;
     for (let room = 1 << 16; ; ) {

@@ -36,7 +36,8 @@ class InProcess:
         self._limit: Any = library.picklestep_limit_memory
         self._limit.argtypes = [ctypes.c_size_t]
         self._limit.restype = None
-        self._functions = {name: _declared(library, name, *counts) for name, counts in FUNCTIONS.items()}
+        # (a library of an earlier version has not all of them)
+        self._functions = {name: _declared(library, name, *counts) for name, counts in FUNCTIONS.items() if hasattr(library, name)}
 
     def ask(self, asked: Question, memory: int) -> Optional[bytes]:
         """The text, where it can be had in so much memory."""
@@ -53,7 +54,9 @@ class InProcess:
             own['room'] = room
 
     def _text(self, asked: Question, memory: int, out: Any, written: _Written) -> Optional[bytes]:
-        function = self._functions[asked.function]
+        function = self._functions.get(asked.function)
+        if function is None:
+            return None
         given: List[Any] = [*asked.options]
         for content, size in asked.inputs:
             given += _aligned(content, size), len(content) // size

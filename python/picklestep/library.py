@@ -14,12 +14,14 @@ from . import place
 from .errors import ProgramError
 from .in_node import InNode
 from .place import find_library, find_program, is_module
-from .question import Question, question, question_of_edits
+from .question import Question, question, question_of_edits, question_of_gate
 
-__all__ = ['MOST_BYTES', 'answer', 'edited']
+__all__ = ['MOST_BYTES', 'answer', 'edited', 'gate']
 
 # Inputs up to this size are asked about here. For a larger one the start of the program is a small part of its time.
 MOST_BYTES = 1 << 16
+# A list may be larger than what it is about: that of a set has tens of thousands of bytes.
+_MOST_OF_LIST = 1 << 20
 # So much memory an answer may take here.
 _MOST_MEMORY = 16 << 20
 # So much of a limit of memory the program needs for itself.
@@ -77,10 +79,22 @@ def edited(words: Sequence[str], many: bool, unframed: bool, content: bytes, scr
     return _ask(question_of_edits(words, many, unframed, content, script), memory)
 
 
-def _ask(asked: Optional[Question], memory: Optional[int]) -> Optional[bytes]:
-    """What the library answers, if there is one and it is to be asked about so many bytes in so much memory."""
+def gate(entries: bytes, content: bytes, memory: Optional[int] = None) -> Optional[bytes]:
+    """What the program says of these bytes and of a list, the lines of which it can read. None where the program has to be asked.
+
+    >>> gate(b'a.b:\\n', b'N' * 100_000) is None
+    True
+    """
+    return _ask(question_of_gate(entries, content), memory, MOST_BYTES - len(content), _MOST_OF_LIST - len(entries))
+
+
+def _ask(asked: Optional[Question], memory: Optional[int], *room: int) -> Optional[bytes]:
+    """What the library answers, if there is one and it is to be asked about so many bytes in so much memory. `room` is what the inputs leave of
+    their limits, where they have some of their own."""
     most = _MOST_MEMORY if memory is None else min(_MOST_MEMORY, memory - _OF_PROGRAM)
-    if asked is None or most <= 0 or sum([len(content) for content, _ in asked.inputs]) > MOST_BYTES:
+    if asked is None or most <= 0:
+        return None
+    if min(room or (MOST_BYTES - sum([len(content) for content, _ in asked.inputs]),)) < 0:
         return None
     library = _library()
     return None if library is None else library.ask(asked, most)

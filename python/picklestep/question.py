@@ -7,12 +7,13 @@ import struct
 from functools import lru_cache
 from typing import List, NamedTuple, Optional, Sequence, Tuple
 
-__all__ = ['FUNCTIONS', 'Question', 'question', 'question_of_edits']
+__all__ = ['FUNCTIONS', 'Question', 'question', 'question_of_edits', 'question_of_gate']
 
 _TASKS = ('list', 'objects', 'calls')
 # How many options and inputs come before the room for the text. (Holes are an input of `calls`.)
 FUNCTIONS = {
     'picklestep_form': (0, 1),
+    'picklestep_gate': (0, 2),
     **{f'picklestep_{task}_with': (1, 2 if task == 'calls' else 1) for task in _TASKS},
     **{f'picklestep_edited_{task}_with': (1, 2) for task in _TASKS},
 }
@@ -64,6 +65,11 @@ def question_of_edits(words: Sequence[str], many: bool, unframed: bool, content:
     if task != 'calls' and options.number != modes:  # (a listing is read as the conversation is)
         return None
     return Question(f'picklestep_edited_{task}_with', (options.number | modes,), ((content, _BYTE), (script, _BYTE)))
+
+
+def question_of_gate(entries: bytes, content: bytes) -> Question:
+    """Whether a list, as the program reads it, allows all that a pickle has."""
+    return Question('picklestep_gate', (), ((entries, _BYTE), (content, _BYTE)))
 
 
 class _Options(NamedTuple):

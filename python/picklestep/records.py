@@ -8,7 +8,7 @@ from typing import Any, Dict, Optional, Tuple, Union
 
 from .values import PLAIN_KINDS, Argument, PlainValue, argument_value, kind_value
 
-__all__ = ['Argument', 'Brief', 'Briefs', 'Change', 'End', 'Extension', 'Global', 'Item', 'Mark', 'Name', 'Object', 'Opcode',
+__all__ = ['Argument', 'Brief', 'Briefs', 'Change', 'End', 'Extension', 'GateAnswer', 'Global', 'Item', 'Mark', 'Name', 'Object', 'Opcode',
            'OtherForm', 'Ran', 'Reach', 'Ref', 'Shown', 'Value', 'Where']
 
 _SLOTS: Dict[str, Any] = {'slots': True} if sys.version_info >= (3, 10) else {}
@@ -61,6 +61,29 @@ class OtherForm:
     item: int
     offset: int
     reason: str
+
+
+@dataclass(frozen=True, **_SLOTS)
+class GateAnswer:
+    """What `gate` says of a pickle. It is true where the pickle passes.
+
+    `line` is the program's line. `kind` is 'passes', 'not allowed' (no list allows something that it does), 'arguments' (no list has the
+    arguments of a call, or the state of what a call made: this alone is not proved), 'other form' (no pickler writes it so) or 'ended'
+    (it does not come to its STOP). `reason` says what that is, and `offset` where.
+
+    >>> import picklestep
+    >>> bool(picklestep.gate(b'N.')), picklestep.gate(b'J\\x01\\0\\0\\0.').kind
+    (True, 'other form')
+    """
+
+    passes: bool
+    line: str
+    kind: str
+    reason: str = ''
+    offset: Optional[int] = None
+
+    def __bool__(self) -> bool:
+        return self.passes
 
 
 @dataclass(frozen=True, **_SLOTS)

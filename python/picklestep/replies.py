@@ -5,10 +5,10 @@ from __future__ import annotations
 import re
 from typing import Dict, List, Optional, Tuple, Union
 
-from .records import Mark, OtherForm, Ran, Ref, Where
+from .records import GateAnswer, Mark, OtherForm, Ran, Ref, Where
 from .texts import LinesError, end_of
 
-__all__ = ['IN_FORM', 'WHERE_BEGINS', 'complaint_of', 'edit_in', 'entry_of', 'is_mark', 'last_words', 'memo_of', 'number_in_word',
+__all__ = ['IN_FORM', 'WHERE_BEGINS', 'complaint_of', 'edit_in', 'entry_of', 'gate_answer', 'is_mark', 'last_words', 'memo_of', 'number_in_word',
            'opcode_refused_in', 'other_form', 'place_in', 'ran_of', 'refused_in', 'stack_of', 'stored_under', 'where_of', 'words_of']
 
 _REFUSED = 'refused: '
@@ -22,6 +22,10 @@ _WHERE = re.compile(r'at ([0-9]+) of ([0-9]+), offset ([0-9]+), buffers ([0-9]+)
 _OTHER_FORM = re.compile(r'not in form: item ([0-9]+) at ([0-9]+): (.*)\n')
 # What `form` answers where the pickle is in the form.
 IN_FORM = b'in form\n'
+# What `gate` answers where the pickle passes, and what of something that no list allows.
+_PASSES = 'passes'
+_NOT_ALLOWED = re.compile(r'([0-9]+): not allowed: (.*)')
+_ENDED = re.compile(r'(?:refused|fault|unsure|kept): (.*?(?: at ([0-9]+))?)')
 _COMPLAINT = 'picklestep: '
 
 
@@ -174,6 +178,30 @@ def other_form(text: str) -> Optional[OtherForm]:
     if match is None:
         raise LinesError('no answer of form')
     return OtherForm(int(match[1]), int(match[2]), match[3])
+
+
+def gate_answer(text: str) -> GateAnswer:
+    """What the answer of `gate` says.
+
+    >>> gate_answer("0: not allowed: import 'posix' 'system' as #0\\n").reason
+    "import 'posix' 'system' as #0"
+    >>> gate_answer('refused: S2 stack underflow\\n').kind
+    'ended'
+    """
+    line = text[:-1]
+    if line == _PASSES and text.endswith('\n'):
+        return GateAnswer(True, line, 'passes')
+    if _OTHER_FORM.fullmatch(text):
+        other = other_form(text)
+        assert other is not None
+        return GateAnswer(False, line, 'other form', other.reason, other.offset)
+    match = _NOT_ALLOWED.fullmatch(line)
+    if match is not None:
+        return GateAnswer(False, line, 'not allowed', match[2], int(match[1]))
+    match = _ENDED.fullmatch(line)
+    if match is None:
+        raise LinesError('no answer of gate')
+    return GateAnswer(False, line, 'ended', match[1], None if match[2] is None else int(match[2]))
 
 
 def complaint_of(errors: str) -> str:

@@ -22,7 +22,7 @@ from picklestep.scan.stores.server import Task, Wanted, server_of, tasks
 def told(result: Result, seconds: float) -> Dict[str, Any]:
     """What is compared of a result."""
     return {'found': [' > '.join(each.where) for each in result.pickles for name in each.imports if name.name == 'posix.system'],
-            'plain': result.plain, 'error': result.error, 'notes': [note.text for note in result.notes if note.missed], 'keys': result.keys,
+            'plain': result.plain, 'error': result.error, 'notes': [note.text for note in result.notes if note.is_marked], 'keys': result.keys,
             'seconds': seconds}
 
 

@@ -68,7 +68,7 @@ class StoreCase(ScanCase):
         self.assertNotIn(SECRET, run.stdout + run.stderr)
         lines = run.stdout.splitlines()
         found = [line for line in lines if line.startswith('! ') and ': import ' in line or ': cannot be read' in line or self.is_note(line)]
-        self.assertEqual(run.returncode, 1 if found else 0, run.stdout[-2000:] + run.stderr[-2000:])
+        self.assertIn(run.returncode, (1, 3) if found else (0,), run.stdout[-2000:] + run.stderr[-2000:])
         return found
 
     @staticmethod

@@ -78,7 +78,7 @@ class Zarr(ScanCase):
     PLAIN = {**PICKLED, 'dtype': '<f8', 'filters': None}
 
     def notes(self, name: str, content: bytes) -> List[str]:
-        return [note.text for note in look_at_bytes(name, content).notes if note.missed]
+        return [note.text for note in look_at_bytes(name, content).notes if note.is_marked]
 
     def test_metadata(self) -> None:
         new = {'zarr_format': 3, 'codecs': [{'name': 'numcodecs.pickle', 'configuration': {'protocol': 5}}]}

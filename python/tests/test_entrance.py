@@ -18,7 +18,7 @@ from pickles import ROOT, chosen
 from scan_support import HARMLESS, HOSTILE, PYTHON, ScanCase, environment
 
 PACKAGE = Path(picklestep.__file__).resolve().parent
-WORDS = ('list', 'objects', 'calls', 'form', 'debug', 'scan', 'view', 'shell', 'source', 'diff', 'mend')
+WORDS = ('list', 'objects', 'calls', 'form', 'gate', 'debug', 'scan', 'view', 'shell', 'source', 'diff', 'mend')
 # A file for each module of the standard library says in this file that it was imported.
 MARK = "open(__file__.rpartition('/')[0] + '/imported', 'a').write(__name__ + '\\n')\nraise ImportError('this folder is not searched')\n"
 
@@ -78,7 +78,7 @@ class Words(EntranceCase):
                 self.assertEqual(self.start([*entrance, *words]).returncode, 0, (way, words))
             for words in (['scan', '--'], ['scan', '--brief'], ['scan', '--sarif', '--', 'b.pkl']):
                 self.assertEqual(self.start([*entrance, *words]).returncode, 2, (way, words))
-        self.assertEqual(self.start([*entrance, 'scan', '--brief', '--', 'b.pkl', '--write-allow', 'c']).returncode, 1)
+        self.assertEqual(self.start([*entrance, 'scan', '--brief', '--', 'b.pkl', '--write-allow', 'c']).returncode, 3)
         self.assertEqual(sorted(path.name for path in self.folder.iterdir()), sorted(['-', '--no-known', '-a.pkl', 'b.pkl', 'used']))
 
     def test_help(self) -> None:

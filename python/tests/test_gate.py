@@ -12,6 +12,7 @@ import unittest
 from pathlib import Path
 from typing import Any, Dict, List, Set, Tuple
 
+import picklestep
 from json_schema import faults
 from pickles import ROOT
 from scan_support import HARMLESS, HOSTILE, MODELS, ScanCase, python_with
@@ -25,7 +26,7 @@ _RESULTS, _DRIVER = ('runs', 'results'), ('runs', 'tool', 'driver')
 _PLACE = (*_RESULTS, 'locations', 'physicalLocation')
 CLASSES: Dict[Tuple[str, ...], str] = {
     (): 'SarifLog', ('runs',): 'Run', ('runs', 'tool'): 'Tool', _DRIVER: 'ToolComponent', (*_DRIVER, 'rules'): 'ReportingDescriptor',
-    (*_DRIVER, 'rules', 'shortDescription'): 'MultiformatMessageString', (*_DRIVER, 'rules', 'defaultConfiguration'): 'ReportingConfiguration',
+    **{(*_DRIVER, 'rules', name): 'MultiformatMessageString' for name in ('shortDescription', 'fullDescription', 'help')}, (*_DRIVER, 'rules', 'defaultConfiguration'): 'ReportingConfiguration',
     ('runs', 'invocations'): 'Invocation', _RESULTS: 'Result', (*_RESULTS, 'message'): 'Message', (*_RESULTS, 'locations'): 'Location',
     _PLACE: 'PhysicalLocation', (*_PLACE, 'artifactLocation'): 'ArtifactLocation', (*_PLACE, 'region'): 'Region',
     (*_RESULTS, 'locations', 'logicalLocations'): 'LogicalLocation',
@@ -61,9 +62,9 @@ class Findings(ScanCase):
     def test_sarif(self) -> None:
         results = self.sarif()['runs'][0]['results']
         self.assertEqual(sorted((each['ruleId'], each['locations'][0]['physicalLocation']['artifactLocation']['uri']) for each in results),
-                         [('cannot-be-read', 'none.pkl'), ('known', './a%20dir/b%25.pkl'), ('not-looked-at', './cut.pkl'), ('not-read', './cut.pkl')])
+                         [('cannot-be-read', 'none.pkl'), ('known', './a%20dir/b%25.pkl'), ('not-read', './cut.pkl'), ('unusual-form', './cut.pkl')])
         known = next(each for each in results if each['ruleId'] == 'known')
-        self.assertEqual(known['locations'][0]['physicalLocation']['region'], {'startLine': 1, 'byteOffset': 0})
+        self.assertEqual(known['locations'][0]['physicalLocation']['region'], {'startLine': 1, 'byteOffset': 0, 'byteLength': 1})
         self.assertIn("call 'posix' 'system' ('id')", known['message']['text'])
         inner = [each for each in self.sarif('--allow', 'torch')['runs'][0]['results'] if 'torch_module' in each['message']['text']]
         self.assertTrue(inner)
@@ -98,9 +99,23 @@ class Findings(ScanCase):
         """The places of all objects, but for those whose names are free."""
         if isinstance(value, list):
             return {found for each in value for found in self.objects_of(each, path)}
-        if not isinstance(value, dict) or path[-1:] == ('partialFingerprints',):
+        if not isinstance(value, dict) or path[-1:] in (('partialFingerprints',), ('properties',)):
             return set()
         return {path, *(found for name, each in value.items() for found in self.objects_of(each, (*path, name)))}
+
+    def test_what_code_hosts_ask_for(self) -> None:
+        """A version, a help and a number for each rule, and the same sign for the same mark where bytes are put before it."""
+        run = self.sarif()['runs'][0]
+        self.assertEqual(run['tool']['driver']['version'], picklestep.__version__)
+        for rule in run['tool']['driver']['rules']:
+            self.assertTrue(rule['help']['text'] and rule['fullDescription']['text'], rule['id'])
+            self.assertGreater(float(rule['properties']['security-severity']), 0)
+        before = {each['ruleId']: each['partialFingerprints'] for each in run['results']}
+        self.assertEqual(len({each['look/v2'] for each in before.values()}), len(before))
+        self.file('a dir/b%.pkl', b'N0' + HOSTILE)
+        after = next(each for each in self.sarif()['runs'][0]['results'] if each['ruleId'] == 'known')
+        self.assertEqual(after['locations'][0]['physicalLocation']['region']['byteOffset'], 2)
+        self.assertEqual(after['partialFingerprints'], before['known'])
 
     def test_other_files_do_not_fit_it(self) -> None:
         schema, made = json.loads(SCHEMA.read_text()), self.sarif()
@@ -118,7 +133,7 @@ class Findings(ScanCase):
         look, = lines['./a dir/b%.pkl']['looks']
         self.assertEqual((look['rule'], look['name'], look['offset']), ('known', 'posix.system', 0))
         self.assertEqual(look['calls'], ["call posix.system once, first at 23: call 'posix' 'system' ('id') as #3"])
-        self.assertEqual([each['rule'] for each in lines['./cut.pkl']['looks']], ['not-read', 'not-looked-at'])
+        self.assertEqual([each['rule'] for each in lines['./cut.pkl']['looks']], ['not-read', 'unusual-form'])
 
 
 @unittest.skipUnless((ROOT / 'picklestep').is_file(), 'this is no clone')
@@ -132,25 +147,56 @@ class Files(ScanCase):
         return subprocess.run(['bash', '-e', '-c', '\n'.join(lines)], cwd=self.folder, env={**os.environ, **git, **settings},
                               capture_output=True, text=True, timeout=600)
 
-    def test_workflows(self) -> None:
-        section = PAGE.partition('## In CI')[2].partition('\n## ')[0]
-        github = re.findall(r'^ +- run: (.*)$', section, re.MULTILINE)
-        gitlab = re.findall(r'^ {8}- (.*)$', section.partition('GitLab')[2], re.MULTILINE)
-        for number, lines in enumerate((github, gitlab)):
-            with self.subTest(lines):
-                self.assertEqual(len(lines), 2)
-                shutil.rmtree(self.folder / 'picklestep', ignore_errors=True)
-                self.file('allowed.txt', b'collections.OrderedDict\n')
-                self.file('models/a.pkl', HARMLESS)
-                (self.folder / 'models' / 'b.pkl').unlink(missing_ok=True)
-                run = self.run_lines(lines)
-                self.assertEqual(run.returncode, 0, run.stderr)
-                self.file('models/b.pkl', HOSTILE)
-                run = self.run_lines(lines[1:])
-                self.assertEqual(run.returncode, 1)
-                self.assertTrue(run.stdout.startswith('! models/b.pkl: import posix.system'), run.stdout + run.stderr)
-                if number == 0:
-                    self.assertEqual(len(json.loads((self.folder / 'pickles.sarif').read_text())['runs'][0]['results']), 1)
+    def repository(self) -> str:
+        """The repository with a tag, as a CI server clones it."""
+        where = self.folder / 'origin'
+        done = self.run_lines([f'git clone --quiet --bare {ROOT} {where}', f'git -C {where} tag -f v1.0.0'])
+        self.assertEqual(done.returncode, 0, done.stderr)
+        return str(where)
+
+    def assert_gate(self, lines: List[str], first: List[str], **environment: str) -> None:
+        """The lines pass while there is nothing hostile, and fail then. `first` are those that are run once."""
+        self.file('allowed.txt', b'collections.OrderedDict\n')
+        self.file('models/a.pkl', HARMLESS)
+        (self.folder / 'models' / 'b.pkl').unlink(missing_ok=True)
+        run = self.run_lines([*first, *lines], **environment)
+        self.assertEqual(run.returncode, 0, run.stdout + run.stderr)
+        self.file('models/b.pkl', HOSTILE)
+        run = self.run_lines(lines, **environment)
+        self.assertEqual(run.returncode, 1)
+        self.assertTrue(run.stdout.startswith('! models/b.pkl: import posix.system'), run.stdout + run.stderr)
+
+    def test_lines_for_any_server(self) -> None:
+        clone, scan = re.findall(r'^    (.*)$', PAGE.partition('**Anywhere else:**')[2].partition('**For pre-commit**')[0], re.MULTILINE)
+        self.assert_gate([scan], [clone], PICKLESTEP=self.repository())
+
+    def test_the_action(self) -> None:
+        """The step of the action, with the inputs of the page; each comes through the environment."""
+        text = (ROOT / 'action.yml').read_text(encoding='utf-8')
+        inputs = {name: default for name, default in re.findall(r"^  ([\w-]+):\n(?:    .*\n)*?    default: '?([^'\n]*)'?$", text.partition('outputs:')[0], re.MULTILINE)}
+        inputs.update(each.split(': ') for each in re.findall(r'with: {(.*)}', PAGE.partition('picklestep@')[2])[0].split(', '))
+        given = {name: inputs[word] for name, word in re.findall(r'^ +(\w+): \${{ inputs\.([\w-]+) }}$', text, re.MULTILINE)}
+        self.assertEqual(set(given), {'PATHS', 'POLICY', 'ALLOW', 'FAIL_ON', 'SARIF', 'REPORT'})
+        command = re.findall(r"^      run: '(.*)'$", text, re.MULTILINE)
+        self.assertNotIn('${{', ''.join(command))
+        out, summary = self.folder / 'output', self.folder / 'summary'
+        self.assert_gate(command, [], ACTION=str(ROOT), GITHUB_OUTPUT=str(out), GITHUB_STEP_SUMMARY=str(summary), **given)
+        self.assertEqual(out.read_text(), 'status=0\nstatus=1\n')
+        self.assertIn('critical: `models/b.pkl`', summary.read_text())
+        self.assertEqual(len(json.loads((self.folder / given['SARIF']).read_text())['runs'][0]['results']), 1)
+        self.file('-x $(touch hit).pkl', HARMLESS)
+        run = self.run_lines(command, ACTION=str(ROOT), **{**given, 'PATHS': 'models/a.pkl\n-x $(touch hit).pkl', 'ALLOW': 'plain\nnumpy'})
+        self.assertEqual((run.returncode, (self.folder / 'hit').exists()), (0, False), run.stdout + run.stderr)
+
+    def test_the_template(self) -> None:
+        text = (ROOT / 'share' / 'ci' / 'gitlab.yml').read_text(encoding='utf-8')
+        said = re.findall(r'^ {8}(\w+): (.*)$', PAGE.partition('**On GitLab**')[2].partition('**Anywhere else')[0], re.MULTILINE)
+        given = {**dict(re.findall(r'^    (REPORT|JUNIT|QUALITY): (.*)$', text, re.MULTILINE)), **dict(said)}
+        clone, scan = re.findall(r'^    - (\S* .*|~.*)$', text.partition('script:')[2].partition('artifacts:')[0], re.MULTILINE)
+        self.assert_gate([scan], [clone], **{**given, 'PICKLESTEP': self.repository()})
+        for name in re.findall(r'(?:junit|codequality|-) ?:? (picklestep\.\w+)', text.partition('artifacts:')[2]):
+            self.assertTrue((self.folder / name).is_file(), name)
+        self.assertEqual(len(json.loads((self.folder / 'picklestep.json').read_text())), 1)
 
     def test_hook(self) -> None:
         text = (ROOT / '.pre-commit-hooks.yaml').read_text()

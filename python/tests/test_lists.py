@@ -27,11 +27,12 @@ NONSENSE: Tuple[Tuple[str, str], ...] = (
     ('.numpy', 'no name'), ('numpy.ndarray,', 'no name'), ('torch.<lambda>', 'no name'), ('numpy.2d', 'no name'), ("'os ' 'x", 'no name'),
     ("'os 'x'", 'no name'), ("'os ' 'x' 'y'", 'no name'), ('torch*', 'no name'), ('**\'x\'', 'no name'), (': call', 'no name'), ('a.b: : call', 'no name'),
     ('numpy', 'include numpy'), ('include', 'no dot'), ('include a\0b', 'no name'), ('numpy.ndarray: cal', 'the nearest word is call'), ('numpy.ndarray: call, new', 'call,'),
-    ('numpy.ndarray: everything', 'everything'))
+    ('numpy.ndarray: everything', 'everything'), ('a.b: made-', 'made-'), ('a.b: made call made-everything', 'made-everything'), ('a.b: mad', 'the nearest word is made'),
+    ('persistent.', 'no name'), ('buffers', 'no dot'), ('ext', 'no dot'), ('ext x', 'no name'))
 # What is one.
 LINES = ('numpy.ndarray', '  a.b:call  ', 'a.b: call new state fill  # all', 'a.b :', 'torch.*Storage:', 'torch.**', '**', '*', '**.os.**', 'a*b.c_*2',
          'été.Ärger', "'os ' 'x'", "'os ' 'x': new  # why", '"it\'s" \'x\'', "raw '\\xff' 'x'", "'os' #5", "'os' #*: call", "'a\\'b' 'c # d'", "'**", 'ext 7',
-         'ext *', 'include numpy', 'include ./lists/our own.txt  # note', '# import numpy', '', '   ')
+         'ext *', 'a.b: made', 'a.b: call made-call made-new made-state made-fill  # all', 'persistent', 'persistent: call', 'buffer:', 'include numpy', 'include ./lists/our own.txt  # note', '# import numpy', '', '   ')
 
 
 class Lines(unittest.TestCase):
@@ -53,6 +54,23 @@ class Lines(unittest.TestCase):
             found = read_line(line)
             assert found is not None
             self.assertEqual((found.name, ' '.join(sorted(found.words)), found.note), (name, words, note), line)
+
+    def test_what_is_said_of_what_calls_make(self) -> None:
+        for line, words, made in (('a.b', 'call fill new state', None), ('a.b: call', 'call new', None), ('a.b: made', '', ''), ('a.b: call made', 'call new', ''),
+                                  ('a.b: made-state made', '', 'state'), ('a.b: new made-call', 'new', 'call new'), ('a.b: call(text) made-fill', 'call new', 'fill')):
+            found = read_line(line)
+            assert found is not None
+            self.assertEqual((' '.join(sorted(found.words)), None if found.made is None else ' '.join(sorted(found.made))), (words, made), line)
+
+    def test_lines_for_the_gate(self) -> None:
+        """They are those of the list, without what the gate does not read, and say the same when they are read again."""
+        lines = ['a.b', 'a.b: call', 'a.*: call(text 3) then(held) made-state  # why', 'a.**: made', "'os ' 'x'", '"it\'s" \'x\'', "'**", "'os' #*", 'ext 7', 'ext *',
+                 'persistent', 'buffer: fill', 'torch.*Storage:', '**', 'été.Ärger: new']
+        names = Names(lines)
+        entries = list(names.entries())
+        self.assertEqual(entries, ['a.b: call new state fill', 'a.*: call new made-state', 'a.**: made', 'ext 7: call new state fill', 'ext *: call new state fill',
+                                   'persistent: call new state fill', 'buffer: fill', 'torch.*Storage:', '**: call new state fill', 'été.Ärger: new'])
+        self.assertEqual(list(Names(entries).entries()), entries)
 
     def test_each_name_that_is_shown_can_stand_in_a_list(self) -> None:
         chance = random.Random(71)
@@ -121,9 +139,11 @@ class Includes(ScanCase):
         self.file('ours', b'a.b\r\n# \x0c\xe2\x80\xa8c.d e\r\nimport numpy\r\n')
         self.file('more', b'include ours\n')
         self.file('binary', b'a.b\n\xff\xfe\n')
+        self.file('alone', b'a.b\n# a note\rcollections.OrderedDict\n')
         for option in ('--allow', '--deny'):
             for name, said in (('ours', 'ours, line 3: no name, no pattern and no include: import numpy'),
-                               ('more', 'ours, line 3: no name, no pattern and no include: import numpy'), ('binary', 'binary, line 2: no text in UTF-8')):
+                               ('more', 'ours, line 3: no name, no pattern and no include: import numpy'), ('binary', 'binary, line 2: no text in UTF-8'),
+                               ('alone', 'alone, line 2: a carriage return without a newline')):
                 run = self.scan('a.pkl', option, name)
                 self.assertEqual((run.returncode, run.stdout, run.stderr), (2, '', f'picklestep: {said}\n'))
         with self.assertRaisesRegex(NoList, 'ours, line 3'):

@@ -471,13 +471,13 @@ class TheCommand(ScanCase):
             del os.environ['PICKLESTEP_PROGRAM']
             if before is not None:
                 os.environ['PICKLESTEP_PROGRAM'] = before
-        self.assertEqual(run.returncode, 1)
+        self.assertEqual(run.returncode, 3)
         self.assertIn('cannot start the program', run.stdout)
 
     def test_limits_are_told(self) -> None:
         self.file('a.pkl.gz', gzip.compress(HARMLESS * 1000))
         run = self.scan('a.pkl.gz', '--max-bytes', '1K')
-        self.assertEqual(run.returncode, 1)
+        self.assertEqual(run.returncode, 3)
         self.assertIn('more than 1,024 bytes are unpacked', run.stdout)
 
     def test_a_file_whose_name_begins_like_a_url(self) -> None:
@@ -497,7 +497,7 @@ class TheCommand(ScanCase):
             self.skipTest('fsspec is not installed')
         path = self.file('model.pt', (MODELS / 'torch_state.pt').read_bytes())
         run = self.scan(f'file://{path}', f'file://{self.folder}/no_such.pt')
-        self.assertEqual(run.returncode, 1)
+        self.assertEqual(run.returncode, 3)
         self.assertIn('import torch._utils._rebuild_tensor_v2', run.stdout)
         self.assertRegex(run.stdout, r'(?m)^! file://.*no_such.pt: cannot be read: ')
 

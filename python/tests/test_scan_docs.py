@@ -1,4 +1,4 @@
-"""The examples of docs/SCAN.md."""
+"""The examples of docs/SCAN.md and docs/POLICY.md."""
 
 from __future__ import annotations
 
@@ -12,13 +12,13 @@ from typing import Iterator, List, Tuple
 
 from scan_support import HARMLESS, HOSTILE, MODELS, ScanCase, environment
 
-PAGE = Path(__file__).resolve().parents[2] / 'docs' / 'SCAN.md'
+PAGES = Path(__file__).resolve().parents[2] / 'docs'
 
 
-def examples() -> Iterator[Tuple[str, str]]:
-    """The commands of the page, each with what it writes."""
+def examples(page: str) -> Iterator[Tuple[str, str]]:
+    """The commands of a page, each with what it writes."""
     command, wanted = '', ''
-    for line in [*PAGE.read_text(encoding='utf-8').splitlines(), '']:
+    for line in [*(PAGES / page).read_text(encoding='utf-8').splitlines(), '']:
         if line.startswith('    $ ') or not line.startswith('    '):
             if command:
                 yield command, wanted
@@ -42,7 +42,21 @@ class Examples(ScanCase):
         command.chmod(0o755)
 
     def test_each_example(self) -> None:
-        found: List[Tuple[str, str]] = list(examples())
+        self.assert_examples('SCAN.md')
+
+    def test_each_example_of_policies(self) -> None:
+        try:
+            import tomllib  # noqa: F401
+        except ImportError:
+            self.skipTest('this Python reads no TOML')
+        shutil.rmtree(self.folder / 'models')
+        self.file('models/old/forest.pkl', (MODELS / 'sklearn_forest.pkl').read_bytes())
+        self.file('models/torch_state.pt', (MODELS / 'torch_state.pt').read_bytes())
+        self.file('models/tool.pkl', HOSTILE)
+        self.assert_examples('POLICY.md')
+
+    def assert_examples(self, page: str) -> None:
+        found: List[Tuple[str, str]] = list(examples(page))
         self.assertGreater(len(found), 8)
         path = os.pathsep.join([str(self.folder / 'bin'), os.environ['PATH']])
         before = ''

@@ -47,7 +47,7 @@ def has(module: str) -> bool:
 
 def is_told(result: Result) -> bool:
     """Whether something in a file gets a line with `!` whatever it may import."""
-    return result.error is not None or any(note.missed for note in result.notes) or not all(each.end.is_stopped for each in result.pickles)
+    return result.error is not None or any(note.is_marked for note in result.notes) or not all(each.end.is_stopped for each in result.pickles)
 
 
 class Evasions(ScanCase):
@@ -257,10 +257,10 @@ class LimitsOfAFile(ScanCase):
 
     def test_a_folder_without_files(self) -> None:
         (self.folder / 'links').mkdir()
-        self.assertEqual(self.scan('links').returncode, 1)
+        self.assertEqual(self.scan('links').returncode, 3)
         os.symlink('/tmp', self.folder / 'links' / 'models')
         run = self.scan('links')
-        self.assertEqual(run.returncode, 1)
+        self.assertEqual(run.returncode, 3)
         self.assertIn('! links: no file in it is looked at', run.stdout)
 
     def test_what_may_be_done_with_a_name(self) -> None:

@@ -255,7 +255,7 @@ class Bombs(ScanCase):
                 started.returncode = os.WEXITSTATUS(status)
                 out.seek(0)
                 self.assertIn(told, out.read())
-                self.assertEqual(started.returncode, 1)
+                self.assertEqual(started.returncode, 1 if name == 'long.pkl' else 3)
                 self.assertLess(used.ru_utime + used.ru_stime, 60)
                 self.assertLess(used.ru_maxrss << 10, 1 << 30)
 
@@ -576,7 +576,7 @@ class HostileFolders(ScanCase):
 
     def test_devices(self) -> None:
         run = self.scan('/dev/null', '/dev/zero')
-        self.assertEqual(run.returncode, 1)
+        self.assertEqual(run.returncode, 3)
         self.assertEqual(run.stdout.splitlines()[:4], ['  /dev/null: skipped: a device', '! /dev/null: a device is not looked at',
                                                        '  /dev/zero: skipped: a device', '! /dev/zero: a device is not looked at'])
 
@@ -585,7 +585,7 @@ class HostileFolders(ScanCase):
         os.mkfifo(self.folder / 'fifo.pkl')
         for words in (['fifo.pkl'], ['--jobs', '2', 'fifo.pkl', '--', 'fifo.pkl']):
             run = self.scan('--brief', *words)
-            self.assertEqual((run.returncode, run.stdout.splitlines()[0]), (1, '! fifo.pkl: a FIFO is not looked at'))
+            self.assertEqual((run.returncode, run.stdout.splitlines()[0]), (3, '! fifo.pkl: a FIFO is not looked at'))
         self.assertIn('! : a FIFO is not looked at', notes_of(look(str(self.folder / 'fifo.pkl'))))
 
     def test_a_file_without_permission(self) -> None:

@@ -27,7 +27,7 @@ from typing import Callable, Dict, Iterator, List, Tuple
 
 from pickles import chosen
 from picklestep.program import find_program
-from picklestep.scan import Options, Result, cluster, command, look, look_at_bytes, pool
+from picklestep.scan import Options, Result, cluster, command, look, look_at_bytes, outputs, pool
 from scan_support import HARMLESS, HOSTILE, MODELS, ScanCase, environment, names_of, python_with
 from terminals import heed_ctrl_c
 
@@ -98,7 +98,7 @@ class Opened(RunCase):
 
     def test_more_than_may_be_held(self) -> None:
         self.assertIn('! /dev/stdin: it gives more than the 16,777,216 bytes that may be held at once: the first of them are looked at\n',
-                      self.shell('head -c 16777217 /dev/zero | $scan --max-memory 64M /dev/stdin'))
+                      self.shell('head -c 16777217 /dev/zero | $scan --max-memory 64M /dev/stdin', 3))
         self.shell('head -c 16777216 /dev/zero | $scan --max-memory 64M /dev/stdin', 0)
 
 
@@ -340,8 +340,9 @@ class Runs(RunCase):
                 yield look_at_bytes('key', HOSTILE)
 
         sarif = self.folder / 'a.sarif'
-        left = unittest.mock.patch.object(command.Report, 'write', side_effect=BrokenPipeError)
-        with unittest.mock.patch.object(command, 'follow', follow), unittest.mock.patch.object(command, '_leave'), left:
+        left = unittest.mock.patch.object(outputs.Report, 'write', side_effect=BrokenPipeError)
+        stays = [unittest.mock.patch.object(module, 'leave') for module in (command, outputs)]
+        with unittest.mock.patch.object(command, 'follow', follow), stays[0], stays[1], left:
             self.assertEqual(command.main(['--follow', 'redis://127.0.0.1:1/0', '--sarif', str(sarif)]), 141)
         self.assertEqual(len(json.loads(sarif.read_text())['runs'][0]['results']), 1)
 

@@ -5,6 +5,7 @@ from __future__ import annotations
 import array
 import collections
 import fractions
+import itertools
 import json
 import pickle
 import random
@@ -187,6 +188,51 @@ class Lines(ScanCase):
         names = Names(['app.Job: call(text number)'])
         for options, count in ((Options(), 1), (Options(Limits(shapes=names.with_shapes())), 0)):
             self.assertEqual(len(list(Judge(names).looks(look_at_bytes('a.pkl', content, options)))), count)
+
+    def test_what_calls_make(self) -> None:
+        """What is done with what a call made, or with what a call of that made, and so on."""
+        put, get = b'q\x00', b'h\x00'
+        done = {'state': b'K\x03b', 'fill': b'K\x03a', 'call': b')R', 'new': b')\x81'}
+        for (what, made), words in itertools.product(done.items(), (('', 'made', *(f'made-{each}' for each in done)))):
+            for again in (b'', b')R', b')\x81'):
+                needed = {what} | ({'call'} if again == b')R' else {'new'} if again else set())
+                granted = set(done) if not words else {words[5:], *(('new',) if words == 'made-call' else ())}
+                content = b'\x80\x02' + self.MADE + put + b'0' + get + again + made + b'.'
+                looks = self.looks(content, f'app.Job: call {words}')
+                with self.subTest(what, words=words, again=again):
+                    self.assertEqual(bool(looks), not needed <= granted, looks)
+                    self.assertTrue(all(text.startswith('made-') for text in looks), looks)
+
+    def looks(self, content: bytes, *lines: str) -> List[str]:
+        names = Names(lines)
+        result = look_at_bytes('a.pkl', content, Options(Limits(shapes=names.with_shapes())))
+        self.assertEqual(from_json(json.loads(json.dumps(to_json(result)))), result)
+        return [look.text for look in Judge(names).looks(result) if look.rule == 'not-allowed-done']
+
+    def test_what_calls_of_several_names_make(self) -> None:
+        content = b'\x80\x02' + (self.MADE + b'K\x03\x85b0' + call('app\nTask', text('mail')) + b'K\x03\x85b0') * 40 + b'N.'
+        both = self.looks(content, 'app.Job: call made', 'app.Task: call made-state')
+        self.assertEqual([each.partition(',')[0] for each in both], ['made-state app.Job 40 times'])
+        self.assertEqual(self.looks(content, 'app.Job: call made', 'app.*: call made-state'), [])
+        self.assertEqual(self.looks(content, 'app.Job: call made then(number)', 'app.*: call made-state'), [])
+        odd = self.looks(content, 'app.Job: call made-state then(text)', 'app.Task: call')
+        self.assertEqual([each.partition(' ')[0] for each in odd], ['then'])
+        self.assertEqual([each.partition(' ')[0] for each in self.looks(content, 'app.Job: call made then(text)', 'app.Task: call')], ['made-state', 'then'])
+
+    def test_what_calls_make_that_was_not_asked(self) -> None:
+        """An earlier result, of another list: the call is marked, for nothing is known of what was done with what it made."""
+        content = b'\x80\x02' + self.MADE + b'K\x03b.'
+        for line, count in (('app.Job: call', 0), ('app.Job: call made-state', 1), ('app.Job: call made', 1)):
+            looks = [look for look in Judge(Names([line])).looks(look_at_bytes('a.pkl', content)) if look.rule == 'not-allowed-done']
+            self.assertEqual(len(looks), count, line)
+
+    def test_the_command_with_what_calls_make(self) -> None:
+        self.file('a.pkl', b'\x80\x02' + self.MADE + b'K\x03b.')
+        self.file('ours', b'app.Job: call made-state\n')
+        self.file('others', b'app.Job: call made-fill\n')
+        self.assertEqual([self.scan('a.pkl', '--allow', name).returncode for name in ('ours', 'others')], [0, 1])
+        self.assertEqual(self.scan('a.pkl', '--allow', 'others', '--allow', 'ours').returncode, 0)
+        self.assertEqual(self.scan('a.pkl', '--allow', 'ours', '--jobs', '2').returncode, 0)
 
     def test_each_kind_is_told(self) -> None:
         self.assertTrue(all(KINDS.values()))

@@ -67,6 +67,7 @@ class Examples(StoreCase):
         self.file('caches/records.bin', b''.join(len(each).to_bytes(4, 'big') + each for each in (HARMLESS, HOSTILE, HARMLESS)))
         self.file('firmware.bin', b'\xff' * 5000 + HOSTILE + b'\xff' * 5000)
         self.check(' caches ', 1)
+        self.check("calls 'caches/queue.db > ", 1)
         self.check(' firmware.bin ', 1)
 
     def test_hdf5(self) -> None:

@@ -91,7 +91,7 @@ class Libraries(StoreCase):
                                                                     '/texts > [1] > (base64 at 0)'])
         code = "import sys; sys.modules['h5py'] = None; from picklestep.scan import look; print(look('a.h5').notes)"
         run = subprocess.run([python, '-c', code], cwd=self.folder, env=environment(), capture_output=True, text=True, timeout=300)
-        self.assertEqual(run.stdout, "(Note(where=(), text='hdf5: not opened, since h5py is not installed', missed=True),)\n", run.stderr)
+        self.assertEqual(run.stdout, "(Note(where=(), text='hdf5: not opened, since h5py is not installed: pip install h5py', missed=True, odd=False),)\n", run.stderr)
 
     def test_names_and_ends(self) -> None:
         """A store that is named as a pickle, and bytes behind the end of one, are told. Zeros may be there."""

@@ -279,7 +279,7 @@ class OtherServers(StoreCase):
         code = ("import sys; sys.modules['redis'] = None; from picklestep.scan.command import main; "
                 "sys.exit(main(['redis://127.0.0.1:1/0']))")
         run = subprocess.run([sys.executable, '-c', code], env=environment(), capture_output=True, text=True, timeout=300)
-        self.assertEqual((run.returncode, run.stderr), (1, ''))
+        self.assertEqual((run.returncode, run.stderr), (3, ''))
         self.assertIn('redis is not installed', run.stdout.splitlines()[0])
 
 
@@ -288,7 +288,7 @@ class Nothing(StoreCase):
 
     def check(self, url: str, python: str, *words: str) -> None:
         run = self.scan(*words, url, python=python)
-        self.assertEqual((run.returncode, run.stderr), (1, ''), run.stdout)
+        self.assertEqual((run.returncode, run.stderr), (3, ''), run.stdout)
         shown = url.replace(f':{SECRET}@', '@').replace('//@', '//')
         left = 'a server without keys that match' if words else 'a server without keys'
         self.assertEqual(run.stdout.splitlines(), [f'  {shown}: skipped: {left}', f'! {shown}: no key of it is looked at',

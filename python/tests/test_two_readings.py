@@ -212,7 +212,7 @@ class Check(ScanCase):
     def test_what_a_packed_file_is_named(self) -> None:
         """The ending of what packs it is no part of the name of what is in it."""
         for name, packed in (('a.tar.gz', gzip.compress(b'text')), ('a.npz.gz', gzip.compress(b'text')), ('a.npz.xz', lzma.compress(b'text'))):
-            notes = [note.text for note in look(self.file(name, packed)).notes if note.missed]
+            notes = [note.text for note in look(self.file(name, packed)).notes if note.is_marked]
             self.assertTrue(any(text.startswith('its name says') for text in notes), name)
 
     def test_what_is_not_opened_here(self) -> None:

@@ -5,6 +5,7 @@ from __future__ import annotations
 import errno
 import io
 import os
+import re
 from dataclasses import dataclass
 from functools import lru_cache
 from pathlib import Path
@@ -15,8 +16,11 @@ from .wording import shown
 
 __all__ = ['SETS', 'lines_of', 'read_lines', 'read_names', 'sets_with']
 
+_CARRIAGE_RETURN = re.compile(r'\r(?!\n)')
 _FOLDER = Path(__file__).resolve().parent / 'allow'
 
+# How large a list may be that another list includes.
+_MOST_BYTES = 1 << 24
 # The sets that come with the package.
 SETS = tuple(sorted(path.stem for path in _FOLDER.glob('*.txt')))
 
@@ -43,6 +47,9 @@ class _Wanted:
     def content(self) -> bytes:
         """What stands in the file. Raises OSError where it cannot be read, with the nearest set where there is none of this name."""
         try:
+            is_fine = not self.path.exists() or self.path.is_dir() or self.path.is_file() and self.path.stat().st_size <= _MOST_BYTES
+            if self.by is not None and not is_fine:
+                raise NoList(f'{self.place}: cannot include {shown(self.word)}: it is no file of at most {_MOST_BYTES:,} bytes')
             return self.path.read_bytes()
         except OSError as error:
             near = nearest(self.word, 'set', SETS) if isinstance(error, FileNotFoundError) else ''
@@ -59,6 +66,10 @@ def lines_of(content: bytes, path: str) -> Iterator[Tuple[str, str, Optional[Lin
         text = content.decode('utf-8-sig')
     except UnicodeDecodeError as error:
         raise NoList(f'{_place(path, content.count(10, 0, error.start) + 1)}: no text in UTF-8') from error
+    # (the program takes a carriage return alone for a part of the line, and Python for its end)
+    alone = _CARRIAGE_RETURN.search(text)
+    if alone is not None:
+        raise NoList(f'{_place(path, text.count(chr(10), 0, alone.start()) + 1)}: a carriage return without a newline')
     # (as editors count lines: no other sign ends one, so a comment goes on to the end of what is seen as a line)
     for number, line in enumerate(io.StringIO(text, newline=None), 1):
         place = _place(path, number)

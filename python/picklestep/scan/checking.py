@@ -4,22 +4,31 @@ from __future__ import annotations
 
 import os
 from dataclasses import replace
-from typing import Iterable, Iterator, List, Optional
+from typing import Iterable, Iterator, List, Optional, Tuple
 
-from ..errors import NotAllowed
+from ..errors import NotAllowed, OutOfMemory, TimedOut
+from ..program import time_to_wait
 from ..sources import Readable, Source
+from ..tasks import form
 from .allow import read_lines
 from .begins import HEAD, is_pickle_name
-from .blobs import BytesBlob
+from .blobs import Budget, BytesBlob, LimitMet, Limits
+from .canonical.formed import BEHIND
 from .canonical.kinds import kinds_of
 from .canonical.wide import reach_of
 from .containers import LOADERS, Container
+from .gating import gate_by
 from .looking import Options, look_at_bytes
 from .looks import Judge
 from .names import Names
 from .wording import place_of
 
 __all__ = ['check']
+
+# What no pickler of Python's own library writes, and what loaders that have it give meaning to. (`pickle.loads` raises at it.)
+_OF_OTHER_LOADERS = ('persistent', 'buffer')
+# Of pickles in a row so many bytes are looked at first for the end of one.
+_GLANCE = 1 << 16
 
 
 def check(source: Source, *, allow: Iterable[str] = (), names: Iterable[str] = (), loader: Optional[str] = None,
@@ -32,6 +41,9 @@ def check(source: Source, *, allow: Iterable[str] = (), names: Iterable[str] = (
     `allow` has sets and files as `scan --allow` takes them, `names` names and patterns; without both only names that are known to run what
     they are given are refused. `options` has the limits. Raises NotAllowed with a line for each look; OSError where a file cannot be read,
     NoList where a line of a list has no meaning, and ValueError for another loader.
+
+    Where there is a list, a pickle that is in no container and in the form that picklers write also has to pass `gate`, which says what is proved.
+    For the loader 'pickle' it has to be in that form. Of several pickles each one has to pass by itself.
 
     >>> check(b'\\x80\\x02ccollections\\nOrderedDict\\n)R.', names=['collections.OrderedDict'])
     b'\\x80\\x02ccollections\\nOrderedDict\\n)R.'
@@ -53,6 +65,8 @@ def check(source: Source, *, allow: Iterable[str] = (), names: Iterable[str] = (
     lines.extend(f'{place_of(name, ())}: {line}' for line in _in_containers(content, kinds, loader))
     if not kinds and not result.pickles:
         lines.append(f'{place_of(name, ())}: no pickle is found in it')
+    if allowed is not None and not kinds and not lines:
+        lines.extend(f'{place_of(name, ())}: {line}' for line in _in_gate(content, allowed, loader, options.limits))
     if lines:
         raise NotAllowed(lines)
     return content
@@ -69,6 +83,42 @@ def _in_containers(content: bytes, kinds: List[Container], loader: Optional[str]
     reach, _ = reach_of(BytesBlob(content))
     if reach is not None:
         yield f'it is {said}, and as a pickle it leads a loader to {reach.what} at {reach.offset}'
+
+
+def _in_gate(content: bytes, allowed: Names, loader: Optional[str], limits: Limits) -> Iterator[str]:
+    """What the gate says of pickles that it does not let pass. Where they are not in the form that picklers write, that is said only for `pickle`:
+    others have layouts of their own."""
+    is_strict = loader == LOADERS[0]
+    more = () if is_strict else tuple(f'{word}:' for word in _OF_OTHER_LOADERS)
+    budget = Budget(limits)
+    try:
+        for offset, pickle, is_in_form in _pickles(content, limits):
+            budget.spend()
+            if not is_in_form and not is_strict:
+                return
+            answer = gate_by(allowed, pickle, time_to_wait(limits.seconds) if len(pickle) > _GLANCE else None, limits.memory, more)
+            if not answer.passes:
+                yield f'gate: {answer.line}' if not offset else f'gate, of the pickle at {offset}: {answer.line}'
+    except (LimitMet, OutOfMemory, TimedOut) as error:
+        yield f'gate: {error}'
+
+
+def _pickles(content: bytes, limits: Limits) -> Iterator[Tuple[int, bytes, bool]]:
+    """The pickles in a row, each with its offset. From where no pickle is in the form that picklers write, all that is left comes as one that is
+    not."""
+    at, size = 0, len(content)  # (mostly there is one)
+    while at < len(content):
+        part = content[at:at + size]
+        is_small = len(part) <= _GLANCE
+        other = form(part) if is_small else form(part, timeout=time_to_wait(limits.seconds), memory=limits.memory)
+        if other is not None and other.reason == BEHIND:
+            yield at, part[:other.offset], True
+            at, size = at + other.offset, _GLANCE
+        elif at + size < len(content):
+            size *= 2
+        else:
+            yield at, part, other is None
+            return
 
 
 def _content(source: Source) -> 'tuple[bytes, str]':

@@ -5,12 +5,12 @@ from __future__ import annotations
 import difflib
 import re
 from dataclasses import dataclass
-from typing import Dict, FrozenSet, Iterable, List, Optional, Pattern, Set, Tuple
+from typing import Dict, FrozenSet, Iterable, Iterator, List, Optional, Pattern, Set, Tuple
 
 from ..errors import PicklestepError
 from ..wording import shown
 
-__all__ = ['GIVEN', 'KINDS', 'THEN', 'Line', 'Names', 'NoList', 'nearest', 'read_comment', 'read_line', 'words_for']
+__all__ = ['GIVEN', 'KINDS', 'MADE', 'THEN', 'Line', 'Names', 'NoList', 'nearest', 'read_comment', 'read_line', 'words_for']
 
 
 class NoList(PicklestepError, ValueError):
@@ -29,6 +29,8 @@ class Line:
     shapes: FrozenSet[str] = frozenset()
     # What the state of an object that a call made may be; empty where it may be anything.
     states: FrozenSet[str] = frozenset()
+    # What may be done with what calls make, by the words for that without `made-`; None where it may be anything.
+    made: Optional[FrozenSet[str]] = None
 
 
 class Names:
@@ -40,6 +42,9 @@ class Names:
 
     Behind a name and a colon stand words for what may be done with what is imported: `call`, `new` (NEWOBJ alone), `state` (it is given a
     state) and `fill` (items are put into it). Without a colon that may be anything, and with a colon alone nothing.
+
+    `made-call`, `made-new`, `made-state` and `made-fill` say the same of what a call of it makes, of what a call of that makes, and so on; `made`
+    allows nothing of that. Where none of these words stands, all may be done with it.
 
     >>> names = Names(['collections.OrderedDict: call', 'torch.*Storage:  # raw numbers', 'os.path'])
     >>> [names.note(name) for name in ('collections.OrderedDict', 'torch.FloatStorage', 'torch.os.Storage')]
@@ -66,6 +71,9 @@ class Names:
         self._shapes: Dict[str, FrozenSet[str]] = {}
         self._calls: Set[str] = set()
         self._states: Dict[str, FrozenSet[str]] = {}
+        # What may be done with what calls make, by the names and patterns of the lines; None where that may be anything.
+        self._made: Dict[str, Optional[FrozenSet[str]]] = {}
+        self._has_limits = False
         # The patterns by their first part, since a hostile file may have a million names; those that begin with a star are under ''.
         self._by_part: Dict[str, List[Tuple[str, Pattern[str], str]]] = {}
         for line in lines:
@@ -78,6 +86,9 @@ class Names:
         if line.is_include:
             raise NoList(f'only a file includes a list: {shown(name)}')
         self._words[name] = self._words.get(name, frozenset()) | line.words
+        self._has_limits = self._has_limits or line.made is not None
+        before = self._made.get(name, frozenset())
+        self._made[name] = None if line.made is None or before is None else before | line.made
         if line.states:
             self._states[name] = self._states.get(name, frozenset()) | line.states
         if line.shapes:
@@ -106,15 +117,32 @@ class Names:
         if what == THEN and fits is not None:
             states = self.all_states(name)
             return not states or not states.isdisjoint(fits)
+        if what in _OF_MADE:
+            return self.note(name) is None or self._allows_of_made(name, _OF_MADE[what])
         word = _WORDS.get(what)
         if word is None or self.note(name) is None:
             return True
         return word in self._words_of(name) and (fits is None or word not in ('call', 'new') or self._allows_arguments(name, fits))
 
+    def _allows_of_made(self, name: str, word: str) -> bool:
+        """Whether a line that has a name allows this with what calls of it make."""
+        return any(made is None or word in made for made in map(self._made.get, self.lines_of(name)))
+
+    def limits_made(self, name: str) -> bool:
+        """Whether something may not be done with what calls of a name make, which some line has."""
+        if not self._has_limits:
+            return False
+        return bool(self.lines_of(name)) and not all(self._allows_of_made(name, word) for word in _OF_LISTS)
+
     def _allows_arguments(self, name: str, fits: Iterable[str]) -> bool:
-        """Whether a line allows a call that has arguments of these shapes."""
+        """Whether a line allows a call that has arguments of these shapes. What is done with what it made was to be looked at, where lines limit
+        that."""
         shapes = self.all_shapes(name)
-        return not shapes or GIVEN in fits or not shapes.isdisjoint(fits) or not self._calls.isdisjoint((name, *self.lines_of(name)))
+        if GIVEN in fits:
+            return True
+        if MADE not in fits and self.limits_made(name):
+            return False
+        return not shapes or not shapes.isdisjoint(fits) or not self._calls.isdisjoint((name, *self.lines_of(name)))
 
     def all_shapes(self, name: str) -> FrozenSet[str]:
         """The shapes of all lines that have a name."""
@@ -125,10 +153,18 @@ class Names:
         return frozenset().union(*(self._states[line] for line in {name, *self.lines_of(name)} if line in self._states)) if self._states else frozenset()
 
     def with_shapes(self) -> Tuple[str, ...]:
-        """Lines that have the shapes of these, and nothing else."""
-        words = {name: [f'{word}({shape})' for word, shapes in (('call', self._shapes), (THEN, self._states)) for shape in sorted(shapes.get(name, ()))]
-                 for name in sorted({*self._shapes, *self._states})}
+        """Lines that have the shapes of these, and what they say of what calls make, and nothing else."""
+        limited = {name for name, made in self._made.items() if made is not None}
+        words = {name: [*(f'{word}({shape})' for word, shapes in (('call', self._shapes), (THEN, self._states)) for shape in sorted(shapes.get(name, ()))),
+                        *_made_words(self._made[name])] for name in sorted({*self._shapes, *self._states, *limited})}
         return tuple(f'{name}: {" ".join(said)}' for name, said in words.items())
+
+    def entries(self) -> Iterator[str]:
+        """The lines for the program's gate, one for each name and pattern. They say nothing of shapes, and leave out names that are shown in two
+        parts: the gate allows none of these."""
+        for name, words in self._words.items():
+            if _OF_GATE.fullmatch(name) is not None:
+                yield ' '.join([f'{name}:', *(word for word in _OF_LISTS if word in words), *_made_words(self._made[name])])
 
     def lines_of(self, name: str) -> List[str]:
         """The names and patterns that have this name."""
@@ -156,6 +192,13 @@ _WORDS = {'call': 'call', 'new': 'new', 'inst': 'call', 'state': 'state', 'appen
 # Those of a list, in the order in which they are written.
 _OF_LISTS = ('call', 'new', 'state', 'fill')
 _ALL = frozenset(_OF_LISTS)
+# What is done with what a call made: those of a list, and the word by which they are looked up.
+_OF_MADE = {f'made-{word}': word for word in _OF_LISTS}
+# It allows nothing of that. Among the shapes of a call it says that this was looked at.
+MADE = 'made'
+_ABOUT_MADE = frozenset((MADE, *_OF_MADE))
+# What is no import and has a name of its own in the program's gate.
+_NO_IMPORTS = ('persistent', 'buffer')
 # The kinds of arguments in a shape, and what each stands for.
 KINDS: Dict[str, str] = {
     'text': 'a text', 'short': 'a text or bytes, 64 at most', 'fraction': 'a text of digits, with one / at most', 'bytes': 'bytes',
@@ -174,6 +217,8 @@ GIVEN = 'given'
 _PART = r"""(?:(?:raw )?(?:'(?:[^'\\]|\\.)*'|"(?:[^"\\]|\\.)*")|\#[0-9*]+)"""
 _IN_PARTS = re.compile(f'{_PART} {_PART}')
 _NUMBER = re.compile(r'ext [0-9*]+')
+# What the program's gate takes of all these.
+_OF_GATE = re.compile(r"""[^\s'"#]+|ext (?:[0-9]+|\*)""")
 # (a line of any length may be given as a list)
 _MOST_SHOWN = 80
 
@@ -182,16 +227,19 @@ def read_line(line: str) -> Optional[Line]:
     """What a line of a list says; None for an empty line and a comment. Raises NoList where it has no meaning. This is the grammar:
 
         line    = [entry | "include" LIST] ["#" note]
-        entry   = (name | pattern) [":" {"call" | "call(" shape ")" | "then(" shape ")" | "new" | "state" | "fill"}]
-        name    = word "." word {"." word} | part " " part | "ext" number
+        entry   = (name | pattern) [":" {use | "made-" use | "made" | "call(" shape ")" | "then(" shape ")"}]
+        use     = "call" | "new" | "state" | "fill"
+        name    = word "." word {"." word} | part " " part | "ext" number | "persistent" | "buffer"
         part    = ["raw"] text in quotes | "#" number
         pattern = a name with stars in it, or stars alone
         shape   = what `shapes.py` says
 
     >>> read_line('# of our own'), read_line('include numpy  # arrays')
-    (None, Line(name='numpy', words=frozenset(), note='arrays', is_include=True, shapes=frozenset(), states=frozenset()))
+    (None, Line(name='numpy', words=frozenset(), note='arrays', is_include=True, shapes=frozenset(), states=frozenset(), made=None))
     >>> sorted(read_line("'os ' 'x #': call new").words)
     ['call', 'new']
+    >>> read_line('app.Job: call made-state').made, read_line('app.Job: call made').made
+    (frozenset({'state'}), frozenset())
     >>> read_line('import numpy')
     Traceback (most recent call last):
     picklestep.scan.names.NoList: no name, no pattern and no include: import numpy
@@ -223,13 +271,24 @@ def _read_entry(text: str) -> Line:
         return Line(rest.strip(), frozenset(), note, is_include=True)
     head, colon, tail = entry.rpartition(':')
     said = _THEN.sub(' ', _SHAPE.sub(' call ', tail))
-    has_words = bool(colon) and _ALL.issuperset(said.split())
+    has_words = bool(colon) and (_ALL | _ABOUT_MADE).issuperset(said.split())
     name, words = (head.strip(), frozenset(said.split())) if has_words else (entry, _ALL)
     if not _is_name(name):
         raise NoList(_why(name))
     shapes = frozenset(map(_shape, _SHAPE.findall(tail))) if has_words and 'call' not in _THEN.sub(' ', _SHAPE.sub(' ', tail)).split() else frozenset()
-    return Line(name, words | {'new'} if 'call' in words else words, note, shapes=shapes,
-                states=frozenset(map(_shape, _THEN.findall(tail))) if has_words else frozenset())
+    made = words & _ABOUT_MADE
+    return Line(name, _with_new(words - made), note, shapes=shapes, states=frozenset(map(_shape, _THEN.findall(tail))) if has_words else frozenset(),
+                made=_with_new(frozenset(_OF_MADE[word] for word in made if word != MADE)) if made else None)
+
+
+def _with_new(words: FrozenSet[str]) -> FrozenSet[str]:
+    """Who may call a class may have it made."""
+    return words | {'new'} if 'call' in words else words
+
+
+def _made_words(made: Optional[FrozenSet[str]]) -> List[str]:
+    """The words that say what may be done with what calls make."""
+    return [] if made is None else [word for word, what in _OF_MADE.items() if what in made] or [MADE]
 
 
 def _shape(text: str) -> str:
@@ -242,7 +301,7 @@ def _shape(text: str) -> str:
 
 def _is_name(name: str) -> bool:
     """Whether this is a name as `scan` shows it, or a pattern that such a name may fit."""
-    if _IN_PARTS.fullmatch(name) or _NUMBER.fullmatch(name) or name.startswith("'") and '*' in name:
+    if _IN_PARTS.fullmatch(name) or _NUMBER.fullmatch(name) or name in _NO_IMPORTS or name.startswith("'") and '*' in name:
         return True
     parts = name.split('.')
     has_dot = len(parts) > 1 or '**' in name or name == '*'
@@ -255,10 +314,10 @@ def _why(name: str) -> str:
     if name.isidentifier():
         return f'no name, since it has no dot: {said} (the names of a set or a file: include {said})'
     head, colon, tail = name.partition(':')
-    wrong = [word for word in tail.split() if word not in _ALL]
+    wrong = [word for word in tail.split() if word not in _ALL | _ABOUT_MADE]
     if colon and wrong and _is_name(head.strip()):
-        near = nearest(wrong[0], 'word', _OF_LISTS)
-        return f'behind a colon stand call, new, state and fill, and no other word: {shown(wrong[0][:_MOST_SHOWN])}{near}'
+        near = nearest(wrong[0], 'word', (*_OF_LISTS, *_OF_MADE, MADE))
+        return f'behind a colon stand call, new, state and fill, also behind made-, and no other word: {shown(wrong[0][:_MOST_SHOWN])}{near}'
     return f'no name, no pattern and no include: {said}'
 
 

@@ -6,12 +6,13 @@ Where the results go to the terminal too there is the line alone, since it can b
 from __future__ import annotations
 
 import sys
+from contextlib import closing
 from importlib import import_module
-from typing import Any, Generator, Iterable
+from typing import Any, Callable, Generator, Iterable, Union
 
 from .results import Result
 
-__all__ = ['with_progress']
+__all__ = ['progress_of', 'with_progress']
 
 
 def with_progress(results: Iterable[Result], total: int, what: str = 'files') -> Generator[Result, None, None]:
@@ -25,6 +26,27 @@ def with_progress(results: Iterable[Result], total: int, what: str = 'files') ->
     except ImportError:
         return _counted(results, total, what)
     return _with_bar(results, total, what, progress, console.Console(stderr=True))
+
+
+def progress_of(results: Generator[Result, None, None], total: int,
+                progress: Union[bool, Callable[[int, int], None]]) -> Generator[Result, None, None]:
+    """The results as they come, with a bar for notebooks and terminals where `progress` is true, or a call of it for each."""
+    if progress is False:
+        return results
+    if progress is not True:
+        return _told(results, total, progress)
+    try:
+        bar = import_module('tqdm.auto')
+    except ImportError:
+        return with_progress(results, total)
+    return (result for result in bar.tqdm(results, total=total, unit='file'))
+
+
+def _told(results: Generator[Result, None, None], total: int, tell: Callable[[int, int], None]) -> Generator[Result, None, None]:
+    with closing(results):
+        for done, result in enumerate(results, 1):
+            tell(done, total)
+            yield result
 
 
 def _counted(results: Iterable[Result], total: int, what: str) -> Generator[Result, None, None]:

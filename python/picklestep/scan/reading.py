@@ -12,6 +12,7 @@ from typing import Callable, Dict, Iterable, List, Optional, Tuple
 from .. import library
 from ..answers import closing_in
 from ..errors import OutOfMemory, PicklestepError, ProgramError, TimedOut
+from ..hints import OLD_TORCH
 from ..program import Process, time_to_wait
 from ..reaches import LineKey, line_of, number_in, offset_of, reach_of, reached_lines, text_of
 from ..records import End, Extension, Global, Name, Ref
@@ -39,6 +40,11 @@ _WITH_NAME = ('import', 'inst', 'call', 'new')
 
 # These lines say that something is given a state or filled. What that is stands at their end, and so does what an import gives.
 _CHANGES = ('state', 'append', 'set', 'add')
+
+# What is done in such lines, and in those that call what has no name, where it is done with what a call made.
+_DONE_WITH_MADE = {'call': 'made-call', 'inst': 'made-call', 'new': 'made-new', 'state': 'made-state', **dict.fromkeys(('append', 'set', 'add'), 'made-fill')}
+_MAKES_MORE = ('made-call', 'made-new')
+_CALLEE = re.compile(r' #([0-9]+)')
 
 # These lines alone show no pickle: many texts begin with the letters P and Q, and what a loader does with such an id is its own.
 _WEAK = ('persistent', 'buffer', 'readonly')
@@ -69,7 +75,7 @@ _PLAIN = re.compile(r"'?[^\W\d]\w*(\.[^\W\d]\w*)*('? #[0-9]+)?")
 _ODD = re.compile(r"'(?=[^']*[^\W\d])[\w.+@-]+' '?[^\W\d]\w*(\.[^\W\d]\w*)*'?")
 _WORKED_OUT = re.compile(r'^#| #[0-9]+$|^ext ')
 
-_LEGACY_TORCH = b'\x80\x02\x8a\x0al\xfc\x9cF\xf9 j\xa8P\x19.'
+_LEGACY_TORCH = b'\x80\x02' + OLD_TORCH + b'.'
 
 
 class Enough(Exception):
@@ -195,8 +201,14 @@ class Summary:
         """What a line is counted by. It is kept with the first line of its kind about its name."""
         what, quoted = key
         odd = self._arguments.odd_state(number_in(match), line_of(match), match.end()) if what == 'state' else None
+        limited = self._limited_in(what, match) if quoted is None else None
+        done = None if limited is None else self._done_with_made(_DONE_WITH_MADE[what], limited, match)
         if odd is not None:
+            if done is not None:
+                done.count += 1
             return self._odd_state(odd[0], odd[1], match)
+        if done is not None:
+            return done
         if what in _CHANGES:
             name = self._imported.get(number_in(match), '')
             return self._found.get((what, name, self._part)) or self._first_of(what, name, _Known(name, False), match)
@@ -216,6 +228,21 @@ class Summary:
     def _is_asked(self, quoted: str) -> bool:
         """Whether the arguments of each call of a name are asked about."""
         return len(quoted) <= _SHORT and self._arguments.has(_known_by(quoted).shown)
+
+    def _limited_in(self, what: str, match: 're.Match[str]') -> Optional[str]:
+        """The name whose call made what a line calls, fills or gives a state, where a list says what may be done with that."""
+        if not self._arguments.has_limited:
+            return None
+        if what in _CHANGES:
+            return self._arguments.limited(number_in(match))
+        callee = _CALLEE.match(line_of(match), match.end()) if what in _DONE_WITH_MADE else None
+        return None if callee is None else self._arguments.limited(callee[1])
+
+    def _done_with_made(self, what: str, name: str, match: 're.Match[str]') -> '_Found':
+        """What a line is counted by that does something with what a call of a name made."""
+        if what in _MAKES_MORE:
+            self._arguments.make(number_in(match), name)
+        return self._found.get((what, name, self._part)) or self._first_of(what, name, _Known(name, False), match)
 
     def _odd_state(self, name: str, fits: Tuple[str, ...], match: 're.Match[str]') -> '_Found':
         """What a line is counted by that gives an object, which a call made, a state that lists do not have for it."""

@@ -14,7 +14,7 @@ from functools import lru_cache
 from typing import Dict, FrozenSet, Iterable, Optional, Pattern, Set, Tuple
 
 from .allow import SETS, read_names
-from .names import KINDS, Names
+from .names import KINDS, MADE, Names
 
 __all__ = ['Shapes', 'shapes_of']
 
@@ -71,10 +71,12 @@ def _pattern(shape: str) -> Pattern[str]:
 
 
 class Shapes:
-    """The shapes that lists have for names."""
+    """The shapes that lists have for names, and for which names one of them says what may be done with what calls make."""
 
-    def __init__(self, lists: Iterable[Names]) -> None:
-        self._lists = list(lists)
+    def __init__(self, sets: Names, given: Names) -> None:
+        self._lists = [sets, given]
+        self._given = given
+        self._limits: Dict[str, bool] = {}
         self._by_name: Dict[str, Tuple[str, ...]] = {}
         self._states: Dict[str, Tuple[str, ...]] = {}
 
@@ -92,11 +94,17 @@ class Shapes:
             self._states[name] = tuple(sorted(found))
         return self._states[name]
 
+    def limits_made(self, name: str) -> bool:
+        """Whether the list that was given says of a name what may be done with what its calls make."""
+        if name not in self._limits:
+            self._limits[name] = self._given.limits_made(name)
+        return self._limits[name]
+
 
 @lru_cache(maxsize=64)
 def shapes_of(lines: Tuple[str, ...]) -> Shapes:
     """The shapes of these lines, and of the sets of the package."""
-    return Shapes([_of_sets(), Names(lines)])
+    return Shapes(_of_sets(), Names(lines))
 
 
 @lru_cache(maxsize=None)
@@ -112,10 +120,12 @@ class Arguments:
         self._endless: Set[str] = set()
         # The objects of which lists say which state they may get, each with the name that was called.
         self._made: Dict[str, str] = {}
+        # Those of which a list says what may be done with them, likewise.
+        self._limited: Dict[str, str] = {}
 
     def has(self, name: str) -> bool:
         """Whether the arguments of its calls are asked about."""
-        return name in _ENDLESS or bool(self._shapes.of(name) or self._shapes.states(name))
+        return name in _ENDLESS or bool(self._shapes.of(name) or self._shapes.states(name)) or self._shapes.limits_made(name)
 
     def fits(self, name: str, line: str, at: int) -> Tuple[str, ...]:
         """Which of the shapes for a name the arguments have, which stand at a place of a line, behind the name."""
@@ -126,7 +136,23 @@ class Arguments:
             self._endless.add(line.rpartition('#')[2])
         if self._shapes.states(name):
             self._made[line.rpartition('#')[2]] = name
+        if self._shapes.limits_made(name):
+            self._limited[line.rpartition('#')[2]] = name
+            fits = (*fits, MADE)
         return fits
+
+    @property
+    def has_limited(self) -> bool:
+        """Whether there is an object of which a list says what may be done with it."""
+        return bool(self._limited)
+
+    def limited(self, number: str) -> Optional[str]:
+        """The name whose call made an object, or made what was called, and so on, where a list says what may be done with it."""
+        return self._limited.get(number)
+
+    def make(self, number: str, name: str) -> None:
+        """A call of such an object made another one."""
+        self._limited[number] = name
 
     def odd_state(self, number: str, line: str, at: int) -> Optional[Tuple[str, Tuple[str, ...]]]:
         """The name whose call made an object that gets a state, and which of its shapes the state has. None where it has all of them."""

@@ -7,13 +7,13 @@ import errno
 import os
 from dataclasses import dataclass, field
 from pathlib import Path
-from typing import Callable, Dict, Iterable, Iterator, List, Set
+from typing import Callable, Dict, Iterable, Iterator, List, Sequence, Set
 
 from ..saving import open_text, written_whole
 from ..sources import is_opened
 from .allow import SETS, lines_of, read_names
 from .known import known_names
-from .looks import Judge
+from .looks import Judge, Look
 from .names import Names, NoList, read_comment, words_for
 from .results import Result
 from .through import why_through
@@ -41,7 +41,7 @@ class Used:
     def __init__(self) -> None:
         self._uses: Dict[str, _Use] = {}
 
-    def add(self, result: Result) -> None:
+    def add(self, result: Result, looks: Sequence[Look] = ()) -> None:
         """Counts what a file imports."""
         for pickle in result.pickles:
             place = place_of(result.path, pickle.where)

@@ -5,6 +5,6 @@ A container passes only if every byte of it is accounted for: each `verify` answ
 lenient readers beside this package still look into whatever is noted.
 """
 
-from .forms import Form, Member, NotCanonical
+from .forms import Form, Member, NotCanonical, NotKnown
 
-__all__ = ['Form', 'Member', 'NotCanonical']
+__all__ = ['Form', 'Member', 'NotCanonical', 'NotKnown']

@@ -13,7 +13,7 @@ from ...program import run_program, time_to_wait
 from ...replies import IN_FORM, other_form
 from ...texts import LinesError
 from ..blobs import Blob, Budget, FileBlob, JoinedBlob, PartMet, spooled
-from .forms import NotCanonical
+from .forms import NotCanonical, NotKnown
 
 __all__ = ['BEHIND', 'content_of', 'require_form']
 
@@ -40,7 +40,7 @@ def require_form(blob: Blob, budget: Optional[Budget] = None, begin: int = 0) ->
     try:
         other = other_form(answer.decode('ascii'))
     except (LinesError, UnicodeDecodeError) as error:
-        raise NotCanonical('the program does not say whether it is') from error
+        raise NotKnown('the program does not say whether it is') from error
     if other is not None:
         offset = blob.offset_of(other.offset) if isinstance(blob, JoinedBlob) else other.offset
         raise NotCanonical(other.reason, begin + offset)
@@ -66,4 +66,4 @@ def _run(path: str, size: int, budget: Optional[Budget]) -> bytes:
     except (OutOfMemory, TimedOut) as error:
         raise PartMet('reading it strictly would take more time or memory than there is') from error
     except PicklestepError as error:
-        raise NotCanonical(f'the program does not say whether it is: {error}') from error
+        raise NotKnown(f'the program does not say whether it is: {error}') from error

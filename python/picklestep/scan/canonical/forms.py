@@ -5,7 +5,7 @@ from __future__ import annotations
 from dataclasses import dataclass
 from typing import Any, Dict, NoReturn, Optional, Tuple
 
-__all__ = ['Form', 'Member', 'NotCanonical', 'WRITERS', 'count_of_shape', 'require', 'wrong']
+__all__ = ['Form', 'Member', 'NotCanonical', 'NotKnown', 'WRITERS', 'count_of_shape', 'require', 'wrong']
 
 # Who writes the forms of pickles, as a line names it. (`containers` has those of containers.)
 WRITERS: Dict[str, str] = {
@@ -24,6 +24,10 @@ class NotCanonical(Exception):
 
     def __str__(self) -> str:
         return self.reason if self.offset < 0 else f'{self.reason}, at {self.offset}'
+
+
+class NotKnown(NotCanonical):
+    """Whether the bytes are in the form cannot be found out."""
 
 
 def wrong(reason: str, offset: int = -1) -> NoReturn:

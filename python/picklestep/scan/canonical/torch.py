@@ -8,6 +8,7 @@ from __future__ import annotations
 import re
 from typing import Any, Dict, List, NamedTuple, Optional, Sequence, Tuple
 
+from ...hints import OLD_TORCH as MAGIC
 from ...texts import persistent_lines, storage_of
 from ..blobs import Blob, Budget
 from .forms import Member, require, wrong
@@ -15,8 +16,6 @@ from .pickles import Global, PDict, PList, Pickle, read_pickle
 
 __all__ = ['MAGIC', 'TAR_MEMBERS', 'Rows', 'Storages', 'legacy', 'storages_in', 'storages_of', 'tar_member', 'with_numbers']
 
-# The number at the beginning of the layout before 1.6, in protocols 2 and later: LONG1 and its bytes.
-MAGIC = b'\x8a\x0al\xfc\x9cF\xf9 j\xa8P\x19'
 _MAGIC, _VERSION = 0x1950A86A20F9469CFC6C, 1001
 _SYSTEM = {'protocol_version', 'little_endian', 'type_sizes'}
 TAR_MEMBERS = frozenset({'storages', 'tensors', 'pickle'})

@@ -31,6 +31,8 @@ def look_into(looker: Looker, held: Held) -> bool:
     for member in form.members:
         looker.budget.member()
         inner, content = where + (member.name,), blob.part(member.offset, member.size)
+        if not looker.wants(inner):
+            continue
         if member.role != 'file':
             if is_torch and member.name in torch.TAR_MEMBERS:
                 looker.note_form(inner, WRITERS['torch-tar'], NotCanonical('it is no file, and torch reads as this member whatever it leads to'))
@@ -41,7 +43,7 @@ def look_into(looker: Looker, held: Held) -> bool:
             continue
         before = len(looker.notes)
         looker.look_at(content, inner, (member.name,), depth + 1)
-        if not any(note.missed for note in looker.notes[before:]) and kind_of(content.read(0, 4)) is ZIP:
+        if not any(note.is_marked for note in looker.notes[before:]) and kind_of(content.read(0, 4)) is ZIP:
             held.spans.append((member.offset, member.offset + member.size))
     return True
 
@@ -56,6 +58,8 @@ def _look_into_odd(looker: Looker, held: Held) -> None:
             continue
         inner = where + (member.name,)
         looker.note_name(member.name, inner, seen)
+        if not looker.wants(inner):
+            continue
         for text in member.odd:
             looker.note(inner, text)
         for text in member.missed:

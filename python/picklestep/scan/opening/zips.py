@@ -38,7 +38,7 @@ def look_at_end(looker: Looker, held: Held, head: bytes) -> bool:
     if not records and not has_end:
         return False
     if records:
-        looker.note(where, f'the closing record of a zip archive stands at {records[0]}: some readers take it for one', missed=True)
+        looker.note_odd(where, f'the closing record of a zip archive stands at {records[0]}: some readers take it for one')
     if not has_end:
         return False
     if looker.is_too_deep(held):
@@ -68,9 +68,9 @@ def look_into(looker: Looker, held: Held) -> bool:
         members, read = _with_numbers(looker, blob, form, pickle, where)
     for member in members:
         looker.budget.member()
-        if member.role == 'folder':
-            continue
         inner = where + (member.name,)
+        if member.role == 'folder' or not looker.wants(inner):
+            continue
         if member.role == 'numbers':
             looker.look_at_numbers(blob.part(member.offset, member.size), inner, (member.name,), depth + 1)
         else:
@@ -160,7 +160,8 @@ def _look_into_odd(looker: Looker, held: Held) -> None:
         if (entry.name, entry.header) not in headers:
             headers.add((entry.name, entry.header))
             looker.note_name(entry.name, inner, seen)
-        _look_at_entry(looker, blob, entry, inner, depth + 1)
+        if looker.wants(inner):
+            _look_at_entry(looker, blob, entry, inner, depth + 1)
     for start, end in archive.gaps:
         looker.look_at_gap(blob, start, end, where, held.names if start == 0 else (), depth + 1)
 

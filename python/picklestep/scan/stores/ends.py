@@ -26,9 +26,9 @@ def note_file(looker: 'Looker', held: Held, end: Optional[int]) -> None:
     """Notes where a store is named as a pickle, and where bytes stand behind its end, which are looked at. (Some stores grow by zeros.)"""
     blob, where = held.blob, held.where
     if any(is_pickle_name(name) for name in held.names):
-        looker.note(where, f'its name says that it is a pickle, and it is {held.kind}', missed=True)
+        looker.note_odd(where, f'its name says that it is a pickle, and it is {held.kind}')
     if end is not None and 0 < end < blob.size and not blob.is_zeros(end, blob.size):
-        looker.note(where, f'bytes stand behind the end of {held.kind}, at {end}: they are looked at', missed=True)
+        looker.note_odd(where, f'bytes stand behind the end of {held.kind}, at {end}: they are looked at')
         looker.look_at(blob.part(end, blob.size - end), where + (f'(bytes {end} to {blob.size})',), (), held.depth + 1)
 
 

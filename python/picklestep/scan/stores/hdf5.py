@@ -54,7 +54,7 @@ def _look(looker: 'Looker', blob: Blob, where: Place, depth: int) -> None:
         h5py = import_module('h5py')
     except ImportError:
         looker.others += 1
-        looker.note(where, 'hdf5: not opened, since h5py is not installed', missed=True)
+        looker.note(where, 'hdf5: not opened, since h5py is not installed: pip install h5py', missed=True)
         return
     values = Values(looker)
     trouble: List[str] = []

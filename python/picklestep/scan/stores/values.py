@@ -144,8 +144,8 @@ class Values:
     def __init__(self, looker: 'Looker') -> None:
         self.looker = looker
         self.count = 0
-        # Set where values come again and again.
-        self.is_new: Optional[Callable[[bytes, Place], bool]] = None
+        # Set where values come again and again, or one is looked for.
+        self.is_new: Optional[Callable[[bytes, Place], bool]] = looker.wants_value
         self._size = self._unpacked = self._quick = 0
         self._outer = looker.budget
         self._found: Set[int] = set()
@@ -206,6 +206,8 @@ class Values:
         """Looks at a value that may be large."""
         if blob.size <= SMALL:
             self.add(blob.read(0, blob.size), where, depth)
+            return
+        if not self.looker.wants(where):
             return
         self.begin(where, blob.size)
         found, others = len(self.looker.pickles), self.looker.others
@@ -601,7 +603,7 @@ class Values:
             return
         for each, answer in zip(asked, found):
             if answer is NOTHING:
-                self.looker.plain += 1
+                self.looker.take_plain(each.content, each.where)
                 self._found.add(each.value)
             elif answer is None:
                 self._trusts = False
@@ -613,7 +615,7 @@ class Values:
         if answer.trouble is not None:
             self.looker.note(each.where, answer.trouble, missed=True)
         if answer.is_empty and answer.end.is_stopped:
-            self.looker.plain += 1
+            self.looker.take_plain(each.content, each.where)
             self._found.add(each.value)
         elif each.guessed and not _names_something(answer, each.content):
             return
@@ -621,7 +623,7 @@ class Values:
             pickle = answer.pickle(each.where, len(each.content))
             # (Names that are no plain ones are no picklers': whether the rest has their form is noted, as of a file.)
             if each.guessed or all(is_plain_name(found.name) for found in pickle.imports) or not self._is_kept(each):
-                self.looker.pickles.append(pickle)
+                self.looker.take(pickle, BytesBlob(each.content))
             self._found.add(each.value)
         elif (not each.guessed or walk(each.content, 0).is_called) and self._is_kept(each):
             # The program refused it before an import. What a loader makes of it is asked as it is for a file.
