@@ -21,7 +21,6 @@ import sqlite3
 import struct
 import subprocess
 import sys
-import tarfile
 import time
 import unittest
 import zipfile
@@ -45,7 +44,7 @@ from picklestep.scan.looking import Options
 from picklestep.shell import main as shell
 from picklestep.view import main as view
 from pickles import LIST, REAL, chosen
-from scan_support import HARMLESS, HOSTILE, MODELS, Made, environment, zip_of
+from scan_support import HARMLESS, HOSTILE, MODELS, Made, environment, tarred, zip_of
 from test_entrance import PACKAGE, EntranceCase, ways
 from test_hints import HIDDEN, SWALLOWED
 
@@ -59,17 +58,6 @@ def zipped(members: Dict[str, bytes], method: int = zipfile.ZIP_DEFLATED) -> byt
     with zipfile.ZipFile(held, 'w', method) as archive:
         for name, data in members.items():
             archive.writestr(name, data)
-    return held.getvalue()
-
-
-def tarred(members: Dict[str, bytes]) -> bytes:
-    """A tar archive as Python writes it."""
-    held = io.BytesIO()
-    with tarfile.open(fileobj=held, mode='w') as archive:
-        for name, data in members.items():
-            member = tarfile.TarInfo(name)
-            member.size = len(data)
-            archive.addfile(member, io.BytesIO(data))
     return held.getvalue()
 
 

@@ -30,7 +30,7 @@ from picklestep.scan import Options, blobs, look
 from picklestep.scan.blobs import Budget, Limits
 from picklestep.scan.reading import Summary
 from scan_support import (HARMLESS, HOSTILE, MODELS, Made, ScanCase, closing, entry, environment, local, names_of, notes_of, places_of,
-                          zip_of)
+                          tarred, zip_of)
 
 
 class HostileZip(ScanCase):
@@ -418,13 +418,7 @@ class HostileTar(ScanCase):
     """Tar archives."""
 
     def tar(self, **members: bytes) -> bytes:
-        held = io.BytesIO()
-        with tarfile.open(fileobj=held, mode='w') as archive:
-            for name, data in members.items():
-                told = tarfile.TarInfo(name)
-                told.size = len(data)
-                archive.addfile(told, io.BytesIO(data))
-        return held.getvalue()
+        return tarred(members)
 
     def test_a_block_that_is_no_header(self) -> None:
         data = bytearray(self.tar(a=b'text', b=HOSTILE))
