@@ -3,6 +3,7 @@
 from __future__ import annotations
 
 import functools
+import pickle
 from dataclasses import dataclass
 
 from .room import Room, run
@@ -16,6 +17,8 @@ ORDERED = b"\x80\x02ccollections\nOrderedDict\nq\x00)Rq\x01X\x01\x00\x00\x00aq\x
 ORDERED_ON_STACK = b"\x80\x04\x95)\x00\x00\x00\x00\x00\x00\x00\x8c\x0bcollections\x94\x8c\x0bOrderedDict\x94\x93\x94)R\x94\x8c\x01a\x94K\x01s."
 # An object that is made by `__new__` and given a state.
 WITH_STATE = b"\x80\x02cm\nC\nq\x00)\x81q\x01}q\x02X\x01\x00\x00\x00aq\x03K\x01sb."
+# `bytes` in protocol 2: a call with a text and the name of an encoding.
+ENCODED = pickle.dumps(b"abc", 2)
 # In Python 2 `reduce` was in `__builtin__`.
 RENAMED = b"\x80\x02c__builtin__\nreduce\nq\x00."
 PERSISTENT = b"\x80\x02X\x01\x00\x00\x00aq\x00Q."
@@ -26,6 +29,7 @@ IMPORT = "2: not allowed: import 'collections' 'OrderedDict' as #0\n"
 CALL = "30: not allowed: call 'collections' 'OrderedDict' () as #2\n"
 FILL = "43: not allowed: set 1 in #2\n"
 NEW = "10: not allowed: new 'm' 'C' () as #2\n"
+ENCODE = "46: not allowed: call '_codecs' 'encode' ('abc', 'latin1') as #4\n"
 STATE = "27: not allowed: state #3 to #2\n"
 
 
@@ -89,6 +93,20 @@ CASES = (
     Case("bytes behind STOP", b"**", b"N.N.", "not in form: item 2 at 2: bytes behind STOP\n"),
     Case("another form before what is not allowed", b"", b"J\x01\0\0\0" + ORDERED, "not in form: item 0 at 0: a number that has a shorter form\n"),
     Case("another form behind what is not allowed", b"", ORDERED[:-1] + b"0N.", IMPORT),
+    Case("arguments of a shape", b"_codecs.encode: call(text 'latin1')\n", ENCODED, PASSES),
+    Case("arguments of one of two shapes", b"_codecs.encode: call() call(short|held 'latin-1'|'latin1') made\n", ENCODED, PASSES),
+    Case("arguments of a shape in another entry", b"_codecs.encode: call()\n_codecs.*: call(any text)\n", ENCODED, PASSES),
+    Case("an entry without shapes", b"_codecs.encode: call()\n**: call\n", ENCODED, PASSES),
+    Case("an entry without shapes and without a call", b"_codecs.encode: call()\n**: state\n", ENCODED, ENCODE),
+    Case("a call without a shape beside one with a shape", b"_codecs.encode: call() call\n", ENCODED, PASSES),
+    Case("another text", b"_codecs.encode: call(text 'latin-1')\n", ENCODED, ENCODE),
+    Case("the text of another argument", b"_codecs.encode: call('latin1' text)\n", ENCODED, ENCODE),
+    Case("too few arguments", b"_codecs.encode: call(text text text)\n", ENCODED, ENCODE),
+    Case("too many arguments", b"_codecs.encode: call(text)\n", ENCODED, ENCODE),
+    Case("no arguments", b"_codecs.encode: call()\n", ENCODED, ENCODE),
+    Case("arguments of __new__", b"m.C: call(held)\n", WITH_STATE, NEW),
+    Case("arguments of __new__ by its own word", b"m.C: new call(held)\n", WITH_STATE, NEW),
+    Case("a state of a shape, of what __new__ made", b"m.C: new then(held)\n", WITH_STATE, STATE),
     Case("a line that is no entry", b"collections.*\n\n# a note\nno name\n", ORDERED, "not a list: line 4 is no entry\n"),
     Case("a word that there is not", b"collections.OrderedDict: cal\n", ORDERED, "not a list: line 1 is no entry\n"),
     Case("two lines that are no entries, and no pickle", b"a.b\n1.b\n:\n", b"", "not a list: line 2 is no entry\n"),

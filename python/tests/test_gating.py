@@ -3,29 +3,35 @@
 from __future__ import annotations
 
 import collections
+import fractions
 import io
 import itertools
 import pickle
+import random
 import struct
 import subprocess
 import sys
 import tarfile
+import tempfile
 import unittest
 import unittest.mock
 import zipfile
+from pathlib import Path
 from typing import Any, Iterator, List, Sequence, Tuple
 
 import picklestep
+import test_shapes
 from picklestep import library
 from picklestep.records import GateAnswer
 from picklestep.replies import gate_answer
-from picklestep.scan import checking
-from picklestep.scan.names import NoList
+from picklestep.scan import Options, checking, look_at_bytes
+from picklestep.scan.blobs import Limits
+from picklestep.scan.names import Names, NoList
 from picklestep.texts import LinesError
 from pickles import real_pickles
 from real_files import KEPT
 from scan_support import HARMLESS, HOSTILE, MODELS, ScanCase, environment
-from test_sets import LIBRARIES, SCRIPT, set_for
+from test_sets import LIBRARIES, SCRIPT, set_for, write_files
 
 ORDERED = pickle.dumps(collections.OrderedDict(a=1), 4)
 NAME = 'collections.OrderedDict'
@@ -37,6 +43,26 @@ def text(value: str) -> bytes:
 
 # A pickle that a pickler of protocol 2 writes: a call with two texts, which keeps each object in the memo.
 CALL = b'\x80\x02c_codecs\nencode\nq\x00' + text('a') + b'q\x01' + text('%s') + b'q\x02\x86q\x03Rq\x04.'
+
+
+class Called:
+    """What a pickler writes as a call, of what and with which arguments."""
+
+    def __init__(self, *reduced: object) -> None:
+        self.reduced = reduced
+
+    def __reduce__(self) -> Tuple[Any, ...]:
+        return self.reduced
+
+
+# Arguments, each with some words that take it; and words for any.
+GIVEN: Tuple[Tuple[object, str], ...] = (
+    ('', 'text short any'), ('a', "text short any 'a'"), ('latin1', "text 'latin1' short"), ('x' * 65, 'text any'), ('3/4', 'fraction text'), ('-12', 'fraction text'),
+    ('1/2/3', 'text'), ('1/', 'text'), (b'', 'bytes'), (b'ab', 'bytes short any'), (b'y' * 65, 'bytes'), (0, 'number small 0 any'), (3, 'number small 3'),
+    (-5, 'number small -5'), (999999, 'small'), (-999999, 'small'), (1000000, 'number'), (2 ** 31, 'number'), (2 ** 70, 'number'), (1.5, 'number any'), (True, 'bool number'),
+    (False, 'bool'), (None, 'none any'), ([], 'held any'), ([1], 'held'), ((), 'held'), ((1, 2), 'held any'), ({}, 'held'), (collections.OrderedDict, f'class any {NAME}'),
+    (fractions.Fraction, 'class fractions.Fraction any'), (range(5), 'any held'), (collections.OrderedDict(), 'held any'))
+WORDS = ('text', 'short', 'fraction', 'bytes', 'number', 'small', 'bool', 'none', 'held', 'class', 'any', "'a'", "'latin1'", '0', '3', '-5', NAME, 'fractions.Fraction')
 
 
 def encoding(name: str) -> bytes:
@@ -91,9 +117,48 @@ class Answers(unittest.TestCase):
     def test_shapes(self) -> None:
         self.assertTrue(picklestep.gate(encoding('latin1'), allow=['plain']))
         answer = picklestep.gate(encoding('punycode'), allow=['plain'])
-        self.assertEqual((answer.passes, answer.kind, answer.offset), (False, 'arguments', encoding('punycode').index(b'R')))
+        self.assertEqual((answer.passes, answer.kind, answer.offset), (False, 'not allowed', encoding('punycode').index(b'R')))
         self.assertIn("('a', 'punycode')", answer.line)
         self.assertTrue(picklestep.gate(encoding('punycode'), names=['_codecs.encode: call']))
+
+    def test_what_no_pickler_writes_does_not_pass(self) -> None:
+        """With the set that allows its name. `alone` is the same as `held` here, so an index may be made over a range."""
+        passed = [name for name, word, made in test_shapes.HOSTILE if picklestep.gate(b'\x80\x02' + made + b'.', allow=[word])]
+        self.assertEqual(passed, ['an index over a range'])
+
+    def test_what_picklers_write_passes(self) -> None:
+        for value, protocol in itertools.product(test_shapes.HONEST, range(6)):
+            content = pickle._dumps(value, protocol)  # type: ignore[attr-defined]
+            if picklestep.form(content) is None:
+                answer = picklestep.gate(content, allow=['plain'], names=['test_shapes.*: call'])
+                self.assertTrue(answer, (value, protocol, answer.line))
+
+    def test_a_class_needs_a_word_through_copyreg(self) -> None:
+        """The set `plain` makes objects of no class that a list only imports, or of which it limits the arguments."""
+        content = pickle.dumps(test_shapes.Kind([1]), 0)
+        for line, passes in (('test_shapes.Kind: new', True), ('test_shapes.Kind: call', True), ('test_shapes.Kind:', False), ('test_shapes.Kind: call(held)', False),
+                             ('test_shapes.Kind: state fill', False)):
+            with self.subTest(line):
+                self.assertEqual(bool(picklestep.gate(content, allow=['plain'], names=[line])), passes)
+
+    def test_shapes_are_those_of_scan(self) -> None:
+        """Random shapes take the same random arguments in the program and in `scan`, which holds lines of `calls` against patterns."""
+        chance, taken = random.Random(77), 0
+        for _ in range(300):
+            given = [chance.choice(GIVEN) for _ in range(chance.choice((0, 1, 1, 2, 3)))]
+            words = [chance.choice((*kinds.split(), *kinds.split(), chance.choice(WORDS))) for _, kinds in given]
+            shape = ' '.join(word if chance.random() < 0.8 else f'{word}|{chance.choice(WORDS)}' for word in words[chance.random() < 0.1:])
+            protocol = chance.choice((0, 1, 2, 3, 4, 4))
+            content = pickle.dumps(Called(collections.Counter, tuple(value for value, _ in given)), protocol)
+            lines = [f'collections.Counter: call({shape})', '**: state fill', 'builtins.range: call', f'{NAME}: call', '_codecs.encode: call', 'builtins.bytes: call']
+            names = Names(lines)
+            result = look_at_bytes('a.pkl', content, Options(Limits(shapes=names.with_shapes())))
+            calls = [done for each in result.pickles for done in each.calls if done.name == 'collections.Counter']
+            self.assertTrue(calls)
+            answer = picklestep.gate(content, names=lines)
+            self.assertEqual(answer.passes, all(names.allows_done(done.what, done.name, done.fits) for done in calls), (shape, given, protocol, answer.line))
+            taken += answer.passes
+        self.assertGreater(taken, 150)
 
     def test_names_in_quotes_allow_nothing(self) -> None:
         content = b'\x80\x02cos \nx\nq\x00.'
@@ -259,6 +324,18 @@ class Honest(unittest.TestCase):
                 for file, content in files:
                     with self.subTest(name, file=file):
                         passed += self.tried(set_for(name, file), content, ['persistent:'])
+                self.assertGreaterEqual(passed, 1 if name == 'joblib' else 10, name)
+
+    def test_written_files(self) -> None:
+        """What the libraries of this machine write, in each protocol."""
+        for name in LIBRARIES:
+            with tempfile.TemporaryDirectory() as folder:
+                passed = 0
+                if not write_files(Path(folder), name):
+                    continue
+                for path in sorted(Path(folder).iterdir()):
+                    with self.subTest(name, file=path.name):
+                        passed += self.tried(set_for(name, path.name), path.read_bytes(), ['persistent:'])
                 self.assertGreaterEqual(passed, 1 if name == 'joblib' else 10, name)
 
     def test_model_files(self) -> None:

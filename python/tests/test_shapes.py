@@ -140,7 +140,7 @@ def read_lines_of(word: str) -> List[str]:
 class Lines(ScanCase):
     """Shapes in a list of one's own."""
 
-    MADE: bytes = call('app\nJob', text('mail'), number(3))
+    MADE: bytes = call('app\nJob', text('mail'), b'K\x03')
 
     def allowed(self, *lines: str) -> bool:
         content = b'\x80\x02' + self.MADE + b'.'

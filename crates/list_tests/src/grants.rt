@@ -69,7 +69,7 @@ const NAMES: [Row; 16] = [
 ];
 
 /// Words.
-const WORDS: [Row; 12] = [
+const WORDS: [Row; 14] = [
     (b"a.b:", b"a.b", b"/call new state fill"),
     (b"a.b: call", b"a.b", b"call new/call new state fill"),
     (b"a.b: new", b"a.b", b"new/call new state fill"),
@@ -88,6 +88,12 @@ const WORDS: [Row; 12] = [
         b"a.b: call made\n# a note\na.*: made-state\na.c",
         b"a.b",
         b"call new/state",
+    ),
+    (b"a.b: call(text)", b"a.b", b"call new/call new state fill"),
+    (
+        b"a.b: fill call() then(none) made",
+        b"a.b",
+        b"call new fill/",
     ),
     (
         b" \ta.b :\tcall  made-fill # all of it\r\n",

@@ -5,7 +5,7 @@ use std::alloc::{AllocError, Global};
 use std::test::Fail;
 
 /// Texts of lists, and how many entries they have.
-const LISTS: [(&[u8], usize); 12] = [
+const LISTS: [(&[u8], usize); 15] = [
     (b"", 0),
     (b"\n \t\r\n# a note\n   # another\n", 0),
     (b"a.b", 1),
@@ -21,10 +21,19 @@ const LISTS: [(&[u8], usize); 12] = [
     (b"a.b#c d", 1),
     (b"a.b # call(text)", 1),
     (b"a.b.c.d: call call\r\n", 1),
+    (b"_codecs.encode: call(text 'latin1')  # bytes", 1),
+    (
+        b"a.b: call(text|short fraction) new then( 3  -3|none ) made-state\na.b: call(class|new|any a.b.c) call\n",
+        2,
+    ),
+    (
+        b"a.b: call(bytes number small bool held alone 'a+b-c.d_1'|\t0)",
+        1,
+    ),
 ];
 
 /// Texts that are no lists, and the first line that is none.
-const WRONG: [(&[u8], usize); 24] = [
+const WRONG: [(&[u8], usize); 40] = [
     (b"os", 1),
     (b"a.b\nos\nsys", 2),
     (b"a.b\n\n# x\ninclude numpy", 4),
@@ -36,7 +45,23 @@ const WRONG: [(&[u8], usize); 24] = [
     (b"a.1b", 1),
     (b"a.b-c", 1),
     (b"a.b: run", 1),
-    (b"a.b: call(text)", 1),
+    (b"a.b: call(text", 1),
+    (b"a.b: call text)", 1),
+    (b"a.b: call)", 1),
+    (b"a.b: (text)", 1),
+    (b"a.b: new(text)", 1),
+    (b"a.b: made-call(text)", 1),
+    (b"a.b: recall(text)", 1),
+    (b"a.b: call(texts)", 1),
+    (b"a.b: call(text|)", 1),
+    (b"a.b: call(|text)", 1),
+    (b"a.b: call(text || text)", 1),
+    (b"a.b: call('')", 1),
+    (b"a.b: call('a b')", 1),
+    (b"a.b: call('a'b')", 1),
+    (b"a.b: call(--3)", 1),
+    (b"a.b: call(a.*)", 1),
+    (b"a.b: call(call(text))", 1),
     (b"a.b: call (text)", 1),
     (b"a.b: call then(any)", 1),
     (b"a.b: call: new", 1),

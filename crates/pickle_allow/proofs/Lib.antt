@@ -5,3 +5,4 @@ pub mod Grants
 pub mod Cuts
 pub mod Reading
 pub mod NoImports
+pub mod Taking

@@ -1,13 +1,15 @@
 -- The text of a list: its lines, and what they list.
 -- Source: own. `picklestep scan --allow` takes more lines than these (docs/SCAN.md, "What is allowed"); a line that both take means the same.
 use Rattle.std.specs.Prelude.{◌≡◌, ℕ, ◌+◌, nat_le, ◌==◌, ◌&&◌, ◌||◌, not, if◌then◌else◌, Bool, true, false, List, [], ◌∷◌, ◌++◌, map, take, drop, codes, Option, Some, None, Result, Ok, Err}
-use Rattle.std.specs.Option.{option_map, option_map_or, unwrap_or}
+use Rattle.std.specs.Option.{is_some, option_map, option_map_or, unwrap_or}
 use Rattle.std.specs.List.{list_all, list_any, slice_split}
 use Rattle.std.specs.Str.{bytes_eq}
 use Rattle.pickle_allow.specs.declared.list.Use.{Use}
 use Rattle.pickle_allow.specs.declared.list.Use.TheVariants as use_of
 use Rattle.pickle_allow.specs.declared.list.Uses.{Uses}
 use Rattle.pickle_allow.specs.declared.list.Entry.{Entry}
+use Rattle.pickle_allow.specs.declared.sort.Sort.{Sort}
+use Rattle.pickle_allow.specs.declared.sort.Sort.TheVariants as sort
 use Rattle.pickle_allow.specs.declared.words.Word.{Word}
 use Rattle.pickle_allow.specs.declared.words.Word.TheVariants as word
 use Rattle.pickle_allow.specs.declared.words.Said.{Said}
@@ -30,6 +32,22 @@ is_hash c = c == 35
 
 abbrev pub is_colon : ℕ → Bool
 is_colon c = c == 58
+
+-- `(`, `)`, `|`, `'`, `/`
+abbrev pub is_open : ℕ → Bool
+is_open c = c == 40
+
+abbrev pub is_close : ℕ → Bool
+is_close c = c == 41
+
+abbrev pub is_bar : ℕ → Bool
+is_bar c = c == 124
+
+abbrev pub is_quote : ℕ → Bool
+is_quote c = c == 39
+
+abbrev pub is_slash : ℕ → Bool
+is_slash c = c == 47
 
 abbrev pub is_digit : ℕ → Bool
 is_digit c = nat_le 48 c && nat_le c 57
@@ -101,6 +119,68 @@ is_extension bytes = bytes_eq (take 4 bytes) (codes "ext ") && is_code (drop 4 b
 abbrev pub is_word : List ℕ → Bool
 is_word bytes = bytes_eq bytes (codes "persistent") || bytes_eq bytes (codes "buffer") || is_extension bytes
 
+-- ---- shapes
+
+-- a word for a sort of arguments
+abbrev pub sort_of : List ℕ → Option Sort
+sort_of w =
+    if bytes_eq w (codes "text") then Some sort.Text
+    else if bytes_eq w (codes "short") then Some sort.Short
+    else if bytes_eq w (codes "fraction") then Some sort.Fraction
+    else if bytes_eq w (codes "bytes") then Some sort.Bytes
+    else if bytes_eq w (codes "number") then Some sort.Number
+    else if bytes_eq w (codes "small") then Some sort.Small
+    else if bytes_eq w (codes "bool") then Some sort.Bool
+    else if bytes_eq w (codes "none") then Some sort.None
+    else if bytes_eq w (codes "held") then Some sort.Held
+    else if bytes_eq w (codes "alone") then Some sort.Held
+    else if bytes_eq w (codes "class") then Some sort.Class
+    else if bytes_eq w (codes "new") then Some sort.New
+    else if bytes_eq w (codes "any") then Some sort.Any
+    else None
+
+-- what may stand between quotes
+abbrev pub is_text_byte : ℕ → Bool
+is_text_byte c = is_name_byte c || c == 46 || c == 43 || c == 45
+
+-- a quote that ends bytes
+abbrev pub is_last : Option (List ℕ) → Bool
+is_last None = false
+is_last (Some rest) = is_nothing rest
+
+-- what stands between quotes, if these are the first and the last byte
+abbrev pub quoted : List ℕ → Option (List ℕ)
+quoted [] = None
+quoted (c ∷ w) = if is_quote c && is_last (behind is_quote w) then Some (before is_quote w) else None
+
+-- a text in quotes
+abbrev pub is_quoted : List ℕ → Bool
+is_quoted w = option_map_or (λ (text : List ℕ). list_all is_text_byte text && not (is_nothing text)) (quoted w) false
+
+abbrev pub are_some_digits : List ℕ → Bool
+are_some_digits w = list_all is_digit w && not (is_nothing w)
+
+-- a whole number
+abbrev pub is_whole : List ℕ → Bool
+is_whole [] = false
+is_whole (c ∷ w) = if c == 45 then are_some_digits w else are_some_digits (c ∷ w)
+
+-- the name of an import, which is no pattern
+abbrev pub is_import : List ℕ → Bool
+is_import w = is_name w && not (list_any is_star w)
+
+-- what an argument may be
+abbrev pub is_kind : List ℕ → Bool
+is_kind w = is_some (sort_of w) || is_quoted w || is_whole w || is_import w
+
+-- what stands between two blanks: nothing, or alternatives for one argument
+abbrev pub is_item : List ℕ → Bool
+is_item w = is_nothing w || list_all is_kind (slice_split is_bar w)
+
+-- an item for each argument
+abbrev pub is_shape : List ℕ → Bool
+is_shape text = list_all is_item (slice_split is_blank text)
+
 -- ---- what may be done
 
 abbrev pub every_use : Uses
@@ -122,9 +202,9 @@ word_of w =
     else if bytes_eq w (codes "made") then Some word.MadeNothing
     else None
 
--- where nothing is said yet: nothing may be done with it itself; of what it makes nothing is said
+-- where nothing is said yet: nothing may be done with it itself; of what it makes nothing is said, nor of arguments and states
 abbrev pub nothing_said : Said
-nothing_said = record { itself = no_use; made = None }
+nothing_said = record { itself = no_use; made = None; free = false; shaped = false; states = false }
 
 -- what is said of what it makes: that nothing may be done with it, unless more is said
 abbrev pub made_so_far : Said → Uses
@@ -137,9 +217,16 @@ with_use u use_of.New = record u { new = true }
 with_use u use_of.State = record u { state = true }
 with_use u use_of.Fill = record u { fill = true }
 
+-- what the word says of the arguments of calls: `call` alone leaves them free
+abbrev pub frees : Use → Bool
+frees use_of.Call = true
+frees use_of.New = false
+frees use_of.State = false
+frees use_of.Fill = false
+
 -- with one word more
 abbrev pub with_word : Said → Word → Said
-with_word s (word.Itself what) = record s { itself = with_use s.itself what }
+with_word s (word.Itself what) = record s { itself = with_use s.itself what; free = frees what || s.free }
 with_word s (word.Made what) = record s { made = Some (with_use (made_so_far s) what) }
 with_word s word.MadeNothing = record s { made = Some (made_so_far s) }
 
@@ -152,26 +239,63 @@ abbrev pub with_pieces : Said → List (List ℕ) → Option Said
 with_pieces s [] = Some s
 with_pieces s (piece ∷ pieces) = option_map_or (λ (t : Said). with_pieces t pieces) (with_piece s piece) None
 
--- behind a colon stand words; without a colon all is said
+-- pieces one after another, of which the last one is taken otherwise
+abbrev pub to_last : (Said → List ℕ → Option Said) → (Said → List ℕ → Option Said) → Said → List (List ℕ) → Option Said
+to_last one last s [] = None
+to_last one last s (piece ∷ []) = last s piece
+to_last one last s (piece ∷ next ∷ pieces) = option_map_or (λ (t : Said). to_last one last t (next ∷ pieces)) (one s piece) None
+
+-- a word with a shape behind it: of the arguments of calls, or of the state of what a call made
+abbrev pub with_shape : Said → List ℕ → Option Said
+with_shape s w =
+    if bytes_eq w (codes "call") then Some (record s { itself = with_use s.itself use_of.Call; shaped = true })
+    else if bytes_eq w (codes "then") then Some (record s { states = true })
+    else None
+
+-- words, of which the last one has the shape that stands behind `(`
+abbrev pub with_front : Said → List ℕ → Option Said
+with_front s front = to_last with_piece with_shape s (slice_split is_blank front)
+
+-- what stands before `)`, behind the `)` before it
+abbrev pub with_chunk : Said → List ℕ → Option Said
+with_chunk s chunk = option_map_or (λ (shape : List ℕ). if is_shape shape then with_front s (before is_open chunk) else None) (behind is_open chunk) None
+
+-- what stands behind the last `)`
+abbrev pub with_rest : Said → List ℕ → Option Said
+with_rest s bytes = with_pieces s (slice_split is_blank bytes)
+
+-- behind a colon stand words, some of them with shapes; without a colon all is said
 abbrev pub uses_said : Option (List ℕ) → Option Said
-uses_said None = Some (record { itself = every_use; made = None })
-uses_said (Some bytes) = with_pieces nothing_said (slice_split is_blank bytes)
+uses_said None = Some (record nothing_said { itself = every_use; free = true })
+uses_said (Some bytes) = to_last with_chunk with_rest nothing_said (slice_split is_close bytes)
 
 -- ---- lines
 
--- what an entry is: its name or pattern, and what may be done with what has it, and with what its calls made
+-- what an entry is: its name or pattern; what may be done with what has it, and with what its calls made; and, where they are not free, the words with
+-- the shapes of its arguments, and those with the shapes of states
 pub record Row : Type 0 where
   pub pattern : List ℕ
   pub itself : Uses
   pub made : Uses
+  pub shapes : List ℕ
+  pub states : List ℕ
+
+abbrev pub words_if : Bool → Option (List ℕ) → List ℕ
+words_if limited words = if limited then unwrap_or words [] else []
 
 -- where nothing is said of what it makes, all may be done with that
-abbrev pub row_of : List ℕ → Said → Row
-row_of name s = record { pattern = name; itself = s.itself; made = unwrap_or s.made every_use }
+abbrev pub row_of : List ℕ → Option (List ℕ) → Said → Row
+row_of name words s = record {
+  pattern = name;
+  itself = s.itself;
+  made = unwrap_or s.made every_use;
+  shapes = words_if (s.shaped && not s.free) words;
+  states = words_if s.states words;
+}
 
 -- a name, a pattern or a word, with the words that stand behind it
 abbrev pub entry_says : List ℕ → Option (List ℕ) → Option (List Row)
-entry_says name words = if is_name name || is_word name then option_map (λ (s : Said). row_of name s ∷ []) (uses_said words) else None
+entry_says name words = if is_name name || is_word name then option_map (λ (s : Said). row_of name words s ∷ []) (uses_said words) else None
 
 -- what stands before the note
 abbrev pub text_says : List ℕ → Option (List Row)
@@ -198,7 +322,7 @@ unfoldable pub text_lists : List ℕ → Result (List Row) ℕ
 text_lists text = lines_say 1 (slice_split is_newline text)
 
 abbrev pub entry_row : Entry → Row
-entry_row e = record { pattern = e.pattern.now; itself = e.itself; made = e.made }
+entry_row e = record { pattern = e.pattern.now; itself = e.itself; made = e.made; shapes = e.shapes.now; states = e.states.now }
 
 abbrev pub IsListing : List ℕ → Listing → Type 0
 IsListing text (listing.Entries entries) = text_lists text ≡ Ok (map entry_row entries.items)

@@ -7,3 +7,6 @@ pub mod Words
 pub mod Rests
 pub mod Cut
 pub mod Lines
+pub mod Named
+pub mod Arguments
+pub mod Given

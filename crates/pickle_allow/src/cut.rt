@@ -19,6 +19,16 @@ pub(crate) enum Separator {
     Point,
     /// What stands between words.
     Blank,
+    /// What stands before a shape.
+    Open,
+    /// What ends a shape.
+    Close,
+    /// What stands between alternatives.
+    Bar,
+    /// What stands around a text.
+    Quote,
+    /// What stands in a fraction.
+    Slash,
 }
 
 /// The bytes before the first that they are cut at, and what stands behind it, if there is one.
@@ -45,6 +55,11 @@ fn separates(at: Separator, byte: u8) -> bool
         Separator::Colon => byte == b':',
         Separator::Point => byte == b'.',
         Separator::Blank => is_blank(byte),
+        Separator::Open => byte == b'(',
+        Separator::Close => byte == b')',
+        Separator::Bar => byte == b'|',
+        Separator::Quote => byte == b'\'',
+        Separator::Slash => byte == b'/',
     }
 }
 

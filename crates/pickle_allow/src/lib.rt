@@ -2,22 +2,30 @@
 #![tactic(auto)]
 
 mod allow;
+mod arguments;
 mod cut;
 mod grant;
 mod laws;
+mod limit;
 mod line;
 mod list;
 mod listing;
+mod named;
 mod names;
 mod pattern;
 mod read;
+mod shape;
+mod sort;
 mod spelling;
+mod takes;
 mod word;
 mod words;
 
 pub use allow::{entry_of, grant_of};
+pub use arguments::{may_be_given, may_be_set};
 pub use grant::Grant;
 pub use laws::no_word_is_an_import;
+pub use limit::limits_of;
 pub use list::{Entry, Use, Uses};
 pub use listing::Listing;
 pub use names::{import_name, line_text, part_text};

@@ -2,7 +2,7 @@
 
 ghost use Rattle.std.specs.Prelude.{◌≡◌};
 ghost use Rattle.std.specs.Option.{option_map};
-ghost use Rattle.pickle_allow.specs.Grammar.{entry_says, text_says, line_says};
+ghost use Rattle.pickle_allow.specs.Grammar.{words_if, entry_says, text_says, line_says};
 ghost use Rattle.pickle_allow.specs.Lines.{line_rows};
 
 use crate::cut::{Separator, cut, trimmed};
@@ -21,8 +21,18 @@ pub(crate) enum Line<'a> {
     Wrong,
 }
 
+/// The words behind a name, where they limit something.
+fn words_if<'a>(limited: bool, words: Option<&'a [u8]>) -> &'a [u8]
+    ensures { result.now ≡ words_if limited (option_map (λ w. w.now) words.entry) }
+{
+    match words {
+        Some(words) => { if limited { words } else { b"".as_slice() } }
+        None => b"".as_slice(),
+    }
+}
+
 /// The entry of a name, a pattern or a word, and of what stands behind it.
-fn entry_line<'a>(name: &'a [u8], words: Option<&[u8]>) -> Line<'a>
+fn entry_line<'a>(name: &'a [u8], words: Option<&'a [u8]>) -> Line<'a>
     ensures { line_rows result ≡ entry_says name.now (option_map (λ w. w.now) words.entry) }
 {
     if !is_name(name) && !is_word(name) {
@@ -33,6 +43,8 @@ fn entry_line<'a>(name: &'a [u8], words: Option<&[u8]>) -> Line<'a>
             pattern: name,
             itself: said.itself,
             made: made_of(said),
+            shapes: words_if(said.shaped && !said.free, words),
+            states: words_if(said.states, words),
         }),
         None => Line::Wrong,
     }

@@ -36,4 +36,8 @@ pub struct Entry<'a> {
     pub itself: Uses,
     /// What may be done with what its calls made, with what calls of that made, and so on.
     pub made: Uses,
+    /// Words among which the shapes of the arguments of its calls stand; nothing where they may be anything.
+    pub shapes: &'a [u8],
+    /// Words among which the shapes of the states of what its calls made stand; nothing where they may be anything.
+    pub states: &'a [u8],
 }

@@ -24,7 +24,7 @@ fn is_letter(byte: u8) -> bool
 }
 
 /// Whether a byte may stand in a name.
-fn is_name_byte(byte: u8) -> bool
+pub(crate) fn is_name_byte(byte: u8) -> bool
     ensures { result ≡ is_name_byte byte }
 {
     is_letter(byte) || is_digit(byte) || byte == b'_' || byte >= 128
@@ -55,7 +55,7 @@ fn are_part_bytes(part: &[u8]) -> bool
 }
 
 /// Whether there is a star.
-fn has_star(part: &[u8]) -> bool
+pub(crate) fn has_star(part: &[u8]) -> bool
     ensures { result ≡ list_any is_star part.now }
 {
     part.iter().any(|byte| is_star(*byte))
@@ -103,7 +103,7 @@ pub(crate) fn is_name(bytes: &[u8]) -> bool
 }
 
 /// Whether all bytes are digits.
-fn are_digits(bytes: &[u8]) -> bool
+pub(crate) fn are_digits(bytes: &[u8]) -> bool
     ensures { result ≡ list_all is_digit bytes.now }
 {
     bytes.iter().all(|byte| is_digit(*byte))

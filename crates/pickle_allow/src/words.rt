@@ -2,10 +2,11 @@
 
 ghost use Rattle.std.specs.Prelude.{◌≡◌, Some};
 ghost use Rattle.std.specs.Option.{option_map, unwrap_or};
-ghost use Rattle.pickle_allow.specs.Grammar.{no_use, every_use, word_of, with_use, made_so_far, with_word, with_piece, uses_said};
+ghost use Rattle.pickle_allow.specs.Grammar.{no_use, every_use, word_of, nothing_said, with_use, made_so_far, frees, with_word, with_piece, with_rest, with_shape, with_front, with_chunk, uses_said};
 
 use crate::cut::{Separator, cut};
 use crate::list::{Use, Uses};
+use crate::shape::is_shape;
 
 /// A word that says what may be done.
 #[derive(Clone, Copy)]
@@ -25,6 +26,25 @@ pub(crate) struct Said {
     pub(crate) itself: Uses,
     /// What may be done with what its calls make, if something is said of that.
     pub(crate) made: Option<Uses>,
+    /// `call` stands without a shape, so that its calls may have any arguments.
+    pub(crate) free: bool,
+    /// There are shapes of the arguments of calls.
+    pub(crate) shaped: bool,
+    /// There are shapes of the states of what its calls make.
+    pub(crate) states: bool,
+}
+
+/// Where nothing is said.
+fn nothing_said() -> Said
+    ensures { result ≡ nothing_said }
+{
+    Said {
+        itself: no_use(),
+        made: None,
+        free: false,
+        shaped: false,
+        states: false,
+    }
 }
 
 /// All that can be done with an object.
@@ -65,6 +85,8 @@ macro_rules! row_of {
         }
     };
 }
+
+pub(crate) use row_of;
 
 /// The word that bytes are, if they are one.
 fn word_of(bytes: &[u8]) -> Option<Word>
@@ -122,6 +144,18 @@ pub(crate) fn made_of(said: Said) -> Uses
     }
 }
 
+/// Whether a word leaves the arguments of calls free.
+fn frees(what: Use) -> bool
+    ensures { result ≡ frees what }
+{
+    match what {
+        Use::Call => true,
+        Use::New => false,
+        Use::State => false,
+        Use::Fill => false,
+    }
+}
+
 /// What is said with one word more.
 fn with_word(said: Said, word: Word) -> Said
     ensures { result ≡ with_word said word }
@@ -129,6 +163,7 @@ fn with_word(said: Said, word: Word) -> Said
     match word {
         Word::Itself(what) => Said {
             itself: with_use(said.itself, what),
+            free: frees(what) || said.free,
             ..said
         },
         Word::Made(what) => Said {
@@ -155,14 +190,11 @@ fn with_piece(said: Said, piece: &[u8]) -> Option<Said>
     }
 }
 
-/// What is said by words with blanks between them, if they are words.
-fn words_said(bytes: &[u8]) -> Option<Said>
-    ensures { result ≡ uses_said (Some bytes.now) }
+/// What is said with words more, between which blanks stand.
+fn with_rest(said: Said, bytes: &[u8]) -> Option<Said>
+    ensures { result ≡ with_rest said bytes.now }
 {
-    let mut said = Said {
-        itself: no_use(),
-        made: None,
-    };
+    let mut said = said;
     let mut rest = Some(bytes);
     while let Some(left) = rest {
         let piece = cut(left, Separator::Blank);
@@ -175,6 +207,81 @@ fn words_said(bytes: &[u8]) -> Option<Said>
     Some(said)
 }
 
+/// What is said with a word that has a shape behind it.
+fn with_shape(said: Said, word: &[u8]) -> Option<Said>
+    ensures { result ≡ with_shape said word.now }
+{
+    if word == b"call".as_slice() {
+        Some(Said {
+            itself: with_use(said.itself, Use::Call),
+            shaped: true,
+            ..said
+        })
+    } else if word == b"then".as_slice() {
+        Some(Said {
+            states: true,
+            ..said
+        })
+    } else {
+        None
+    }
+}
+
+/// What is said with words, of which the last one has a shape behind it.
+fn with_front(said: Said, front: &[u8]) -> Option<Said>
+    ensures { result ≡ with_front said front.now }
+{
+    let mut said = said;
+    let mut left = front;
+    'pieces: loop {
+        let piece = cut(left, Separator::Blank);
+        let Some(next) = piece.rest else {
+            return with_shape(said, piece.front);
+        };
+        let Some(more) = with_piece(said, piece.front) else {
+            return None;
+        };
+        said = more;
+        left = next;
+    }
+}
+
+/// What is said with what stands before the end of a shape, behind the end of the one before it.
+fn with_chunk(said: Said, chunk: &[u8]) -> Option<Said>
+    ensures { result ≡ with_chunk said chunk.now }
+{
+    let piece = cut(chunk, Separator::Open);
+    match piece.rest {
+        Some(shape) => {
+            if is_shape(shape) {
+                with_front(said, piece.front)
+            } else {
+                None
+            }
+        }
+        None => None,
+    }
+}
+
+/// What is said by words, some of which have shapes.
+fn words_said(bytes: &[u8]) -> Option<Said>
+    ensures { result ≡ uses_said (Some bytes.now) }
+{
+    let mut said = nothing_said();
+    let mut left = bytes;
+    'pieces: loop {
+        let piece = cut(left, Separator::Close);
+        let Some(next) = piece.rest else {
+            return with_rest(said, piece.front);
+        };
+        let Some(more) = with_chunk(said, piece.front) else {
+            return None;
+        };
+        said = more;
+        left = next;
+    }
+}
+
 /// What an entry says by what stands behind its colon, or without one.
 pub(crate) fn uses_said(words: Option<&[u8]>) -> Option<Said>
     ensures { result ≡ uses_said (option_map (λ w. w.now) words.entry) }
@@ -183,7 +290,8 @@ pub(crate) fn uses_said(words: Option<&[u8]>) -> Option<Said>
         Some(words) => words_said(words),
         None => Some(Said {
             itself: every_use(),
-            made: None,
+            free: true,
+            ..nothing_said()
         }),
     }
 }

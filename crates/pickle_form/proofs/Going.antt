@@ -14,8 +14,7 @@ use Rattle.pickle_doc.specs.Stream.{HasRead, IsDone, IsItemAt}
 use Rattle.pickle_doc.proofs.Streams.{stands_first, item_in, fault_in}
 use Rattle.pickle_form.specs.declared.reason.Reason.{Reason}
 use Rattle.pickle_form.specs.declared.reason.Reason.TheVariants as reason
-use Rattle.pickle_form.specs.declared.run.Run.{Run}
-use Rattle.pickle_form.specs.Run.{is_frame, is_proto, is_large, loose_after}
+use Rattle.pickle_form.specs.Run.{Run, is_frame, is_proto, is_large, loose_after}
 use Rattle.pickle_form.specs.Form.{Before, begin, after, reason_of, fault_reason, end_reason, at_place, other_here, first_from, first_other}
 
 -- k items of the document that the bytes read as were read, which come to this

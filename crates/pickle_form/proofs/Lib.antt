@@ -1,2 +1,4 @@
 -- Lemmas.
 pub mod Going
+pub mod Words
+pub mod Usual

@@ -10,9 +10,8 @@ use Rattle.pickle_doc.specs.Place.{ops_of}
 use Rattle.pickle_form.specs.declared.reason.Reason.{Reason}
 use Rattle.pickle_form.specs.declared.reason.Reason.TheVariants as reason
 use Rattle.pickle_form.specs.declared.reason.Other.{Other}
-use Rattle.pickle_form.specs.declared.run.Run.{Run}
 use Rattle.pickle_form.specs.Spelled.{or_else, other_argument}
-use Rattle.pickle_form.specs.Run.{begin_run, other_run, after_run, first_here}
+use Rattle.pickle_form.specs.Run.{Run, begin_run, other_run, after_run, first_here}
 use Rattle.pickle_form.specs.Held.{Held, nothing_held, role_of, other_behind_two, other_row, next}
 
 -- what the opcodes before a place come to

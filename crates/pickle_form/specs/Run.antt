@@ -11,8 +11,24 @@ use Rattle.pickle_ops.specs.Argument.{number_of}
 use Rattle.pickle_ops.specs.Spelling.{Operation, size_of}
 use Rattle.pickle_form.specs.declared.reason.Reason.{Reason}
 use Rattle.pickle_form.specs.declared.reason.Reason.TheVariants as reason
-use Rattle.pickle_form.specs.declared.run.Run.{Run}
 use Rattle.pickle_form.specs.Spelled.{or_else, unless, last_protocol}
+
+-- what the opcodes before a place come to: the first protocol that the pickle may be of, and the last one; whether there is an opcode; how many
+-- bytes of a frame are left, and how many have no frame, since the last frame or large opcode; whether the last opcode made what picklers keep
+-- in the memo, filled an object, or left one that may be dropped; whether something was dropped that is to come back from the memo; and whether
+-- the last opcode, or the last but one, was a TUPLE2 below protocol 2
+pub record Run : Type 0 where
+  pub first : ℕ
+  pub last : ℕ
+  pub begun : Bool
+  pub left : ℕ
+  pub loose : ℕ
+  pub fresh : Bool
+  pub filled : Bool
+  pub called : Bool
+  pub dropping : Bool
+  pub pair : Bool
+  pub sets : Bool
 
 -- ---- kinds of opcodes
 

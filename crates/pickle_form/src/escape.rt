@@ -1,6 +1,8 @@
 //! The lines of UNICODE and STRING.
 
 ghost use Rattle.std.specs.Prelude.{◌≡◌, ◌==◌, ◌&&◌, ◌||◌, ◌-◌, ◌<◌, not, nat_le, get_or, length, take, drop, fold, IfSome};
+ghost use Rattle.std.specs.List.{list_all};
+ghost use Rattle.pickle_form.specs.Inside.{is_no_slash};
 ghost use Rattle.pickle_form.specs.Escape.{hex_digit, is_escaped_byte, may_be_spelled, raw_begin, raw_part, raw_digits, raw_after_slash, raw_plain, is_raw_text, ends_plain, has_number, quoted_begin, quoted_after, between, ends_quoted, is_repr};
 
 /// What of a line was read.
@@ -191,10 +193,25 @@ fn ends_plain(part: Part) -> bool
     matches!(part, Part::Plain)
 }
 
-/// Whether a text is escaped as picklers escape the line of UNICODE.
+/// Whether there is no backslash.
+fn has_no_slash(text: &[u8]) -> bool
+    ensures { result ≡ list_all is_no_slash text.now }
+{
+    for byte in text {
+        if *byte == b'\\' {
+            return false;
+        }
+    }
+    true
+}
+
+/// Whether a text is escaped as picklers escape the line of UNICODE. Most texts have no escapes.
 pub(crate) fn is_raw_text(text: &[u8]) -> bool
     ensures { result ≡ is_raw_text text.now }
 {
+    if has_no_slash(text) {
+        return true;
+    }
     let mut state = raw_part(Part::Plain);
     for byte in text {
         state = state.after(*byte);

@@ -183,7 +183,7 @@ fn if_paired(filling: Filling, count: usize, rest: Option<Reason>) -> Option<Rea
 }
 
 impl Held {
-    ghost use Rattle.std.specs.Prelude.{◌≡◌, ◌-◌, ◌+◌, ◌*◌, ◌<◌, ◌==◌, ◌&&◌, ◌||◌, ◌≤◌, ◌^◌, not, nat_lt, nat_le, length, take, slice_get, OnOk, Option, Some, None};
+    ghost use Rattle.std.specs.Prelude.{◌≡◌, ◌-◌, ◌+◌, ◌*◌, ◌<◌, ◌==◌, ◌&&◌, ◌||◌, ◌≤◌, ◌^◌, not, nat_lt, nat_le, length, take, slice_get, IfOk, OnOk, Option, Some, None};
     ghost use Rattle.std.specs.Option.{unwrap_or};
     ghost use Rattle.pickle_ops.specs.Row.{count_of, values_of};
     ghost use Rattle.pickle_form.specs.Spelled.{unless};
@@ -429,50 +429,21 @@ impl Held {
         unless(is_buffer(self.deep(0)), Reason::NotBuffer)
     }
 
+    /// Why the top is not all that there is.
+    fn other_last(&self) -> Option<Reason>
+        ensures { result ≡ other_row 0 Row.Stop Role.Value self.now }
+    {
+        unless(
+            self.cells.len() == 1 && self.marks.is_empty(),
+            Reason::LeftOver,
+        )
+    }
+
     /// Why a marked tuple of two, if it is the top, is not followed by this: by a call, or not.
     pub fn other_behind_two(&self, calls: bool) -> Option<Reason>
         ensures { result ≡ unless (not (is_two (top self.now)) || calls) Reason.TupleSize }
     {
         unless(!self.top().is_two() || calls, Reason::TupleSize)
-    }
-
-    /// Why no pickler does this, which makes an object of this role if it makes one, in a pickle of at least this protocol.
-    pub fn other(&self, protocol: u64, row: Row, role: Role) -> Option<Reason>
-        ensures { result ≡ other_row protocol row role self.now }
-    {
-        match row {
-            Row::Nothing => None,
-            Row::Protocol(_) => None,
-            Row::Extension(_) => None,
-            Row::Push => None,
-            Row::Buffer => None,
-            Row::ReadOnly => self.other_view(),
-            Row::Take(taking) => {
-                if self.above() < taking.count() {
-                    return Some(Reason::TooFew);
-                }
-                self.other_taking(taking)
-            }
-            Row::Cut(cutting) => {
-                if self.marks.is_empty() {
-                    return Some(Reason::NoMark);
-                }
-                self.other_cutting(protocol, role, cutting)
-            }
-            Row::Change(filling) => self.other_change(protocol, filling),
-            Row::CutChange(filling) => self.other_cut_change(protocol, filling),
-            Row::Pop => self.other_pop(protocol),
-            Row::PopMark => unless(!self.marks.is_empty(), Reason::NoMark),
-            Row::Dup => None,
-            Row::Mark => None,
-            Row::Get(key) => unless(is_there(self.at_key(key)), Reason::NoKey),
-            Row::Put(key) => self.other_put(key, protocol),
-            Row::Memoize => unless(1 <= self.above(), Reason::TooFew),
-            Row::Stop => unless(
-                self.cells.len() == 1 && self.marks.is_empty(),
-                Reason::LeftOver,
-            ),
-        }
     }
 
     /// The last n objects go.
@@ -505,7 +476,7 @@ impl Held {
     fn top(&self) -> Role
         ensures { result ≡ top self.now }
     {
-        or_value(self.deep(0))
+        or_value(self.cells.last().copied())
     }
 
     /// The memo keeps the top under the next key, or under the one behind that.
@@ -535,21 +506,100 @@ impl Held {
         Ok(())
     }
 
-    /// The objects above the topmost mark go into the one under it, in a pickle of at least this protocol.
-    fn fill_marked(&mut self, protocol: u64, filling: Filling) -> Result<(), AllocError>
-        ensures ok { OnOk result (self.new ≡ next protocol (Row.CutChange filling) Role.Value self.old) }
-    {
-        let full = self.above() == 1000 * filling.values();
-        self.cut();
-        self.fill(protocol, full)
-    }
-
-    /// A mark is set.
-    fn mark(&mut self) -> Result<(), AllocError>
-        ensures ok { OnOk result (self.new ≡ next 0 Row.Mark Role.Value self.old) }
+    /// A mark is set. No rule forbids that.
+    fn take_section(&mut self) -> Result<Option<Reason>, AllocError>
+        ensures first { IfOk result (λ why. why ≡ None) }
+        ensures next { OnOk result (self.new ≡ next 0 Row.Mark Role.Value self.old) }
     {
         self.marks.push(self.cells.len())?;
-        Ok(())
+        Ok(None)
+    }
+
+    /// A new object of this role is put on top. No rule forbids that.
+    fn take_new(&mut self, role: Role) -> Result<Option<Reason>, AllocError>
+        ensures first { IfOk result (λ why. why ≡ None) }
+        ensures next { OnOk result (self.new ≡ push role self.old) }
+    {
+        self.push(role)?;
+        Ok(None)
+    }
+
+    /// A view takes the place of the top.
+    fn take_view(&mut self, role: Role) -> Result<Option<Reason>, AllocError>
+        ensures first { IfOk result (λ why. why ≡ other_row 0 Row.ReadOnly role self.old) }
+        ensures next { IfOk result (λ why. why ≡ None → self.new ≡ next 0 Row.ReadOnly role self.old) }
+    {
+        if let Some(why) = self.other_view() {
+            return Ok(Some(why));
+        }
+        self.lose(1);
+        self.push(role)?;
+        Ok(None)
+    }
+
+    /// A new object takes the place of the topmost ones.
+    fn take_parts(&mut self, taking: Taking, role: Role) -> Result<Option<Reason>, AllocError>
+        ensures first { IfOk result (λ why. why ≡ other_row 0 (Row.Take taking) role self.old) }
+        ensures next { IfOk result (λ why. why ≡ None → self.new ≡ next 0 (Row.Take taking) role self.old) }
+    {
+        if self.above() < taking.count() {
+            return Ok(Some(Reason::TooFew));
+        }
+        if let Some(why) = self.other_taking(taking) {
+            return Ok(Some(why));
+        }
+        self.lose(taking.count());
+        self.push(role)?;
+        Ok(None)
+    }
+
+    /// A new object takes the place of those above the topmost mark.
+    fn take_marked(
+        &mut self,
+        protocol: u64,
+        cutting: Cutting,
+        role: Role,
+    ) -> Result<Option<Reason>, AllocError>
+        ensures first { IfOk result (λ why. why ≡ other_row protocol (Row.Cut cutting) role self.old) }
+        ensures next { IfOk result (λ why. why ≡ None → self.new ≡ next protocol (Row.Cut cutting) role self.old) }
+    {
+        if self.marks.is_empty() {
+            return Ok(Some(Reason::NoMark));
+        }
+        if let Some(why) = self.other_cutting(protocol, role, cutting) {
+            return Ok(Some(why));
+        }
+        let role = cut_role(protocol, self.above(), role);
+        self.cut();
+        self.push(role)?;
+        Ok(None)
+    }
+
+    /// The topmost object or objects go into the one below them.
+    fn take_change(&mut self, protocol: u64, filling: Filling) -> Result<Option<Reason>, AllocError>
+        ensures first { IfOk result (λ why. why ≡ other_row protocol (Row.Change filling) Role.Value self.old) }
+        ensures next { IfOk result (λ why. why ≡ None → self.new ≡ next protocol (Row.Change filling) Role.Value self.old) }
+    {
+        if let Some(why) = self.other_change(protocol, filling) {
+            return Ok(Some(why));
+        }
+        self.lose(filling.values());
+        self.fill(protocol, false)?;
+        Ok(None)
+    }
+
+    /// The objects above the topmost mark go into the one under it.
+    fn take_batch(&mut self, protocol: u64, filling: Filling) -> Result<Option<Reason>, AllocError>
+        ensures first { IfOk result (λ why. why ≡ other_row protocol (Row.CutChange filling) Role.Value self.old) }
+        ensures next { IfOk result (λ why. why ≡ None → self.new ≡ next protocol (Row.CutChange filling) Role.Value self.old) }
+    {
+        if let Some(why) = self.other_cut_change(protocol, filling) {
+            return Ok(Some(why));
+        }
+        let full = self.above() == 1000 * filling.values();
+        self.cut();
+        self.fill(protocol, full)?;
+        Ok(None)
     }
 
     /// What is on top is dropped, or the topmost mark.
@@ -563,58 +613,110 @@ impl Held {
         }
     }
 
-    /// Does what an opcode does that makes an object of this role, if it makes one, in a pickle of at least this protocol. It fails only where
-    /// memory runs out.
-    pub fn perform(&mut self, protocol: u64, row: Row, role: Role) -> Result<(), AllocError>
-        ensures ok { OnOk result (self.new ≡ next protocol row role self.old) }
+    /// What is on top is dropped, or the topmost mark.
+    fn take_top(&mut self, protocol: u64) -> Result<Option<Reason>, AllocError>
+        ensures first { IfOk result (λ why. why ≡ other_row protocol Row.Pop Role.Value self.old) }
+        ensures next { IfOk result (λ why. why ≡ None → self.new ≡ next protocol Row.Pop Role.Value self.old) }
+    {
+        if let Some(why) = self.other_pop(protocol) {
+            return Ok(Some(why));
+        }
+        self.drop_top();
+        Ok(None)
+    }
+
+    /// The topmost mark is dropped, and what is above it.
+    fn take_mark(&mut self) -> Result<Option<Reason>, AllocError>
+        ensures first { IfOk result (λ why. why ≡ other_row 0 Row.PopMark Role.Value self.old) }
+        ensures next { IfOk result (λ why. why ≡ None → self.new ≡ next 0 Row.PopMark Role.Value self.old) }
+    {
+        if self.marks.is_empty() {
+            return Ok(Some(Reason::NoMark));
+        }
+        self.cut();
+        Ok(None)
+    }
+
+    /// The object under a key is put on top.
+    fn take_kept(&mut self, key: u64) -> Result<Option<Reason>, AllocError>
+        ensures first { IfOk result (λ why. why ≡ other_row 0 (Row.Get key) Role.Value self.old) }
+        ensures next { IfOk result (λ why. why ≡ None → self.new ≡ next 0 (Row.Get key) Role.Value self.old) }
+    {
+        let found = self.at_key(key);
+        if !is_there(found) {
+            return Ok(Some(Reason::NoKey));
+        }
+        self.push(or_value(found))?;
+        Ok(None)
+    }
+
+    /// The memo keeps the top under this key.
+    fn take_put(&mut self, key: u64, protocol: u64) -> Result<Option<Reason>, AllocError>
+        ensures first { IfOk result (λ why. why ≡ other_row protocol (Row.Put key) Role.Value self.old) }
+        ensures next { IfOk result (λ why. why ≡ None → self.new ≡ next protocol (Row.Put key) Role.Value self.old) }
+    {
+        if let Some(why) = self.other_put(key, protocol) {
+            return Ok(Some(why));
+        }
+        self.keep(key)?;
+        Ok(None)
+    }
+
+    /// The memo keeps the top under the next key.
+    fn take_memoized(&mut self) -> Result<Option<Reason>, AllocError>
+        ensures first { IfOk result (λ why. why ≡ other_row 0 Row.Memoize Role.Value self.old) }
+        ensures next { IfOk result (λ why. why ≡ None → self.new ≡ next 0 Row.Memoize Role.Value self.old) }
+    {
+        if self.above() < 1 {
+            return Ok(Some(Reason::TooFew));
+        }
+        let top = self.top();
+        self.memo.push(top)?;
+        Ok(None)
+    }
+
+    /// The last object is taken.
+    fn take_last(&mut self) -> Result<Option<Reason>, AllocError>
+        ensures first { IfOk result (λ why. why ≡ other_row 0 Row.Stop Role.Value self.old) }
+        ensures next { IfOk result (λ why. why ≡ None → self.new ≡ next 0 Row.Stop Role.Value self.old) }
+    {
+        if let Some(why) = self.other_last() {
+            return Ok(Some(why));
+        }
+        self.lose(1);
+        Ok(None)
+    }
+
+    /// Does what an opcode does that makes an object of this role, if it makes one, in a pickle of at least this protocol; or says why no
+    /// pickler does that. It fails only where memory runs out.
+    pub fn take(
+        &mut self,
+        protocol: u64,
+        row: Row,
+        role: Role,
+    ) -> Result<Option<Reason>, AllocError>
+        ensures first { IfOk result (λ why. why ≡ other_row protocol row role self.old) }
+        ensures next { IfOk result (λ why. why ≡ None → self.new ≡ next protocol row role self.old) }
     {
         match row {
-            Row::Nothing => Ok(()),
-            Row::Protocol(_) => Ok(()),
-            Row::Extension(_) => self.push(role),
-            Row::Push => self.push(role),
-            Row::Buffer => self.push(role),
-            Row::ReadOnly => {
-                self.lose(1);
-                self.push(role)
-            }
-            Row::Take(taking) => {
-                self.lose(taking.count());
-                self.push(role)
-            }
-            Row::Cut(_) => {
-                let role = cut_role(protocol, self.above(), role);
-                self.cut();
-                self.push(role)
-            }
-            Row::Change(filling) => {
-                self.lose(filling.values());
-                self.fill(protocol, false)
-            }
-            Row::CutChange(filling) => self.fill_marked(protocol, filling),
-            Row::Pop => {
-                self.drop_top();
-                Ok(())
-            }
-            Row::PopMark => {
-                self.cut();
-                Ok(())
-            }
-            Row::Dup => Ok(()),
-            Row::Mark => self.mark(),
-            Row::Get(key) => {
-                let role = or_value(self.at_key(key));
-                self.push(role)
-            }
-            Row::Put(key) => self.keep(key),
-            Row::Memoize => {
-                let next = self.memo.len() as u64;
-                self.keep(next)
-            }
-            Row::Stop => {
-                self.lose(1);
-                Ok(())
-            }
+            Row::Nothing => Ok(None),
+            Row::Protocol(_) => Ok(None),
+            Row::Extension(_) => self.take_new(role),
+            Row::Push => self.take_new(role),
+            Row::Buffer => self.take_new(role),
+            Row::ReadOnly => self.take_view(role),
+            Row::Take(taking) => self.take_parts(taking, role),
+            Row::Cut(cutting) => self.take_marked(protocol, cutting, role),
+            Row::Change(filling) => self.take_change(protocol, filling),
+            Row::CutChange(filling) => self.take_batch(protocol, filling),
+            Row::Pop => self.take_top(protocol),
+            Row::PopMark => self.take_mark(),
+            Row::Dup => Ok(None),
+            Row::Mark => self.take_section(),
+            Row::Get(key) => self.take_kept(key),
+            Row::Put(key) => self.take_put(key, protocol),
+            Row::Memoize => self.take_memoized(),
+            Row::Stop => self.take_last(),
         }
     }
 }

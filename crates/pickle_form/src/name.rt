@@ -1,11 +1,17 @@
 //! Names of modules and of what they have.
 
 ghost use Rattle.std.specs.Prelude.{◌≡◌, ◌∷◌, ◌||◌, ◌&&◌, length, fold};
+ghost use Rattle.std.specs.List.{list_all};
 ghost use Rattle.pickle_form.specs.Name.{is_letter, at_begin, at_within, at_angle, at_closed, after_byte, may_end, is_text, is_name};
+ghost use Rattle.pickle_form.specs.Inside.{is_word_byte, is_word};
 ghost use Rattle.pickle_ops.specs.Shape.{is_digit};
 ghost use Rattle.pickle_names.specs.Value.{decode_all};
 
 use pickle_names::{Coding, read};
+
+/// Of each byte, whether it is a letter of ASCII, a digit or an underscore: `1`, else `0`.
+static WORD: [u8; 256] =
+    *b"0000000000000000000000000000000000000000000000001111111111000000011111111111111111111111111000010111111111111111111111111110000000000000000000000000000000000000000000000000000000000000000000000000000000000000000000000000000000000000000000000000000000000000";
 
 /// What of a name was read.
 #[derive(Clone, Copy, Debug, PartialEq, Eq)]
@@ -99,7 +105,7 @@ fn at_closed(byte: u8) -> NamePart
 }
 
 impl NamePart {
-    ghost use Rattle.std.specs.Prelude.{◌≡◌};
+    ghost use Rattle.std.specs.Prelude.{◌≡◌, true};
     ghost use Rattle.pickle_form.specs.Name.{after_byte, may_end};
 
     /// After a byte.
@@ -113,6 +119,13 @@ impl NamePart {
             NamePart::Closed => at_closed(byte),
             NamePart::Wrong => NamePart::Wrong,
         }
+    }
+
+    /// Whether it is in no name, whatever follows.
+    fn is_wrong(self) -> bool
+        ensures { result ≡ true → self ≡ NamePart.Wrong }
+    {
+        matches!(self, NamePart::Wrong)
     }
 
     /// Whether a name may end so.
@@ -141,8 +154,40 @@ fn part_of(text: &[u8]) -> NamePart
     let mut part = NamePart::Begin;
     for byte in text {
         part = part.after(*byte);
+        if part.is_wrong() {
+            return NamePart::Wrong;
+        }
     }
     part
+}
+
+/// Whether a byte is a letter of ASCII, a digit or an underscore.
+fn is_word_byte(byte: u8) -> bool
+    ensures { result ≡ is_word_byte byte }
+{
+    WORD[usize::from(byte)] == b'1'
+}
+
+/// Whether all bytes are such.
+fn are_word_bytes(text: &[u8]) -> bool
+    ensures { result ≡ list_all is_word_byte text.now }
+{
+    for byte in text {
+        if !is_word_byte(*byte) {
+            return false;
+        }
+    }
+    true
+}
+
+/// Whether a text is a word of ASCII, which is a plain name. One look at each byte is enough for this.
+pub(crate) fn is_word(text: &[u8]) -> bool
+    ensures { result ≡ is_word text.now }
+{
+    match text.first() {
+        Some(first) => !is_digit(*first) && are_word_bytes(text),
+        None => false,
+    }
 }
 
 /// Whether a text is a plain name.

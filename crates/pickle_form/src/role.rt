@@ -1,10 +1,12 @@
 //! What picklers do with an object.
 
-ghost use Rattle.std.specs.Prelude.{◌≡◌};
-ghost use Rattle.pickle_form.specs.Held.{text_role, role_of};
+ghost use Rattle.std.specs.Prelude.{◌≡◌, if◌then◌else◌, Some, None};
+ghost use Rattle.pickle_form.specs.Name.{is_text};
+ghost use Rattle.pickle_form.specs.Held.{text_role};
 
-use crate::name::is_name;
-use pickle_ops::{Filling, OpRef, Opcode};
+use crate::name::{is_name, is_text, is_word};
+use pickle_names::Coding;
+use pickle_ops::Filling;
 
 /// What picklers do with an object.
 #[derive(Clone, Copy, Debug, PartialEq, Eq)]
@@ -203,7 +205,7 @@ impl Role {
 }
 
 /// The role of a text.
-fn text_role(text: &[u8]) -> Role
+pub(crate) fn text_role(text: &[u8]) -> Role
     ensures { result ≡ text_role text.now }
 {
     if is_name(text) {
@@ -213,37 +215,16 @@ fn text_role(text: &[u8]) -> Role
     }
 }
 
-/// The role of what an opcode makes.
-pub(crate) fn role_of(op: &OpRef<'_>) -> Role
-    ensures { result ≡ role_of op.now.opcode op.now.arg }
+/// The role of a text that is in UTF-8, surrogates allowed. Most texts are one word, for which one look at each byte is enough.
+pub(crate) fn role_in_utf8(text: &[u8]) -> Option<Role>
+    ensures { result ≡ if is_text Coding.AnyUtf8 text.now then Some (text_role text.now) else None }
 {
-    match op.opcode() {
-        Opcode::None => Role::Null,
-        Opcode::ShortBinUnicode => text_role(op.payload()),
-        Opcode::BinUnicode => text_role(op.payload()),
-        Opcode::EmptyTuple => Role::Tuple,
-        Opcode::Tuple => Role::Tuple,
-        Opcode::Tuple1 => Role::Tuple,
-        Opcode::Tuple2 => Role::Tuple,
-        Opcode::Tuple3 => Role::Tuple,
-        Opcode::EmptyList => Role::List,
-        Opcode::List => Role::List,
-        Opcode::EmptyDict => Role::Dict,
-        Opcode::Dict => Role::Dict,
-        Opcode::EmptySet => Role::Set,
-        Opcode::NextBuffer => Role::Buffer,
-        Opcode::Global => Role::Import,
-        Opcode::StackGlobal => Role::Import,
-        Opcode::Ext1 => Role::Import,
-        Opcode::Ext2 => Role::Import,
-        Opcode::Ext4 => Role::Import,
-        Opcode::Reduce => Role::Made,
-        Opcode::NewObj => Role::Made,
-        Opcode::NewObjEx => Role::Made,
-        Opcode::Inst => Role::Instance,
-        Opcode::Obj => Role::Instance,
-        Opcode::PersId => Role::Outside,
-        Opcode::BinPersId => Role::Outside,
-        _ => Role::Value,
+    if is_word(text) {
+        return Some(Role::Name);
+    }
+    if is_text(Coding::AnyUtf8, text) {
+        Some(text_role(text))
+    } else {
+        None
     }
 }

@@ -2,38 +2,60 @@
 
 ghost use Rattle.std.specs.Prelude.{◌≡◌, ◌<◌, ◌≤◌, ◌+◌, ◌-◌, ◌^◌, ◌&&◌, ◌||◌, not, nat_lt, nat_le, length};
 ghost use Rattle.pickle_ops.specs.Spelling.{size_of};
-ghost use Rattle.pickle_form.specs.Spelled.{or_else};
-ghost use Rattle.pickle_form.specs.Run.{is_proto, is_frame, is_stop, is_reduce, is_pop, is_pair, leaves_a_rest, is_filled, first_protocol, is_drop, is_put, is_get, is_kept, is_large, begin_run};
+ghost use Rattle.pickle_form.specs.Spelled.{or_else, last_protocol};
+ghost use Rattle.pickle_form.specs.Run.{is_proto, is_frame, is_stop, is_reduce, is_pop, is_pair, leaves_a_rest, is_filled, first_protocol, is_drop, is_put, is_get, is_kept, is_large};
+ghost use Rattle.pickle_form.specs.Inside.{is_turn};
 
 use crate::reason::Reason;
-use crate::spelled::{last_protocol, unless};
+use crate::spelled::unless;
 use pickle_ops::{OpRef, Opcode};
+use std::marker::Model;
 
 /// What the opcodes before a place come to besides their objects.
-#[derive(Clone, Copy)]
+#[derive(Drop)]
 pub struct Run {
-    /// The first protocol that the pickle may be of.
-    pub first: u64,
-    /// The last one.
-    pub last: u64,
-    /// Whether there is an opcode.
-    pub begun: bool,
-    /// How many bytes of a frame are left.
-    pub left: u64,
-    /// How many bytes have no frame, since the last frame or large opcode.
-    pub loose: u64,
-    /// Whether the last opcode made what picklers keep in the memo.
-    pub fresh: bool,
-    /// Whether it filled an object.
-    pub filled: bool,
-    /// Whether it left an object that may be dropped.
-    pub called: bool,
-    /// Whether something was dropped that is to come back from the memo.
-    pub dropping: bool,
-    /// Whether the last opcode was a TUPLE2 below protocol 2.
-    pub pair: bool,
-    /// Whether that was the last opcode but one.
-    pub sets: bool,
+    // the first protocol that the pickle may be of, and the last one
+    first: u64,
+    last: u64,
+    // how many bytes of a frame are left
+    left: u64,
+    // how many bytes have no frame, since the last frame or large opcode
+    loose: u64,
+    // whether there is an opcode
+    begun: bool,
+    // the last one that is no FRAME; while there is none, MARK, which makes, fills and leaves nothing
+    before: Opcode,
+    // whether something was dropped that is to come back from the memo
+    dropping: bool,
+    // whether the last opcode was a TUPLE2 below protocol 2, and whether that was the last but one
+    pair: bool,
+    sets: bool,
+    // whether the next opcode may be any of the usual ones
+    calm: bool,
+}
+
+impl Model for Run {
+    ghost use Rattle.std.specs.Prelude.{◌≡◌, true};
+    ghost use Rattle.pickle_form.specs.Run.{Run as Past, is_kept, is_filled, leaves_a_rest};
+    ghost use Rattle.pickle_form.specs.Inside.{IsCalm};
+
+    ghost Value = { Past };
+
+    ghost view = { λ r. record {
+      first = r.first;
+      last = r.last;
+      begun = r.begun;
+      left = r.left;
+      loose = r.loose;
+      fresh = is_kept r.before;
+      filled = is_filled r.before;
+      called = leaves_a_rest r.before;
+      dropping = r.dropping;
+      pair = r.pair;
+      sets = r.sets;
+    } };
+
+    ghost invariant = { λ r. r.calm ≡ true → IsCalm r.first r.last r.begun r.dropping r.pair r.sets };
 }
 
 /// Whether an opcode is PROTO.
@@ -187,6 +209,21 @@ fn is_kept(opcode: Opcode) -> bool
     }
 }
 
+/// Whether an opcode asks for more than usual ones, or changes what may follow.
+fn is_turn(opcode: Opcode) -> bool
+    ensures { result ≡ is_turn opcode }
+{
+    match opcode {
+        Opcode::Proto => true,
+        Opcode::Frame => true,
+        Opcode::Stop => true,
+        Opcode::Pop => true,
+        Opcode::PopMark => true,
+        Opcode::Tuple2 => true,
+        _ => false,
+    }
+}
+
 /// Whether the framer writes so many bytes without a frame round them.
 fn is_large(size: u64) -> bool
     ensures { result ≡ is_large size }
@@ -194,23 +231,12 @@ fn is_large(size: u64) -> bool
     65_536 < size
 }
 
-/// Whether the bytes of this opcode belong to no frame that they should have.
-fn is_loose(opcode: Opcode, size: u64, left: u64) -> bool
-    ensures { result ≡ not (is_frame opcode || is_proto opcode || is_large size || nat_lt 0 left) }
-{
-    if is_frame(opcode) {
-        return false;
-    }
-    if is_proto(opcode) {
-        return false;
-    }
-    !is_large(size) && left == 0
-}
-
 impl Run {
-    ghost use Rattle.std.specs.Prelude.{◌≡◌, ◌<◌, ◌≤◌, ◌+◌, ◌^◌};
+    ghost use Rattle.std.specs.Prelude.{◌≡◌, ◌<◌, ◌≤◌, ◌+◌, ◌^◌, ◌||◌, nat_lt, if◌then◌else◌, true, None};
     ghost use Rattle.pickle_ops.specs.Spelling.{size_of};
-    ghost use Rattle.pickle_form.specs.Run.{begin_run, first_here, last_here, left_after, loose_after, other_frame, other_drop, other_proto, other_protocol, other_setter, other_put, other_run, drops_after, after_run};
+    ghost use Rattle.pickle_form.specs.Spelled.{or_else, last_protocol};
+    ghost use Rattle.pickle_form.specs.Inside.{IsUsual};
+    ghost use Rattle.pickle_form.specs.Run.{is_frame, is_proto, is_large, begin_run, first_here, last_here, left_after, loose_after, other_frame, other_drop, other_proto, other_setter, other_put, other_run, drops_after, after_run};
 
     /// Nothing was read.
     pub fn begin() -> Run
@@ -219,20 +245,26 @@ impl Run {
         Run {
             first: 0,
             last: 1,
-            begun: false,
             left: 0,
             loose: 0,
-            fresh: false,
-            filled: false,
-            called: false,
+            begun: false,
+            before: Opcode::Mark,
             dropping: false,
             pair: false,
             sets: false,
+            calm: false,
         }
     }
 
+    /// The first protocol that the pickle may be of.
+    pub fn first(&self) -> u64
+        ensures { result ≡ self.now.first }
+    {
+        self.first
+    }
+
     /// The first protocol that the pickle may be of, with this opcode.
-    pub fn first_here(&self, op: &OpRef<'_>) -> u64
+    fn first_here(&self, op: &OpRef<'_>) -> u64
         ensures { result ≡ first_here op.now self.now }
     {
         if is_proto(op.opcode()) {
@@ -242,14 +274,15 @@ impl Run {
         }
     }
 
-    /// The last protocol that the pickle may be of, with this opcode.
-    fn last_here(&self, op: &OpRef<'_>) -> u64
+    /// The last protocol that the pickle may be of, with this opcode, of which this is the last.
+    fn last_here(&self, op: &OpRef<'_>, last: u64) -> u64
+        requires { last ≡ last_protocol op.now.opcode op.now.arg }
         ensures { result ≡ last_here op.now self.now }
     {
         if is_proto(op.opcode()) {
             op.number()
         } else {
-            self.last.min(u64::from(last_protocol(op)))
+            self.last.min(last)
         }
     }
 
@@ -264,25 +297,34 @@ impl Run {
         }
     }
 
+    /// Whether the bytes of the opcode, of which there are so many, belong to a frame, or need none.
+    fn is_framed(&self, opcode: Opcode, size: u64) -> bool
+        ensures { result ≡ (is_frame opcode || is_proto opcode || is_large size || nat_lt 0 self.now.left) }
+    {
+        is_frame(opcode) || is_proto(opcode) || is_large(size) || 0 < self.left
+    }
+
     /// How many bytes have no frame behind the opcode.
     fn loose_after(&self, op: &OpRef<'_>) -> u64
         requires { self.now.loose + size_of op.now < 2 ^ 63 }
         ensures { result ≡ loose_after op.now self.now }
     {
         let size = op.size() as u64;
-        if is_loose(op.opcode(), size, self.left) {
-            self.loose + size
-        } else {
+        if self.is_framed(op.opcode(), size) {
             0
+        } else {
+            self.loose + size
         }
     }
 
-    /// Why the opcode has no frame that it should have, or STOP does not end its frame.
-    fn other_frame(&self, op: &OpRef<'_>) -> Option<Reason>
-        requires { self.now.loose + size_of op.now < 2 ^ 63 }
+    /// Why the opcode has no frame that it should have, or STOP does not end its frame. These are the first protocol and the bytes without a
+    /// frame behind it.
+    fn other_frame(&self, op: &OpRef<'_>, first: u64, loose: u64) -> Option<Reason>
+        requires first { first ≡ first_here op.now self.now }
+        requires loose { loose ≡ loose_after op.now self.now }
         ensures { result ≡ other_frame op.now self.now }
     {
-        if 4 <= self.first_here(op) && 4 <= self.loose_after(op) {
+        if 4 <= first && 4 <= loose {
             return Some(Reason::NoFrame);
         }
         if is_stop(op.opcode()) && 1 < self.left {
@@ -315,16 +357,6 @@ impl Run {
         }
     }
 
-    /// Why the opcode is of another protocol.
-    fn other_protocol(&self, op: &OpRef<'_>) -> Option<Reason>
-        ensures { result ≡ other_protocol op.now self.now }
-    {
-        unless(
-            self.first_here(op) <= self.last_here(op),
-            Reason::OtherProtocol,
-        )
-    }
-
     /// Why a TUPLE2 below protocol 2 does not stand here.
     fn other_setter(&self, op: &OpRef<'_>) -> Option<Reason>
         ensures { result ≡ other_setter op.now self.now }
@@ -338,32 +370,27 @@ impl Run {
         None
     }
 
-    /// Why the top is not kept here.
-    fn other_put(&self, op: &OpRef<'_>) -> Option<Reason>
+    /// Why the top is not kept here, in a pickle of at least this protocol.
+    fn other_put(&self, op: &OpRef<'_>, first: u64) -> Option<Reason>
+        requires { first ≡ first_here op.now self.now }
         ensures { result ≡ other_put op.now self.now }
     {
         if !is_put(op.opcode()) {
             return None;
         }
-        if self.fresh {
+        if is_kept(self.before) {
             return None;
         }
-        unless(self.filled && self.first_here(op) == 2, Reason::NotMade)
+        unless(is_filled(self.before) && first == 2, Reason::NotMade)
     }
 
-    /// Why no pickler writes the opcode behind these.
-    pub fn other(&self, op: &OpRef<'_>) -> Option<Reason>
-        requires { self.now.loose + size_of op.now < 2 ^ 63 }
-        ensures { result ≡ other_run op.now self.now }
+    /// Why no pickler writes the opcode behind what was dropped, and behind the last two. Few opcodes ask for one behind them.
+    fn other_behind(&self, op: &OpRef<'_>, first: u64) -> Option<Reason>
+        requires { first ≡ first_here op.now self.now }
+        ensures { result ≡ or_else (other_drop op.now self.now) (or_else (other_setter op.now self.now) (other_put op.now self.now)) }
     {
-        if let Some(why) = self.other_proto(op) {
-            return Some(why);
-        }
-        if let Some(why) = self.other_protocol(op) {
-            return Some(why);
-        }
-        if let Some(why) = self.other_frame(op) {
-            return Some(why);
+        if !self.dropping && !self.pair && !self.sets {
+            return self.other_put(op, first);
         }
         if let Some(why) = self.other_drop(op) {
             return Some(why);
@@ -371,50 +398,148 @@ impl Run {
         if let Some(why) = self.other_setter(op) {
             return Some(why);
         }
-        self.other_put(op)
+        self.other_put(op, first)
+    }
+
+    /// Why no pickler writes the opcode behind these. These are the first and the last protocol, and the bytes without a frame behind it.
+    fn other(&self, op: &OpRef<'_>, first: u64, last: u64, loose: u64) -> Option<Reason>
+        requires first { first ≡ first_here op.now self.now }
+        requires last { last ≡ last_here op.now self.now }
+        requires loose { loose ≡ loose_after op.now self.now }
+        ensures why { result ≡ other_run op.now self.now }
+        ensures order { result ≡ None → first ≤ last }
+    {
+        if let Some(why) = self.other_proto(op) {
+            return Some(why);
+        }
+        if last < first {
+            return Some(Reason::OtherProtocol);
+        }
+        if let Some(why) = self.other_frame(op, first, loose) {
+            return Some(why);
+        }
+        self.other_behind(op, first)
     }
 
     /// Whether something is dropped behind the opcode that is to come back.
     fn drops_after(&self, op: &OpRef<'_>) -> bool
         ensures { result ≡ drops_after op.now self.now }
     {
-        is_drop(op.opcode()) && (self.dropping || !self.called)
+        is_drop(op.opcode()) && (self.dropping || !leaves_a_rest(self.before))
     }
 
-    /// With this opcode.
-    pub fn after(&self, op: &OpRef<'_>) -> Run
-        requires { self.now.loose + size_of op.now < 2 ^ 63 }
+    /// With this opcode. These are the first and the last protocol, and the bytes without a frame behind it.
+    fn after(&self, op: &OpRef<'_>, first: u64, last: u64, loose: u64) -> Run
+        requires first { first ≡ first_here op.now self.now }
+        requires last { last ≡ last_here op.now self.now }
+        requires loose { loose ≡ loose_after op.now self.now }
+        requires good { first ≤ last }
         ensures { result ≡ after_run op.now self.now }
     {
         let frame = is_frame(op.opcode());
+        let dropping = if frame {
+            self.dropping
+        } else {
+            self.drops_after(op)
+        };
+        let pair = is_pair(op.opcode()) && last < 2;
+        let sets = self.pair;
         Run {
-            first: self.first_here(op),
-            last: self.last_here(op),
-            begun: true,
+            first,
+            last,
             left: self.left_after(op),
-            loose: self.loose_after(op),
-            fresh: if frame {
-                self.fresh
-            } else {
-                is_kept(op.opcode())
-            },
-            filled: if frame {
-                self.filled
-            } else {
-                is_filled(op.opcode())
-            },
-            called: if frame {
-                self.called
-            } else {
-                leaves_a_rest(op.opcode())
-            },
-            dropping: if frame {
-                self.dropping
-            } else {
-                self.drops_after(op)
-            },
-            pair: is_pair(op.opcode()) && self.last_here(op) < 2,
-            sets: self.pair,
+            loose,
+            begun: true,
+            before: if frame { self.before } else { op.opcode() },
+            dropping,
+            pair,
+            sets,
+            calm: !dropping && !pair && !sets,
         }
+    }
+
+    /// Reads an opcode, of which this is the last protocol: why no pickler writes it behind these, if none does. Else it counts among them.
+    fn take_any(&mut self, op: &OpRef<'_>, last: u64) -> Option<Reason>
+        requires last { last ≡ last_protocol op.now.opcode op.now.arg }
+        requires small { self.old.loose + size_of op.now < 2 ^ 63 }
+        ensures why { result ≡ other_run op.now self.old }
+        ensures next { result ≡ None → self.new ≡ after_run op.now self.old }
+    {
+        let first = self.first_here(op);
+        let last = self.last_here(op, last);
+        let loose = self.loose_after(op);
+        if let Some(why) = self.other(op, first, last, loose) {
+            return Some(why);
+        }
+        *self = self.after(op, first, last, loose);
+        None
+    }
+
+    /// Whether an opcode, of which this is the last protocol, is a usual one, which changes nothing but the bytes of frames.
+    #[inline(always)]
+    fn is_usual(&self, op: &OpRef<'_>, last: u64) -> bool
+        requires last { last ≡ last_protocol op.now.opcode op.now.arg }
+        ensures { result ≡ true → IsUsual op.now self.now }
+    {
+        if !self.calm {
+            return false;
+        }
+        if is_turn(op.opcode()) {
+            return false;
+        }
+        if self.first < u64::from(op.opcode().protocol()) {
+            return false;
+        }
+        if last < self.last {
+            return false;
+        }
+        !is_put(op.opcode()) || is_kept(self.before)
+    }
+
+    /// How many bytes have no frame behind so many more, outside of frames.
+    fn loose_outside(&self, size: u64) -> u64
+        requires { self.now.loose + size < 2 ^ 63 }
+        ensures { result ≡ if is_large size then 0 else self.now.loose + size }
+    {
+        if is_large(size) { 0 } else { self.loose + size }
+    }
+
+    /// Reads a usual opcode, behind which so many bytes of a frame are left, and so many have none.
+    #[inline(always)]
+    fn pass(&mut self, op: &OpRef<'_>, left: u64, loose: u64)
+        requires usual { IsUsual op.now self.old }
+        requires left { left ≡ left_after op.now self.old }
+        requires loose { loose ≡ loose_after op.now self.old }
+        ensures { self.new ≡ after_run op.now self.old }
+    {
+        self.left = left;
+        self.loose = loose;
+        self.before = op.opcode();
+    }
+
+    /// Reads an opcode, of which this is the last protocol: why no pickler writes it behind these, if none does. Else it counts among them.
+    /// A usual opcode is read with few looks: in a frame, or before protocol 4.
+    #[inline(always)]
+    pub fn take(&mut self, op: &OpRef<'_>, last: u64) -> Option<Reason>
+        requires last { last ≡ last_protocol op.now.opcode op.now.arg }
+        requires small { self.old.loose + size_of op.now < 2 ^ 63 }
+        ensures why { result ≡ other_run op.now self.old }
+        ensures next { result ≡ None → self.new ≡ after_run op.now self.old }
+    {
+        if !self.is_usual(op, last) {
+            return self.take_any(op, last);
+        }
+        let size = op.size() as u64;
+        if 0 < self.left {
+            let left = self.left.saturating_sub(size);
+            self.pass(op, left, 0);
+            return None;
+        }
+        if 4 <= self.first {
+            return self.take_any(op, last);
+        }
+        let loose = self.loose_outside(size);
+        self.pass(op, 0, loose);
+        None
     }
 }

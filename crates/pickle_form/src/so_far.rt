@@ -1,17 +1,9 @@
 //! What the opcodes come to that were read.
 
-ghost use Rattle.std.specs.Prelude.{◌≡◌, ◌+◌, ◌<◌, ◌^◌};
-ghost use Rattle.pickle_ops.specs.Spelling.{size_of};
-ghost use Rattle.pickle_ops.specs.Row.{row_of};
-ghost use Rattle.pickle_form.specs.Form.{reason_of};
-ghost use Rattle.pickle_form.specs.Held.{role_of};
-ghost use Rattle.pickle_form.specs.Inside.{before};
-
 use crate::held::Held;
 use crate::reason::Reason;
-use crate::role::{Role, role_of};
 use crate::run::{Run, is_reduce};
-use crate::spelled::other_argument;
+use crate::spelled::spelling_of;
 use pickle_ops::{OpRef, Row};
 use std::alloc::{AllocError, Global};
 use std::marker::Model;
@@ -30,25 +22,6 @@ impl Model for FormSoFar {
     ghost Value = { Before };
 
     ghost view = { λ f. before f.run f.held };
-}
-
-/// Why no pickler writes this opcode here: the first rule that it breaks.
-fn reason_of(op: &OpRef<'_>, row: Row, role: Role, run: &Run, held: &Held) -> Option<Reason>
-    requires row { row ≡ row_of op.now }
-    requires role { role ≡ role_of op.now.opcode op.now.arg }
-    requires small { run.now.loose + size_of op.now < 2 ^ 63 }
-    ensures { result ≡ reason_of op.now (before run.now held.now) }
-{
-    if let Some(why) = other_argument(op) {
-        return Some(why);
-    }
-    if let Some(why) = run.other(op) {
-        return Some(why);
-    }
-    if let Some(why) = held.other_behind_two(is_reduce(op.opcode())) {
-        return Some(why);
-    }
-    held.other(run.first_here(op), row, role)
 }
 
 impl FormSoFar {
@@ -75,13 +48,19 @@ impl FormSoFar {
         ensures first { IfOk result (λ why. why ≡ reason_of op.now self.old) }
         ensures next { IfOk result (λ why. why ≡ None → self.new ≡ after op.now self.old) }
     {
-        let role = role_of(op);
-        if let Some(why) = reason_of(op, row, role, &self.run, &self.held) {
+        let spelled = spelling_of(op);
+        if let Some(why) = spelled.why {
             return Ok(Some(why));
         }
-        let first = self.run.first_here(op);
-        self.held.perform(first, row, role)?;
-        self.run = self.run.after(op);
+        if let Some(why) = self.run.take(op, spelled.last) {
+            return Ok(Some(why));
+        }
+        if let Some(why) = self.held.other_behind_two(is_reduce(op.opcode())) {
+            return Ok(Some(why));
+        }
+        if let Some(why) = self.held.take(self.run.first(), row, spelled.role)? {
+            return Ok(Some(why));
+        }
         Ok(None)
     }
 }

@@ -1,6 +1,6 @@
 -- What is kept of objects says of others what the gate does.
 use Rattle.std.proofs.Common.{◌≡◌, ℕ, Bool, true, false, List, map, Option, Some, None, refl, sym, ap, subst, ◌∙◌}
-use Rattle.std.specs.Prelude.{slice_get, if◌then◌else◌}
+use Rattle.std.specs.Prelude.{◌&&◌, slice_get, if◌then◌else◌}
 use Rattle.std.specs.Option.{option_map, option_map_or, unwrap_or}
 use Rattle.std.proofs.lemmas.Option.{slice_get-map}
 use Rattle.pickle_ops.specs.declared.kind.Kind.{Kind}
@@ -13,11 +13,12 @@ use Rattle.pickle_allow.specs.declared.grant.Grant.{Grant}
 use Rattle.pickle_allow.specs.Allow.{Source, has, is_in, allows, may_find, may_use}
 use Rattle.pickle_allow.specs.Source.{line_text, part_text, of_part, import_name, itself, made_of, source_at, callee_source, extension_word, persistent_word, buffer_word, source_of}
 use Rattle.pickle_allow.specs.Granted.{uses_by, grant_of}
+use Rattle.pickle_allow.specs.Arguments.{may_be_given, may_be_set}
 use Rattle.pickle_show.specs.declared.event.Event.{Event}
 use Rattle.pickle_show.specs.declared.event.Event.TheVariants as event
 use Rattle.pickle_gate.specs.declared.judge.Made.TheVariants as made
 use Rattle.pickle_gate.specs.Gate.{may_make, may_happen}
-use Rattle.pickle_gate.specs.Kept.{no_uses, nothing_granted, kept_of, granted, may_do, found_made, call_made, callee, called, by_grant, named, making, allowed_if, judged_event, event_source, judged, KeptIsJudged}
+use Rattle.pickle_gate.specs.Kept.{no_uses, nothing_granted, kept_of, granted, may_do, found_made, call_made, callee, called, by_grant, named, making, allowed_if, only_if, judged_event, event_source, judged, KeptIsJudged}
 
 abbrev Grants : List Entry → List (Option Source) → List Grant
 Grants list from = map (kept_of list) from
@@ -85,17 +86,26 @@ use_is list from what id = ap (may_do what) (granted_is list from id) ∙ do_is 
 
 -- ---- the event of a step
 
+given_is : (list : List Entry) (good allowed : Bool) (s : Option Source) → only_if good (judged list allowed s) ≡ judged list (allowed && good) s
+given_is list true true s = refl
+given_is list true false s = refl
+given_is list false true s = refl
+given_is list false false s = refl
+
 made_is : (list : List Entry) (proto : ℕ) (heap : List Object) (from : List (Option Source)) (x : Option Object)
-    → option_map_or (λ (o : Object). making list proto heap (Grants list from) o.kind o.parts) x (made.Allowed nothing_granted)
-    ≡ judged list (option_map_or (λ (o : Object). may_make list proto heap from o.kind o.parts) x true) (option_map_or (λ (o : Object). source_of proto heap from o.kind o.parts) x None)
+    → option_map_or (λ (o : Object). only_if (may_be_given list proto heap o.kind o.parts) (making list proto heap (Grants list from) o.kind o.parts)) x (made.Allowed nothing_granted)
+    ≡ judged list (option_map_or (λ (o : Object). may_make list proto heap from o.kind o.parts && may_be_given list proto heap o.kind o.parts) x true) (option_map_or (λ (o : Object). source_of proto heap from o.kind o.parts) x None)
 made_is list proto heap from None = refl
-made_is list proto heap from (Some o) = making_is list proto heap from o.kind o.parts
+made_is list proto heap from (Some o) =
+    ap (only_if (may_be_given list proto heap o.kind o.parts)) (making_is list proto heap from o.kind o.parts)
+    ∙ given_is list (may_be_given list proto heap o.kind o.parts) (may_make list proto heap from o.kind o.parts) (source_of proto heap from o.kind o.parts)
 
 event_is : (list : List Entry) (proto : ℕ) (heap : List Object) (from : List (Option Source)) (e : Option Event)
     → judged_event list proto heap (Grants list from) e ≡ judged list (may_happen list proto heap from e) (event_source proto heap from e)
 event_is list proto heap from None = refl
 event_is list proto heap from (Some (event.Made id)) = made_is list proto heap from (slice_get heap id)
-event_is list proto heap from (Some (event.State value target)) = ap allowed_if (use_is list from use_of.State target)
+event_is list proto heap from (Some (event.State value target)) =
+    ap (λ (b : Bool). allowed_if (b && may_be_set list proto heap value target)) (use_is list from use_of.State target)
 event_is list proto heap from (Some (event.Filled how count target)) = ap allowed_if (use_is list from use_of.Fill target)
 
 pub kept_is_judged : KeptIsJudged

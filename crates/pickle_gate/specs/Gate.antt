@@ -1,6 +1,6 @@
 -- Which pickles pass.
 -- Source: own.
-use Rattle.std.specs.Prelude.{◌≡◌, ℕ, zero, suc, ◌^◌, ◌<◌, not, if◌then◌else◌, Bool, true, false, List, [], length, drop, slice_get, Option, Some, None}
+use Rattle.std.specs.Prelude.{◌≡◌, ℕ, zero, suc, ◌^◌, ◌<◌, ◌&&◌, not, if◌then◌else◌, Bool, true, false, List, [], length, drop, slice_get, Option, Some, None}
 use Rattle.std.specs.Option.{option_map_or}
 use Rattle.pickle_ops.specs.declared.form.Form.TheVariants as form
 use Rattle.pickle_ops.specs.declared.kind.Kind.{Kind}
@@ -25,6 +25,7 @@ use Rattle.pickle_allow.specs.declared.list.Use.TheVariants as use_of
 use Rattle.pickle_allow.specs.declared.list.Entry.{Entry}
 use Rattle.pickle_allow.specs.Allow.{Source, is_in, may_find, may_use}
 use Rattle.pickle_allow.specs.Source.{line_text, part_text, import_name, extension_word, persistent_word, buffer_word, source_at, callee_source, with_more}
+use Rattle.pickle_allow.specs.Arguments.{may_be_given, may_be_set}
 
 -- the protocol that PROTO in front says, or 0
 abbrev pub protocol_said : Option Operation → ℕ
@@ -62,11 +63,12 @@ may_make list proto heap from kind.Obj parts = may_use list use_of.Call (callee_
 may_make list proto heap from (kind.Inst names) parts = false
 may_make list proto heap from _ parts = true
 
--- an event
+-- an event: with these arguments, and with this state
 abbrev pub may_happen : List Entry → ℕ → List Object → List (Option Source) → Option Event → Bool
 may_happen list proto heap from None = true
-may_happen list proto heap from (Some (event.Made id)) = option_map_or (λ (o : Object). may_make list proto heap from o.kind o.parts) (slice_get heap id) true
-may_happen list proto heap from (Some (event.State value target)) = may_use list use_of.State (source_at from target)
+may_happen list proto heap from (Some (event.Made id)) =
+    option_map_or (λ (o : Object). may_make list proto heap from o.kind o.parts && may_be_given list proto heap o.kind o.parts) (slice_get heap id) true
+may_happen list proto heap from (Some (event.State value target)) = may_use list use_of.State (source_at from target) && may_be_set list proto heap value target
 may_happen list proto heap from (Some (event.Filled how count target)) = may_use list use_of.Fill (source_at from target)
 
 -- the event of item k

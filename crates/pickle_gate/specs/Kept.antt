@@ -1,5 +1,5 @@
 -- What is kept of each object while the gate goes over a pickle: what the list grants to it. These are no definitions of the gate.
-use Rattle.std.specs.Prelude.{◌≡◌, ℕ, ◌==◌, nat_lt, if◌then◌else◌, Bool, false, List, [], ◌∷◌, ◌++◌, length, map, slice_get, Option, Some, None}
+use Rattle.std.specs.Prelude.{◌≡◌, ℕ, ◌==◌, ◌&&◌, nat_lt, if◌then◌else◌, Bool, false, List, [], ◌∷◌, ◌++◌, length, map, slice_get, Option, Some, None}
 use Rattle.std.specs.Option.{option_map_or, unwrap_or}
 use Rattle.pickle_ops.specs.declared.kind.Kind.{Kind}
 use Rattle.pickle_ops.specs.declared.kind.Kind.TheVariants as kind
@@ -15,6 +15,7 @@ use Rattle.pickle_allow.specs.declared.grant.Grant.{Grant}
 use Rattle.pickle_allow.specs.Allow.{Source, has}
 use Rattle.pickle_allow.specs.Source.{line_text, part_text, import_name, extension_word, persistent_word, buffer_word, source_of}
 use Rattle.pickle_allow.specs.Granted.{grant_of, granted_to}
+use Rattle.pickle_allow.specs.Arguments.{may_be_given, may_be_set}
 use Rattle.pickle_gate.specs.Gate.{protocol_said, may_happen}
 use Rattle.pickle_gate.specs.declared.judge.Made.{Made}
 use Rattle.pickle_gate.specs.declared.judge.Made.TheVariants as made
@@ -85,12 +86,16 @@ making list proto heap grants _ parts = made.Allowed nothing_granted
 abbrev pub allowed_if : Bool → Made
 allowed_if good = if good then made.Allowed nothing_granted else made.Forbidden
 
+-- with arguments that are allowed
+abbrev pub only_if : Bool → Made → Made
+only_if good m = if good then m else made.Forbidden
+
 -- what comes of it: whether it is allowed, and what is granted to the object that it made
 abbrev pub judged_event : List Entry → ℕ → List Object → List Grant → Option Event → Made
 judged_event list proto heap grants None = made.Allowed nothing_granted
 judged_event list proto heap grants (Some (event.Made id)) =
-    option_map_or (λ (o : Object). making list proto heap grants o.kind o.parts) (slice_get heap id) (made.Allowed nothing_granted)
-judged_event list proto heap grants (Some (event.State value target)) = allowed_if (may_do use_of.State (granted grants target))
+    option_map_or (λ (o : Object). only_if (may_be_given list proto heap o.kind o.parts) (making list proto heap grants o.kind o.parts)) (slice_get heap id) (made.Allowed nothing_granted)
+judged_event list proto heap grants (Some (event.State value target)) = allowed_if (may_do use_of.State (granted grants target) && may_be_set list proto heap value target)
 judged_event list proto heap grants (Some (event.Filled how count target)) = allowed_if (may_do use_of.Fill (granted grants target))
 
 -- this is granted to the newest of so many objects, if it is not kept yet

@@ -1,15 +1,17 @@
 //! What a list says of one object that is made, or that something is put into.
 
-ghost use Rattle.std.specs.Prelude.{◌≡◌, slice_get, Some, IfOk, OnOk};
+ghost use Rattle.std.specs.Prelude.{◌≡◌, ◌&&◌, slice_get, Some, IfOk, OnOk};
 ghost use Rattle.std.specs.Option.{option_map};
 ghost use Rattle.pickle_ops.specs.KindRef.{kind_view};
 ghost use Rattle.pickle_allow.specs.Source.{import_name};
+ghost use Rattle.pickle_allow.specs.Arguments.{limits_of, may_be_given, may_be_set};
 ghost use Rattle.pickle_gate.specs.Gate.{protocol_said};
-ghost use Rattle.pickle_gate.specs.Kept.{granted, may_do, named, found_made, callee, called, making, allowed_if, judged_event, kept_to, protocol_here};
+ghost use Rattle.pickle_gate.specs.Kept.{granted, may_do, named, found_made, callee, called, making, allowed_if, only_if, judged_event, kept_to, protocol_here};
 
 use crate::packed::Packed;
 use pickle_allow::{
-    Entry, Grant, Use, Uses, extension_word, grant_of, import_name, line_text, part_text,
+    Entry, Grant, Use, Uses, extension_word, grant_of, import_name, line_text, may_be_given,
+    may_be_set, part_text,
 };
 use pickle_machine::Inspect;
 use pickle_ops::{KindRef, Look, ObjId, OpRef, Opcode};
@@ -164,6 +166,48 @@ fn make<M: Inspect>(
     }
 }
 
+/// What is granted to an object that is made, if its arguments are allowed.
+fn make_given<M: Inspect>(
+    alloc: Global,
+    list: &[Entry<'_>],
+    limits: &[Entry<'_>],
+    protocol: u64,
+    machine: &M,
+    grants: &[Packed],
+    look: Look<'_>,
+) -> Result<Made, AllocError>
+    requires { limits.now ≡ limits_of list.now }
+    ensures { IfOk result (λ m. m ≡ only_if (may_be_given list.now protocol (M.state machine.now).heap (kind_view look.entry.kind) look.entry.parts.now) (making list.now protocol (M.state machine.now).heap grants.now (kind_view look.entry.kind) look.entry.parts.now)) }
+{
+    let made = make(alloc, list, protocol, machine, grants, look)?;
+    if may_be_given(alloc, list, limits, protocol, machine, look)? {
+        Ok(made)
+    } else {
+        Ok(Made::Forbidden)
+    }
+}
+
+/// What comes of a state: whether it may be given one, and this one.
+fn set<M: Inspect>(
+    alloc: Global,
+    list: &[Entry<'_>],
+    limits: &[Entry<'_>],
+    protocol: u64,
+    machine: &M,
+    grants: &[Packed],
+    value: ObjId,
+    target: ObjId,
+) -> Result<Made, AllocError>
+    requires { limits.now ≡ limits_of list.now }
+    ensures { IfOk result (λ m. m ≡ allowed_if (may_do Use.State (granted grants.now target) && may_be_set list.now protocol (M.state machine.now).heap value target)) }
+{
+    if !may_use(grants, Use::State, target) {
+        return Ok(Made::Forbidden);
+    }
+    let good = may_be_set(alloc, list, limits, protocol, machine, value, target)?;
+    Ok(allowed_if(good))
+}
+
 /// What comes of an event that made nothing.
 fn allowed_if(good: bool) -> Made
     ensures { result ≡ allowed_if good }
@@ -176,24 +220,31 @@ fn allowed_if(good: bool) -> Made
 }
 
 /// What comes of the event of a step: whether it is allowed, and what is granted to the object that it made. A name is decoded and matched once,
-/// where it is imported.
+/// where it is imported, and once more where it is called, if the list limits arguments. `limits` are the entries that limit something.
+#[tactic(auto, using(crate::proofs::Looked::judge_rules))]
 pub fn judge<M: Inspect>(
     alloc: Global,
     list: &[Entry<'_>],
+    limits: &[Entry<'_>],
     protocol: u64,
     machine: &M,
     grants: &[Packed],
     event: Option<Event>,
 ) -> Result<Made, AllocError>
+    requires { limits.now ≡ limits_of list.now }
     ensures { IfOk result (λ m. m ≡ judged_event list.now protocol (M.state machine.now).heap grants.now event) }
 {
     match event {
         None => Ok(Made::Allowed(NOTHING)),
         Some(Event::Made(id)) => match machine.look(id) {
-            Some(look) => make(alloc, list, protocol, machine, grants, look),
+            Some(look) => make_given(alloc, list, limits, protocol, machine, grants, look),
             None => Ok(Made::Allowed(NOTHING)),
         },
-        Some(Event::State(_, target)) => Ok(allowed_if(may_use(grants, Use::State, target))),
+        Some(Event::State(value, target)) => {
+            set(
+                alloc, list, limits, protocol, machine, grants, value, target,
+            )
+        }
         Some(Event::Filled(_, _, target)) => Ok(allowed_if(may_use(grants, Use::Fill, target))),
     }
 }

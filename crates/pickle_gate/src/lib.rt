@@ -5,6 +5,7 @@ mod judge;
 mod laws;
 mod line;
 mod packed;
+mod seen;
 mod verdict;
 mod walk;
 

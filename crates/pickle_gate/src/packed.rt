@@ -1,6 +1,6 @@
 //! What is granted to an object, in a byte.
 
-ghost use Rattle.std.specs.Prelude.{◌≡◌, ◌<◌, if◌then◌else◌};
+ghost use Rattle.std.specs.Prelude.{◌≡◌, ◌<◌, if◌then◌else◌, true};
 ghost use Rattle.pickle_gate.specs.Packed.{uses_in};
 
 use pickle_allow::{Grant, Uses};
@@ -48,13 +48,23 @@ fn uses_in(flags: u8) -> Uses
     }
 }
 
+/// Whether nothing may be done.
+fn is_none(uses: Uses) -> bool
+    ensures { result ≡ true → uses_in 0 ≡ uses }
+{
+    !uses.call && !uses.new && !uses.state && !uses.fill
+}
+
 impl Packed {
     ghost use Rattle.std.specs.Prelude.{◌≡◌};
 
-    /// This is granted.
+    /// This is granted. Most objects are granted nothing.
     pub fn of(grant: Grant) -> Packed
         ensures { result ≡ grant }
     {
+        if is_none(grant.now) && is_none(grant.made) {
+            return Packed { flags: 0 };
+        }
         Packed {
             flags: flags_of(grant.now) + 16 * flags_of(grant.made),
         }

@@ -6,13 +6,14 @@ ghost use Rattle.pickle_form.specs.Form.{at_place};
 ghost use Rattle.pickle_gate.specs.Verdict.{IsVerdict};
 
 use crate::judge::{Made, judge, keep, protocol_here};
+use crate::seen::{event_here, looked_before};
 use crate::verdict::Verdict;
-use pickle_allow::Entry;
+use pickle_allow::{Entry, limits_of};
 use pickle_doc::{ItemSource, Items, NextRef, is_stop};
 use pickle_form::{FormSoFar, Other, Reason, fault_reason};
 use pickle_machine::{Inspect, Refusal, Slim};
 use pickle_ops::Row;
-use pickle_show::{Before, Closing, Ending, event_of};
+use pickle_show::{Closing, Ending};
 use std::alloc::{AllocError, Global};
 
 /// What is said of a place that is not as picklers write it.
@@ -51,6 +52,7 @@ pub fn gate(alloc: Global, list: &[Entry<'_>], bytes: &[u8]) -> Result<Verdict, 
     requires { length bytes.now ≤ size_limit }
     ensures { IfOk result (IsVerdict list.now bytes.now) }
 {
+    let limits = limits_of(alloc, list)?;
     let mut reader = Items::new(bytes);
     let mut form = FormSoFar::begin(alloc);
     let mut machine = Slim::new(alloc, false, bytes);
@@ -66,16 +68,24 @@ pub fn gate(alloc: Global, list: &[Entry<'_>], bytes: &[u8]) -> Result<Verdict, 
                 if let Some(why) = form.take(&op, row)? {
                     return Ok(other(place, offset, why));
                 }
-                let before = Before::of(&machine);
+                let before = looked_before(row, &machine);
                 if let Err(refusal) = machine.step(alloc, row, &op) {
                     if refusal == Refusal::Memory {
                         return Err(AllocError);
                     }
                     return Ok(refused(place, refusal));
                 }
-                let event = event_of(row, before, &machine);
+                let event = event_here(row, before, &machine);
                 protocol = protocol_here(place, &op, protocol);
-                match judge(alloc, list, protocol, &machine, grants.as_slice(), event)? {
+                match judge(
+                    alloc,
+                    list,
+                    limits.as_slice(),
+                    protocol,
+                    &machine,
+                    grants.as_slice(),
+                    event,
+                )? {
                     Made::Forbidden => return Ok(Verdict::Forbidden(place, offset)),
                     Made::Allowed(grant) => keep(&mut grants, machine.objects(), grant)?,
                 }

@@ -5,17 +5,14 @@ from __future__ import annotations
 from typing import Iterable, Optional
 
 from .. import library
+from ..addresses import opened_in
 from ..errors import ProgramError
 from ..program import check_timeout, run_program
 from ..records import GateAnswer
 from ..replies import gate_answer
 from ..sources import Input, Source, content_of
 from .allow import read_lines
-from .blobs import Budget, BytesBlob, Limits
 from .names import Names
-from .reading import Asked
-from .results import ODD, Call
-from .wording import shown
 
 __all__ = ['gate', 'gate_by']
 
@@ -30,11 +27,12 @@ def gate(source: Source, *, allow: Iterable[str] = (), names: Iterable[str] = ()
     `allow` has sets and files as `scan --allow` takes them, and `names` names and patterns; without both no import is allowed. `timeout` and
     `memory` are as for `calls`. Who loads a file loads the bytes that passed, and not the file again: it may change.
 
-    The program decides by a list of names and uses, and this is proved of it: where it says that the bytes pass, CPython's unpicklers, as they are
+    The program decides by the lines of the lists, and this is proved of it: where it says that the bytes pass, CPython's unpicklers, as they are
     defined for the proofs, import nothing but names that the list has, whatever is around them. They call, make, fill and change nothing but what
-    the list grants this use to, and ask for no extension, persistent object or buffer without a line for that.
+    the list grants this use to, and ask for no extension, persistent object or buffer without a line for that. What calls are given has a shape
+    of the list, where it has some for them.
 
-    Not proved: that the package gives the program all of the list, and no more, and that calls have only arguments of the shapes that lists have.
+    Not proved: that the package gives the program all of the list, and no more.
     Not said at all: what allowed code does with what it is given, what methods do that run unseen (`__hash__`), and what a loader does that has
     another `find_class`, or is none of CPython's. A pickle that passes may still do harm by these.
 
@@ -48,7 +46,8 @@ def gate(source: Source, *, allow: Iterable[str] = (), names: Iterable[str] = ()
     (False, 'not allowed', 30)
     """
     words, lines = ([given] if isinstance(given, str) else list(given) for given in (allow, names))
-    return gate_by(Names([*read_lines(words), *lines]), content_of(source), timeout, memory)
+    opened = opened_in(source)
+    return gate_by(Names([*read_lines(words), *lines]), content_of(source) if opened is None else opened.content, timeout, memory)
 
 
 def gate_by(allowed: Names, content: bytes, timeout: Optional[float] = None, memory: Optional[int] = None, more: Iterable[str] = ()) -> GateAnswer:
@@ -60,32 +59,9 @@ def gate_by(allowed: Names, content: bytes, timeout: Optional[float] = None, mem
         text = _of_program(entries, content, timeout, memory)
     if not text.endswith(b'\n') or text.startswith(_NO_LIST):
         raise ProgramError(text.decode('ascii').strip() or 'the program gave no whole answer')
-    answer = gate_answer(text.decode('ascii'))
-    return _by_arguments(allowed, content, timeout, answer) if answer.passes else answer
+    return gate_answer(text.decode('ascii'))
 
 
 def _of_program(entries: bytes, content: bytes, timeout: Optional[float], memory: Optional[int]) -> bytes:
     with Input(entries) as listed, Input(content) as given:
         return run_program(['gate', listed.path, given.path], [*listed.files, *given.files], timeout=timeout, memory=memory)
-
-
-def _is_unknown(allowed: Names, done: Call) -> bool:
-    """Whether what is called has a name of which no line is found, though the program found one: so its arguments are not compared."""
-    return bool(done.name) and done.what in ('call', 'new', 'inst') and allowed.note(done.name) is None
-
-
-def _by_arguments(allowed: Names, content: bytes, timeout: Optional[float], passed: GateAnswer) -> GateAnswer:
-    """What is to be said of a pickle that passes: some call may have arguments that no list has."""
-    limits = Limits(seconds=Limits().seconds if timeout is None else timeout, shapes=allowed.with_shapes())
-    if not limits.shapes:
-        return passed
-    with Asked(BytesBlob(content)) as asked:
-        summary = asked.summary(Budget(limits))
-    if summary.trouble is not None:
-        return GateAnswer(False, summary.trouble, 'arguments', summary.trouble)
-    odd = [done for done in summary.pickle((), len(content)).calls
-           if done.what == ODD or not allowed.allows_done(done.what, done.name, done.fits) or _is_unknown(allowed, done)]
-    if not odd:
-        return passed
-    first = min(odd, key=lambda done: done.offset)
-    return GateAnswer(False, f'{first.offset}: not allowed with these arguments: {shown(first.text)}', 'arguments', shown(first.text), first.offset)

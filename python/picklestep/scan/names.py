@@ -61,6 +61,7 @@ class Names:
     """
 
     def __init__(self, lines: Iterable[str]) -> None:
+        self._lines: List[Line] = []
         self.names: Dict[str, str] = {}
         self.patterns: List[Tuple[str, Pattern[str], str]] = []
         self._found: Dict[str, Optional[str]] = {}
@@ -74,6 +75,7 @@ class Names:
         # What may be done with what calls make, by the names and patterns of the lines; None where that may be anything.
         self._made: Dict[str, Optional[FrozenSet[str]]] = {}
         self._has_limits = False
+        self._with_shapes: Optional[Tuple[str, ...]] = None
         # The patterns by their first part, since a hostile file may have a million names; those that begin with a star are under ''.
         self._by_part: Dict[str, List[Tuple[str, Pattern[str], str]]] = {}
         for line in lines:
@@ -85,6 +87,8 @@ class Names:
         name = line.name
         if line.is_include:
             raise NoList(f'only a file includes a list: {shown(name)}')
+        self._lines.append(line)
+        self._with_shapes = None
         self._words[name] = self._words.get(name, frozenset()) | line.words
         self._has_limits = self._has_limits or line.made is not None
         before = self._made.get(name, frozenset())
@@ -154,17 +158,16 @@ class Names:
 
     def with_shapes(self) -> Tuple[str, ...]:
         """Lines that have the shapes of these, and what they say of what calls make, and nothing else."""
-        limited = {name for name, made in self._made.items() if made is not None}
-        words = {name: [*(f'{word}({shape})' for word, shapes in (('call', self._shapes), (THEN, self._states)) for shape in sorted(shapes.get(name, ()))),
-                        *_made_words(self._made[name])] for name in sorted({*self._shapes, *self._states, *limited})}
-        return tuple(f'{name}: {" ".join(said)}' for name, said in words.items())
+        if self._with_shapes is None:  # (a set has a thousand, and they are wanted for each pickle)
+            limited = {name for name, made in self._made.items() if made is not None}
+            words = {name: [*(f'{word}({shape})' for word, shapes in (('call', self._shapes), (THEN, self._states)) for shape in sorted(shapes.get(name, ()))),
+                            *_made_words(self._made[name])] for name in sorted({*self._shapes, *self._states, *limited})}
+            self._with_shapes = tuple(f'{name}: {" ".join(said)}' for name, said in words.items())
+        return self._with_shapes
 
     def entries(self) -> Iterator[str]:
-        """The lines for the program's gate, one for each name and pattern. They say nothing of shapes, and leave out names that are shown in two
-        parts: the gate allows none of these."""
-        for name, words in self._words.items():
-            if _OF_GATE.fullmatch(name) is not None:
-                yield ' '.join([f'{name}:', *(word for word in _OF_LISTS if word in words), *_made_words(self._made[name])])
+        """The lines for the program's gate, without names that are shown in two parts: the gate allows none of these."""
+        return (_entry(line) for line in self._lines if _OF_GATE.fullmatch(line.name) is not None)
 
     def lines_of(self, name: str) -> List[str]:
         """The names and patterns that have this name."""
@@ -204,7 +207,7 @@ KINDS: Dict[str, str] = {
     'text': 'a text', 'short': 'a text or bytes, 64 at most', 'fraction': 'a text of digits, with one / at most', 'bytes': 'bytes',
     'number': 'a number', 'small': 'a whole number of at most six digits', 'bool': 'true or false', 'none': 'None',
     'held': 'a list or another object of the pickle, but no range', 'alone': 'the same, where the pickle has made no range', 'class': 'what is imported',
-    'any': 'any of these'}
+    'new': 'what is imported, and a list lets objects of it be made', 'any': 'any of these'}
 # A text in quotes, a whole number, what is imported by a name.
 _KIND = re.compile(r"'[\w.+-]+'|-?[0-9]+|[^\W\d]\w*(?:\.[^\W\d]\w*)+")
 _SHAPE = re.compile(r'(?<!\S)call\(([^()]*)\)(?!\S)')
@@ -289,6 +292,13 @@ def _with_new(words: FrozenSet[str]) -> FrozenSet[str]:
 def _made_words(made: Optional[FrozenSet[str]]) -> List[str]:
     """The words that say what may be done with what calls make."""
     return [] if made is None else [word for word, what in _OF_MADE.items() if what in made] or [MADE]
+
+
+def _entry(line: Line) -> str:
+    """A line as it is written, without its note."""
+    words = [word for word in _OF_LISTS if word in line.words and not (word == 'call' and line.shapes)]
+    shapes = [f'{word}({shape})' for word, shapes in (('call', line.shapes), (THEN, line.states)) for shape in sorted(shapes)]
+    return ' '.join([f'{line.name}:', *words, *shapes, *_made_words(line.made)])
 
 
 def _shape(text: str) -> str:

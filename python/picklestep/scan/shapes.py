@@ -11,7 +11,7 @@ from __future__ import annotations
 
 import re
 from functools import lru_cache
-from typing import Dict, FrozenSet, Iterable, Optional, Pattern, Set, Tuple
+from typing import Dict, FrozenSet, Optional, Pattern, Set, Tuple
 
 from .allow import SETS, read_names
 from .names import KINDS, MADE, Names
@@ -30,7 +30,7 @@ _CLASS = f'global {_QUOTED} {_QUOTED}'
 _FORMS: Dict[str, str] = {
     'text': _TEXT + _MORE, 'short': f'(?:string |raw |string raw |bytes |bytearray )?{_SHORT}', 'fraction': "(?:string )?'-?[0-9]+(?:/[0-9]+)?'", 'bytes': f'(?:bytes|bytearray|string)(?: raw)? {_QUOTED}{_MORE}',
     'number': rf"(?:int|long)(?:-line)? (?:'-?[0-9]+L?'|-?[0-9]+|le:[0-9a-f]*){_MORE}|float(?:-line)? (?:f8:[0-9a-f]+|'[^',()]*')|true|false",
-    'small': "(?:int|long)(?:-line)? (?:'-?[0-9]{1,6}L?'|-?[0-9]{1,6})", 'bool': 'true|false', 'none': 'none', 'held': _HELD, 'alone': _HELD, 'class': _CLASS,
+    'small': "(?:int|long)(?:-line)? (?:'-?[0-9]{1,6}L?'|-?[0-9]{1,6})", 'bool': 'true|false', 'none': 'none', 'held': _HELD, 'alone': _HELD, 'class': _CLASS, 'new': _CLASS,
     'any': f'(?:[a-z-]+ )*(?:{_QUOTED}(?: {_QUOTED})?{_MORE}|[^ ,\'"()#]+)|' + _HELD}
 assert set(_FORMS) == set(KINDS)
 # What is taken for no object that a pickle holds: a few bytes make one that has any number of items, or a number, which may count bytes.
@@ -75,8 +75,8 @@ class Shapes:
 
     def __init__(self, sets: Names, given: Names) -> None:
         self._lists = [sets, given]
-        self._given = given
         self._limits: Dict[str, bool] = {}
+        self._asked: Dict[str, bool] = {}
         self._by_name: Dict[str, Tuple[str, ...]] = {}
         self._states: Dict[str, Tuple[str, ...]] = {}
 
@@ -95,10 +95,16 @@ class Shapes:
         return self._states[name]
 
     def limits_made(self, name: str) -> bool:
-        """Whether the list that was given says of a name what may be done with what its calls make."""
+        """Whether a list says of a name what may be done with what its calls make."""
         if name not in self._limits:
-            self._limits[name] = self._given.limits_made(name)
+            self._limits[name] = any(names.limits_made(name) for names in self._lists)
         return self._limits[name]
+
+    def are_asked(self, name: str) -> bool:
+        """Whether the arguments of the calls of a name are asked about."""
+        if name not in self._asked:
+            self._asked[name] = name in _ENDLESS or bool(self.of(name) or self.states(name)) or self.limits_made(name)
+        return self._asked[name]
 
 
 @lru_cache(maxsize=64)
@@ -125,19 +131,21 @@ class Arguments:
 
     def has(self, name: str) -> bool:
         """Whether the arguments of its calls are asked about."""
-        return name in _ENDLESS or bool(self._shapes.of(name) or self._shapes.states(name)) or self._shapes.limits_made(name)
+        return self._shapes.are_asked(name)
 
     def fits(self, name: str, line: str, at: int) -> Tuple[str, ...]:
         """Which of the shapes for a name the arguments have, which stand at a place of a line, behind the name."""
-        text = _simplified(line[at:])
+        shapes = self._shapes.of(name)
+        text = _simplified(line[at:]) if shapes else ''
         is_odd = name in _NEW and text.startswith(_OWN)
-        fits = tuple([shape for shape in self._shapes.of(name) if not is_odd and self._has(shape, text)])
-        if name in _ENDLESS or name in _MAKERS and _MADE.match(text):
-            self._endless.add(line.rpartition('#')[2])
+        fits = tuple([shape for shape in shapes if not is_odd and self._has(shape, text)]) if shapes else shapes
+        number = line.rpartition('#')[2]
+        if name in _ENDLESS or name in _MAKERS and _MADE.match(_simplified(line[at:])):
+            self._endless.add(number)
         if self._shapes.states(name):
-            self._made[line.rpartition('#')[2]] = name
+            self._made[number] = name
         if self._shapes.limits_made(name):
-            self._limited[line.rpartition('#')[2]] = name
+            self._limited[number] = name
             fits = (*fits, MADE)
         return fits
 

@@ -52,7 +52,7 @@ returns-in-Forbidden c =
     let moves : move c.in-Item.op c.items.place c.items.machine.state ≡ Ok c.step.new.self.state = rw c.items.invariant.2.1 at c.in_default-step.ensures.ok in
     let step : Stepped c.items.place c.items.form c.items.machine.state c.step.new.self.state c.in-Item.op c.items.protocol c.protocol_here-protocol.result = record { formed = formed; moves = moves; protocol = c.protocol_here-protocol.ensures } in
     let judged : c.in_ok-judge-in-Item.field-0 ≡ judged_event c.args.list.now c.protocol_here-protocol.result c.step.new.self.state.heap c.items.grants.items (event_of (row_of c.in-Item.op) (before_of c.items.machine.state) c.step.new.self.state) =
-    rw (c.as_slice.ensures.value, c.event_of-event.ensures, c.of_ref-row.ensures, c.of-before.ensures) at c.in_ok-judge-in-Item.ensures in
+    rw (c.as_slice-in-Item.ensures.value, c.event_here-event.ensures, c.looked_before-before.ensures c.step.new.self.state, c.of_ref-row.ensures) at c.in_ok-judge-in-Item.ensures in
     ends_forbidden _ _ _ _ _ _ _ c.step.new.self.state c.in-Item.op c.protocol_here-protocol.result w here step (sym c.in-Forbidden.is ∙ judged)
 
 pub returns-then-is_stop : goal.returns-then-is_stop
@@ -65,7 +65,7 @@ returns-then-is_stop c =
     let moves : move c.in-Item.op c.items.place c.items.machine.state ≡ Ok c.step.new.self.state = rw c.items.invariant.2.1 at c.in_default-step.ensures.ok in
     let step : Stepped c.items.place c.items.form c.items.machine.state c.step.new.self.state c.in-Item.op c.items.protocol c.protocol_here-protocol.result = record { formed = formed; moves = moves; protocol = c.protocol_here-protocol.ensures } in
     let judged : c.in_ok-judge-in-Item.field-0 ≡ judged_event c.args.list.now c.protocol_here-protocol.result c.step.new.self.state.heap c.items.grants.items (event_of (row_of c.in-Item.op) (before_of c.items.machine.state) c.step.new.self.state) =
-    rw (c.as_slice.ensures.value, c.event_of-event.ensures, c.of_ref-row.ensures, c.of-before.ensures) at c.in_ok-judge-in-Item.ensures in
+    rw (c.as_slice-in-Item.ensures.value, c.event_here-event.ensures, c.looked_before-before.ensures c.step.new.self.state, c.of_ref-row.ensures) at c.in_ok-judge-in-Item.ensures in
     let good : made.Allowed c.in-Allowed.grant ≡ judged_event c.args.list.now c.protocol_here-protocol.result c.step.new.self.state.heap c.items.grants.items (event_of (row_of c.in-Item.op) (before_of c.items.machine.state) c.step.new.self.state) = sym c.in-Allowed.is ∙ judged in
     let stop : is_stop c.in-Item.op.opcode ≡ c.is_stop.result = sym (c.is_stop.ensures ∙ ap is_stop c.opcode.ensures) in
     let rest : c.unread_len.result ≡ length (drop (size_of c.in-Item.op) c.items.reader.rest) = c.unread_len.ensures ∙ ap (λ (u : Unread). length u.rest) n.1 in
@@ -81,7 +81,7 @@ items-preserved c =
     let moves : move c.in-Item.op c.items.place c.items.machine.state ≡ Ok c.step.new.self.state = rw c.items.invariant.2.1 at c.in_default-step.ensures.ok in
     let step : Stepped c.items.place c.items.form c.items.machine.state c.step.new.self.state c.in-Item.op c.items.protocol c.protocol_here-protocol.result = record { formed = formed; moves = moves; protocol = c.protocol_here-protocol.ensures } in
     let judged : c.in_ok-judge-in-Item.field-0 ≡ judged_event c.args.list.now c.protocol_here-protocol.result c.step.new.self.state.heap c.items.grants.items (event_of (row_of c.in-Item.op) (before_of c.items.machine.state) c.step.new.self.state) =
-    rw (c.as_slice.ensures.value, c.event_of-event.ensures, c.of_ref-row.ensures, c.of-before.ensures) at c.in_ok-judge-in-Item.ensures in
+    rw (c.as_slice-in-Item.ensures.value, c.event_here-event.ensures, c.looked_before-before.ensures c.step.new.self.state, c.of_ref-row.ensures) at c.in_ok-judge-in-Item.ensures in
     let good : made.Allowed c.in-Allowed.grant ≡ judged_event c.args.list.now c.protocol_here-protocol.result c.step.new.self.state.heap c.items.grants.items (event_of (row_of c.in-Item.op) (before_of c.items.machine.state) c.step.new.self.state) = sym c.in-Allowed.is ∙ judged in
     let stop : is_stop c.in-Item.op.opcode ≡ c.is_stop.result = sym (c.is_stop.ensures ∙ ap is_stop c.opcode.ensures) in
     let kept : c.keep.new.grants.items ≡ kept_to (length c.step.new.self.state.heap) c.in-Allowed.grant c.items.grants.items = rw c.objects.ensures at c.in_ok-keep-in-Allowed.ensures in
