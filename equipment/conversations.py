@@ -32,7 +32,15 @@ WORD = re.compile(r"\$ (?:picklestep (\w+) a\.pickle(?: --save b\.pickle)?((?: [
 OPTIONS: dict[str, list[str]] = {"pickle": [], "pickles": ["--many"], "unframed": ["--unframed"]}
 # the lines with which a command has status 1
 REFUSED = ("refused: ", "fault: ")
-REFUSALS: dict[str, tuple[str, ...]] = {"list": REFUSED, "objects": REFUSED, "calls": (*REFUSED, "kept: ", "unsure: "), "form": ("not in form: ",)}
+# the words that take no --many
+WITHOUT_MANY = ("reach",)
+REFUSALS: dict[str, tuple[str, ...]] = {
+    "list": REFUSED,
+    "objects": REFUSED,
+    "calls": (*REFUSED, "kept: ", "unsure: ", "warning: "),
+    "form": ("not in form: ",),
+    "reach": ("reached at ", "too many ways "),
+}
 
 
 @dataclass
@@ -186,7 +194,7 @@ def fault_of(program: str, block: Block, folder: pathlib.Path) -> str:
     """What is wrong with a conversation, or an empty text. The folder gets the pickles."""
     folder.mkdir(exist_ok=True)
     why = fault_in(program, block, block.options, folder)
-    if not why and not block.options and not keeps_bytes(program, block, folder):
+    if not why and not block.options and not set(block.written) & set(WITHOUT_MANY) and not keeps_bytes(program, block, folder):
         why = fault_in(program, block, ["--many"], folder)
     return why
 

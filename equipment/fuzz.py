@@ -60,6 +60,7 @@ IMPORT_LINE = re.compile(r"^ *\d+: (?:import|inst) ", re.M)
 HEADING = re.compile(r"^a loader .*may go on:$", re.M)
 # (a STOP inside a frame, where the strict lines end and `objects` goes on)
 UNSURE_LINE = re.compile(r"^unsure: U[12] .*\n", re.M)
+WARNING_LINE = re.compile(r"^warning: W1 #\d+ leads to the unpickler\n", re.M)
 CALL_LINE = re.compile(r"^ *\d+: (?:inst|call|new|state|append|set|add) ", re.M)
 WHERE = re.compile(r"at (\d+) of (\d+), offset (\d+), buffers (\d+), result (none|#\d+(?: #\d+)*), end (.*)")
 VIEW = "where\nitems\nstack\nmemo\nobjects\n"
@@ -446,11 +447,12 @@ class Case:
         text = HEADING.split(calls, maxsplit=1)[0]
         unsure = UNSURE_LINE.search(text)
         made, opaque = MADE_LINE.findall(text), OPAQUE_LINE.findall(report)
-        if made != (opaque[: len(made)] if unsure else opaque) or status != (wanted or bool(unsure) or "\nkept: " in f"\n{text}"):
+        is_open = bool(wanted or unsure or WARNING_LINE.search(text) or "\nkept: " in f"\n{text}")
+        if made != (opaque[: len(made)] if unsure else opaque) or status != is_open:
             raise Broken("calls and objects are not of the same objects")
         counts = f"{len(IMPORT_LINE.findall(text))} imports, {len(CALL_LINE.findall(text))} calls\n"
         closing = unsure[0] if unsure else report.splitlines(keepends=True)[-1] if wanted else ""
-        if not re.search(re.escape(counts + closing) + r"(?:kept: \d+ bytes after STOP\n)?$", text):
+        if not re.search(re.escape(counts + closing) + r"(?:kept: \d+ bytes after STOP\n)?$", WARNING_LINE.sub("", text)):
             raise Broken(f"calls does not end in {counts + closing!r}")
         full, ended = self.answers(["calls", "--full", *first, str(self.file)])
         lines, whole = calls.splitlines(), full.splitlines()

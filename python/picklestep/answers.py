@@ -254,8 +254,19 @@ class Reached(Answer[Reach]):
         """
         return self._closing.end(self._refused_at)
 
+    @property
+    def warning(self) -> Optional[str]:
+        """What the program warns of: that an import leads to the unpickler itself, so that what stands behind its line may do what no line shows.
+        None where no import does.
+
+        >>> import picklestep
+        >>> picklestep.calls(b'cgc\\nget_objects\\n.').warning
+        'W1 #0 leads to the unpickler'
+        """
+        return self._closing.warning
+
     def _summary(self) -> str:
-        return f'{self.imports} imports, {self.calls} calls, {self.end.text}'
+        return f'{self.imports} imports, {self.calls} calls, {self.end.text}{f", {self.warning}" if self.warning else ""}'
 
 
 class Part(Reached):
@@ -284,6 +295,8 @@ class Calls(Reached):
 
     def __init__(self, text: str, refused_at: Optional[int] = None) -> None:
         super().__init__(text, refused_at)
+        # The bytes that were left out, each with its offset and its length.
+        self.skipped: Tuple[Tuple[int, int], ...] = ()
         headings = texts.headings_in(text)
         ends = [heading.start for heading in headings[1:]] + [len(text)]
         self._parts = tuple(Part(text, heading.words, heading.end + 1, end) for heading, end in zip(headings, ends))
@@ -344,7 +357,7 @@ class Calls(Reached):
         >>> picklestep.calls(b'\\x80\\x04\\x95\\x09\\0\\0\\0\\0\\0\\0\\0N.').hints[0][:34]
         'what is in that frame is not read:'
         """
-        return self._watch.hints
+        return self._watch.hints_of_frames if self.skipped else self._watch.hints
 
     @property
     def kept(self) -> int:

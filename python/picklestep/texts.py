@@ -59,7 +59,7 @@ _HOW = {b'+': 'append', b'&': 'add', b'!': 'state', b'[': 'key', b'=': 'value'}
 _READONLY = re.compile(rb'^#[0-9]+ readonly ', re.MULTILINE)
 NAMED_BY_TEXTS = re.compile(rb'^#([0-9]+) stack-global \(#([0-9]+) #([0-9]+)\)', re.MULTILINE)
 _CONTAINER = re.compile(r'^begins like an? (.*): picklestep scan looks into it$', re.MULTILINE)
-_CLOSING = re.compile(r'(?:it (?=ends: ))?(refused|fault|unsure|left|kept|ends): (.*)|(highest protocol among opcodes) = (.*)|result #.*|'
+_CLOSING = re.compile(r'(?:it (?=ends: ))?(refused|fault|unsure|left|kept|ends|warning): (.*)|(highest protocol among opcodes) = (.*)|result #.*|'
                       r'[0-9]+ imports, .*|begins like .*')
 
 
@@ -345,6 +345,15 @@ class Closing:
     def kept(self) -> int:
         """How many bytes are after STOP."""
         return int(self.lines.get('kept', '0').partition(' ')[0])
+
+    @property
+    def warning(self) -> Optional[str]:
+        """What the line says by which the program warns; None where there is none.
+
+        >>> Closing({'warning': 'W1 #0 leads to the unpickler'}).warning
+        'W1 #0 leads to the unpickler'
+        """
+        return self.lines.get('warning')
 
     @property
     def is_refused(self) -> bool:

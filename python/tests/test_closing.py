@@ -46,10 +46,11 @@ _FORMS: Dict[str, Dict[str, str]] = {
     'calls': {**_EVENT, **_FAULT_LINE, **_KEPT, **_REFUSED_ITEM, 'T': f'(?P<imports>{_NUMBER}) imports, (?P<calls>{_NUMBER}) calls',
               'B': f'begins like an? (?P<container>{_NAMES}): picklestep scan looks into it',
               'U': f'unsure: (?P<unsure>(?:U1 frame goes on behind STOP|U2 rest of a frame is lost) at (?P<offset>{_NUMBER}))',
+              'W': f'warning: (?P<warning>W1 #{_NUMBER} leads to the unpickler)',
               'H': f'(?P<heading>(?:{_READINGS}) may go on):',
               'E': f'it ends: (?:STOP|{_REFUSED_ITEM["R"]}|{_FAULT_LINE["F"]})'}}
 # In which order they stand. A text that is refused for bytes to leave out, which are not there, is that line alone.
-_ORDERS = {'list': '(?:oL?)*(?:K?|F|R)P?', 'objects': 'o*T*(?:F|R)?', 'calls': 'o*B?T(?:K|U|(?:F|R)?U?)(?:Ho+TE)*'}
+_ORDERS = {'list': '(?:oL?)*(?:K?|F|R)P?', 'objects': 'o*T*(?:F|R)?', 'calls': 'o*B?T(?:KW?|UW?|(?:F|R)?W?U?)(?:Ho+TEW?)*'}
 _OUTSIDE = re.compile(f'refused: (?P<words>hole {_NUMBER}:{_NUMBER} ends behind the last of {_NUMBER} bytes)\n')
 _PATTERNS = {what: {letter: re.compile(form) for letter, form in forms.items()} for what, forms in _FORMS.items()}
 
@@ -187,6 +188,7 @@ class ClosingLines(unittest.TestCase):
         totals = number_in(forms, 'T', 'imports'), number_in(forms, 'T', 'calls')
         self.assertEqual(((answer.imports, answer.calls), counts_in(lines, 0, len(lines))), (totals, totals))
         self.assertEqual(answer.end, end_in(forms))
+        self.assertEqual([answer.warning], [form.said['warning'] for form in forms if form.letter == 'W'] or [None])
 
     def test_rows(self) -> None:
         """There is each form in them, and of each refusal and fault a line."""

@@ -1,5 +1,5 @@
 -- What the lines behind the end promise.
-use Rattle.std.proofs.Common.{◌≡◌, ℕ, ◌<◌, ◌==◌, ◌&&◌, Bool, true, false, List, length, Option, Some, None, Ok, refl, sym, ap, ◌∙◌, arith}
+use Rattle.std.proofs.Common.{◌≡◌, ℕ, ◌<◌, ◌==◌, ◌&&◌, Bool, true, false, List, ◌++◌, length, Option, Some, None, Ok, refl, sym, ap, ◌∙◌, arith, append_assoc}
 use Rattle.std.specs.Prelude.{slice_get, if◌then◌else◌, Result, Err}
 use Rattle.pickle_io.specs.Text.{◌⧺◌}
 use Rattle.pickle_ops.specs.declared.fault.FrontFault.{FrontFault}
@@ -22,13 +22,21 @@ use Rattle.pickle_lenient.specs.Stream.{taken}
 use Rattle.pickle_further.specs.declared.way.Way.{Way}
 use Rattle.pickle_further.specs.Going.{Standing, going, gone_by, gone_to, moved_so, then_as, used_op, event_by, keeps}
 use Rattle.pickle_further.specs.Parts.{parts}
+use Rattle.pickle_show.specs.Calls.{calls}
+use Rattle.pickle_further.specs.Leads.{warning_text, warned_status}
+use Rattle.pickle_further.specs.CallsText.{document_leads}
 use Rattle.pickle_further.specs.Laws.{LinesComeFirst, NoLineNoReachBehind}
 use Rattle.pickle_show.proofs.Walking.{event_by as event_fresh}
 use Rattle.pickle_show.proofs.Reaches.{row_unseen}
 
+status_first : (leads : Option ℕ) (status : ℕ) → warned_status leads status ≡ 0 → status ≡ 0
+status_first None status e = e
+status_first (Some id) status e = absurd (omega (arith, e))
+
 pub lines_come_first : LinesComeFirst
 unfolding ◌⧺◌
-lines_come_first how p d = ((parts how p d, refl), refl)
+lines_come_first how p d =
+    ((warning_text (document_leads d) ++ parts how p d, append_assoc (calls how d).text (warning_text (document_leads d)) (parts how p d)), status_first (document_leads d) (calls how d).status)
 
 -- ---- no line, no reach
 

@@ -17,6 +17,7 @@ use Rattle.pickle_further.specs.declared.way.Pickles.TheVariants as pickles
 use Rattle.pickle_further.specs.declared.way.Way.{Way}
 use Rattle.pickle_further.specs.declared.going.Gone.{Gone}
 use Rattle.pickle_further.specs.declared.engine.TaleEnd.{TaleEnd}
+use Rattle.pickle_further.specs.Leads.{warning_text, warned_status}
 use Rattle.pickle_further.specs.Going.{Standing, going, Tale}
 use Rattle.pickle_further.specs.Parts.{ignoring, buffering, holding, standing_first, lost_by}
 use Rattle.pickle_further.specs.CallsText.{tale_calls, first_loss, loss_line, loss_text, kept_behind, kept_status, kept_with, kept_calls, CutsText, PutsText, CompletesText, CutsCallsText}
@@ -36,7 +37,7 @@ kept_tale how bytes gone t = tale_here how.holes (length bytes) way (standing t 
 
 -- the lines with the last ones, and what is behind them
 abbrev lines_of : Manner → List ℕ → Tale → List ℕ
-lines_of how bytes t = t.lines.text ++ calls_end_text bytes t.lines.imports t.lines.calls (ending_in how.holes (ending.Closed 0 t.closing))
+lines_of how bytes t = (t.lines.text ++ calls_end_text bytes t.lines.imports t.lines.calls (ending_in how.holes (ending.Closed 0 t.closing))) ++ warning_text t.leads
 
 abbrev more_of : Manner → List ℕ → List ℕ
 more_of how bytes = kept_behind how bytes (first_loss how.detail bytes)
@@ -50,12 +51,14 @@ unfolding ◌⧺◌
 kept_all how bytes gone t g = ap (λ (o : Output). o.text) (kept_is how bytes gone t g)
 
 lines_end : (how : Manner) (bytes : List ℕ) (x : Tale) (a b : Told) (e : TaleEnd) → WroteTale a b x e
-    → lines_of how bytes x ≡ x.lines.text ++ calls_end_text bytes e.course.imports e.course.calls (ending_in how.holes (ending.Closed 0 e.closing))
-lines_end how bytes x a b e w = rw (w.imports, w.calls, w.closing) refl
+    → lines_of how bytes x ≡ (x.lines.text ++ calls_end_text bytes e.course.imports e.course.calls (ending_in how.holes (ending.Closed 0 e.closing))) ++ warning_text e.leads
+lines_end how bytes x a b e w = rw (w.imports, w.calls, w.closing, w.leads) refl
 
-lines_written : (how : Manner) (bytes : List ℕ) (x : Tale) (a b c : Told) (e : TaleEnd) → WroteTale a b x e → Wrote b c (calls_end_text bytes e.course.imports e.course.calls (ending_in how.holes (ending.Closed 0 e.closing)))
-    → Wrote a c (lines_of how bytes x)
-lines_written how bytes x a b c e w q = rw (lines_end how bytes x a b e w) (Wrote-trans a b c x.lines.text (calls_end_text bytes e.course.imports e.course.calls (ending_in how.holes (ending.Closed 0 e.closing))) w.written q)
+lines_written : (how : Manner) (bytes : List ℕ) (x : Tale) (a b c d : Told) (e : TaleEnd) → WroteTale a b x e → Wrote b c (calls_end_text bytes e.course.imports e.course.calls (ending_in how.holes (ending.Closed 0 e.closing)))
+    → Wrote c d (warning_text e.leads) → Wrote a d (lines_of how bytes x)
+lines_written how bytes x a b c d e w q v =
+    let end : List ℕ = calls_end_text bytes e.course.imports e.course.calls (ending_in how.holes (ending.Closed 0 e.closing)) in
+    rw (lines_end how bytes x a b e w) (Wrote-trans a c d (x.lines.text ++ end) (warning_text e.leads) (Wrote-trans a b c x.lines.text end w.written q) v)
 
 cut_of : (how : Manner) (bytes : List ℕ) (gone : Gone) (t : State) (a b : Told) (x : TextStop) → Goes (going way (first how bytes)) gone t → CutsText a b (lines_of how bytes (kept_tale how bytes gone t) ++ more_of how bytes) x
     → CutsCallsText how pickles.OneMemo bytes a b x
@@ -70,7 +73,9 @@ kept_cut how bytes gone t a b x g w = cut_of how bytes gone t a b x g (cut_befor
     l = kept_tale how bytes gone t
 
     go : CutsText a b l.lines.text x → CutsText a b (lines_of how bytes l) x
-    go w = cut_before a b l.lines.text (calls_end_text bytes l.lines.imports l.lines.calls (ending_in how.holes (ending.Closed 0 l.closing))) x w
+    go w =
+        let end : List ℕ = calls_end_text bytes l.lines.imports l.lines.calls (ending_in how.holes (ending.Closed 0 l.closing)) in
+        cut_before a b (l.lines.text ++ end) (warning_text l.leads) x (cut_before a b l.lines.text end x w)
 
 -- all lines and a beginning of the last ones
 pub kept_broken : (how : Manner) (bytes : List ℕ) (gone : Gone) (t : State) (a b c : Told) (e : TaleEnd) → Goes (going way (first how bytes)) gone t → WroteTale a b (kept_tale how bytes gone t) e
@@ -78,29 +83,41 @@ pub kept_broken : (how : Manner) (bytes : List ℕ) (gone : Gone) (t : State) (a
 kept_broken how bytes gone t a b c e g w q =
     let l : Tale = kept_tale how bytes gone t in
     let end : List ℕ = calls_end_text bytes e.course.imports e.course.calls (ending_in how.holes (ending.Closed 0 e.closing)) in
-    let cut : Broke a c (lines_of how bytes l) = rw (lines_end how bytes l a b e w) (Broke-after a b c l.lines.text end w.written q) in
+    let cut : Broke a c (lines_of how bytes l) =
+    rw (lines_end how bytes l a b e w) (Broke-more a c (l.lines.text ++ end) (warning_text e.leads) (Broke-after a b c l.lines.text end w.written q)) in
     cut_of how bytes gone t a c stop.Failed g (cut_before a c (lines_of how bytes l) (more_of how bytes) stop.Failed cut)
 
--- all of these and a beginning of what is behind them
-pub behind_cut : (how : Manner) (bytes : List ℕ) (gone : Gone) (t : State) (a b c d : Told) (e : TaleEnd) (loss : Option ℕ) (x : TextStop) → Goes (going way (first how bytes)) gone t → WroteTale a b (kept_tale how bytes gone t) e
-    → Wrote b c (calls_end_text bytes e.course.imports e.course.calls (ending_in how.holes (ending.Closed 0 e.closing))) → loss ≡ first_loss how.detail bytes → CutsText c d (kept_behind how bytes loss) x
-    → CutsCallsText how pickles.OneMemo bytes a d x
-behind_cut how bytes gone t a b c d e loss x g w q is k =
+-- all of these and a beginning of the line that an import leads to the unpickler
+pub warning_broken : (how : Manner) (bytes : List ℕ) (gone : Gone) (t : State) (a b c d : Told) (e : TaleEnd) → Goes (going way (first how bytes)) gone t → WroteTale a b (kept_tale how bytes gone t) e
+    → Wrote b c (calls_end_text bytes e.course.imports e.course.calls (ending_in how.holes (ending.Closed 0 e.closing))) → Broke c d (warning_text e.leads) → CutsCallsText how pickles.OneMemo bytes a d stop.Failed
+warning_broken how bytes gone t a b c d e g w q v =
     let l : Tale = kept_tale how bytes gone t in
-    let more : CutsText c d (kept_behind how bytes (first_loss how.detail bytes)) x = rw (← is) k in
-    cut_of how bytes gone t a d x g (cut_after a c d (lines_of how bytes l) (kept_behind how bytes (first_loss how.detail bytes)) x (lines_written how bytes l a b c e w q) more)
+    let end : List ℕ = calls_end_text bytes e.course.imports e.course.calls (ending_in how.holes (ending.Closed 0 e.closing)) in
+    let cut : Broke a d (lines_of how bytes l) =
+    rw (lines_end how bytes l a b e w) (Broke-after a c d (l.lines.text ++ end) (warning_text e.leads) (Wrote-trans a b c l.lines.text end w.written q) v) in
+    cut_of how bytes gone t a d stop.Failed g (cut_before a d (lines_of how bytes l) (more_of how bytes) stop.Failed cut)
+
+-- all of these and a beginning of what is behind them
+pub behind_cut : (how : Manner) (bytes : List ℕ) (gone : Gone) (t : State) (a b c d z : Told) (e : TaleEnd) (loss : Option ℕ) (x : TextStop) → Goes (going way (first how bytes)) gone t → WroteTale a b (kept_tale how bytes gone t) e
+    → Wrote b c (calls_end_text bytes e.course.imports e.course.calls (ending_in how.holes (ending.Closed 0 e.closing))) → Wrote c d (warning_text e.leads) → loss ≡ first_loss how.detail bytes → CutsText d z (kept_behind how bytes loss) x
+    → CutsCallsText how pickles.OneMemo bytes a z x
+behind_cut how bytes gone t a b c d z e loss x g w q v is k =
+    let l : Tale = kept_tale how bytes gone t in
+    let more : CutsText d z (kept_behind how bytes (first_loss how.detail bytes)) x = rw (← is) k in
+    cut_of how bytes gone t a z x g (cut_after a d z (lines_of how bytes l) (kept_behind how bytes (first_loss how.detail bytes)) x (lines_written how bytes l a b c d e w q v) more)
 
 -- all of it
-pub kept_done : (how : Manner) (bytes : List ℕ) (gone : Gone) (t : State) (a b c d : Told) (e : TaleEnd) (loss : Option ℕ) (status : ℕ) → Goes (going way (first how bytes)) gone t → WroteTale a b (kept_tale how bytes gone t) e
-    → Wrote b c (calls_end_text bytes e.course.imports e.course.calls (ending_in how.holes (ending.Closed 0 e.closing))) → status ≡ ending_status (ending.Closed 0 e.closing) → loss ≡ first_loss how.detail bytes
-    → Wrote c d (kept_behind how bytes loss) → CompletesText how pickles.OneMemo bytes a d (kept_status loss status)
-kept_done how bytes gone t a b c d e loss status g w q is lost k =
+pub kept_done : (how : Manner) (bytes : List ℕ) (gone : Gone) (t : State) (a b c d z : Told) (e : TaleEnd) (loss : Option ℕ) (status : ℕ) → Goes (going way (first how bytes)) gone t → WroteTale a b (kept_tale how bytes gone t) e
+    → Wrote b c (calls_end_text bytes e.course.imports e.course.calls (ending_in how.holes (ending.Closed 0 e.closing))) → Wrote c d (warning_text e.leads) → status ≡ ending_status (ending.Closed 0 e.closing) → loss ≡ first_loss how.detail bytes
+    → Wrote d z (kept_behind how bytes loss) → CompletesText how pickles.OneMemo bytes a z (kept_status loss (warned_status e.leads status))
+kept_done how bytes gone t a b c d z e loss status g w q v is lost k =
     let l : Tale = kept_tale how bytes gone t in
-    let more : Wrote c d (kept_behind how bytes (first_loss how.detail bytes)) = rw (← lost) k in
-    let all : Wrote a d (kept_calls how bytes).text = rw (kept_all how bytes gone t g) (Wrote-trans a c d (lines_of how bytes l) (kept_behind how bytes (first_loss how.detail bytes)) (lines_written how bytes l a b c e w q) more) in
-    let same : kept_status loss status ≡ (kept_calls how bytes).status =
-    ap (λ (x : Option ℕ). kept_status x status) lost
-    ∙ ap (kept_status (first_loss how.detail bytes)) (is ∙ ap (λ (c : Closing). ending_status (ending.Closed 0 c)) w.closing)
+    let more : Wrote d z (kept_behind how bytes (first_loss how.detail bytes)) = rw (← lost) k in
+    let all : Wrote a z (kept_calls how bytes).text = rw (kept_all how bytes gone t g) (Wrote-trans a d z (lines_of how bytes l) (kept_behind how bytes (first_loss how.detail bytes)) (lines_written how bytes l a b c d e w q v) more) in
+    let same : kept_status loss (warned_status e.leads status) ≡ (kept_calls how bytes).status =
+    ap (λ (x : Option ℕ). kept_status x (warned_status e.leads status)) lost
+    ∙ ap (λ (x : Option ℕ). kept_status (first_loss how.detail bytes) (warned_status x status)) w.leads
+    ∙ ap (λ (x : ℕ). kept_status (first_loss how.detail bytes) (warned_status l.leads x)) (is ∙ ap (λ (c : Closing). ending_status (ending.Closed 0 c)) w.closing)
     ∙ ap (λ (o : Output). o.status) (sym (kept_is how bytes gone t g)) in
     (kept_calls how bytes, refl, all, same)
 

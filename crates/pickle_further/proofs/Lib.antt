@@ -1,4 +1,5 @@
 -- Lemmas that the proofs of several functions cite.
+pub mod Leading
 pub mod Pieces
 pub mod Fars
 pub mod FarGoings

@@ -10,6 +10,7 @@ use Rattle.pickle_show.specs.declared.event.Event.{Event}
 use Rattle.pickle_show.specs.Calls.{counted_text}
 use Rattle.pickle_further.specs.declared.way.Way.{Way}
 use Rattle.pickle_further.specs.declared.seek.Sought.TheVariants as sought
+use Rattle.pickle_further.specs.Leads.{event_leads}
 use Rattle.pickle_further.specs.Going.{Standing, Going, going, Tale, tale_over, tale_after, tale, stands_after, search}
 use Rattle.pickle_further.specs.Laws.{BeginsAtLine, PartsBeginAtLines}
 
@@ -19,13 +20,13 @@ unfolding ◌⧺◌
 added text = refl
 
 same_tale : (t : Tale) (text : List ℕ) (imports calls : ℕ) → text ≡ t.lines.text → imports ≡ t.lines.imports → calls ≡ t.lines.calls
-    → record { lines = record { text = text; imports = imports; calls = calls }; closing = t.closing } ≡ t
+    → record { lines = record { text = text; imports = imports; calls = calls }; closing = t.closing; leads = t.leads } ≡ t
 same_tale t text imports calls e f g = rw (e, f, g) refl
 
-nothing_added : (t : Tale) → tale_after (record { text = []; imports = 0; calls = 0 }) t ≡ t
+nothing_added : (t : Tale) → tale_after (record { text = []; imports = 0; calls = 0 }) None t ≡ t
 nothing_added t = same_tale t ([] ⧺ t.lines.text) (0 + t.lines.imports) (0 + t.lines.calls) (added t.lines.text) (omega arith) (omega arith)
 
-no_text : (c : Closing) → (tale_after (record { text = []; imports = 0; calls = 0 }) (tale_over c)).lines.text ≡ []
+no_text : (c : Closing) → (tale_after (record { text = []; imports = 0; calls = 0 }) None (tale_over c)).lines.text ≡ []
 unfolding ◌⧺◌
 no_text c = refl
 
@@ -46,16 +47,16 @@ one_item holes n w p None (Some x) is closes more =
     let after : Option Standing = search sought.Event n w (stands_after p g) in
     let none : search sought.Event (suc n) w p ≡ None =
     ap₂ (λ (y : Option Event) (z : Option Closing). if is_some y then Some p else (if is_some z then None else after)) is closes in
-    let here : tale holes (suc n) w p ≡ tale_after (record { text = []; imports = 0; calls = 0 }) (tale_over x) =
-    ap₂ (λ (y : Option Event) (z : Option Closing). tale_after (counted_text (in_file holes p.at.offset) p.naming g.state.heap y) (option_map_or tale_over z (tale holes n w (stands_after p g)))) is closes in
+    let here : tale holes (suc n) w p ≡ tale_after (record { text = []; imports = 0; calls = 0 }) None (tale_over x) =
+    ap₂ (λ (y : Option Event) (z : Option Closing). tale_after (counted_text (in_file holes p.at.offset) p.naming g.state.heap y) (event_leads g.state.heap y) (option_map_or tale_over z (tale holes n w (stands_after p g)))) is closes in
     subst (BeginsAtLine holes (suc n) w p) (sym none) (ap (λ (t : Tale). t.lines.text) here ∙ no_text x)
 one_item holes n w p None None is closes more =
     let g : Going = going w p in
     let after : Option Standing = search sought.Event n w (stands_after p g) in
     let on : search sought.Event (suc n) w p ≡ after =
     ap₂ (λ (y : Option Event) (z : Option Closing). if is_some y then Some p else (if is_some z then None else after)) is closes in
-    let here : tale holes (suc n) w p ≡ tale_after (record { text = []; imports = 0; calls = 0 }) (tale holes n w (stands_after p g)) =
-    ap₂ (λ (y : Option Event) (z : Option Closing). tale_after (counted_text (in_file holes p.at.offset) p.naming g.state.heap y) (option_map_or tale_over z (tale holes n w (stands_after p g)))) is closes in
+    let here : tale holes (suc n) w p ≡ tale_after (record { text = []; imports = 0; calls = 0 }) None (tale holes n w (stands_after p g)) =
+    ap₂ (λ (y : Option Event) (z : Option Closing). tale_after (counted_text (in_file holes p.at.offset) p.naming g.state.heap y) (event_leads g.state.heap y) (option_map_or tale_over z (tale holes n w (stands_after p g)))) is closes in
     subst (BeginsAtLine holes (suc n) w p) (sym on) (carried holes n w p (stands_after p g) after (here ∙ nothing_added (tale holes n w (stands_after p g))) more)
 
 no_items : (holes : List Hole) (w : Way) (p : Standing) → BeginsAtLine holes 0 w p (search sought.Event 0 w p)

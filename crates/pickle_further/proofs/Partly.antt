@@ -23,17 +23,17 @@ use Rattle.pickle_further.proofs.Tales.{next_tale}
 
 pub tale_cut : (holes : List Hole) (t : Tale) (a b : Told) (x : TextStop) → CutsText a b t.lines.text x → CutsText a b (tale_text holes t) x
 unfolding tale_text ◌⧺◌
-tale_cut holes t a b x w = cut_before a b t.lines.text (part_end t.lines.imports t.lines.calls (closing_in holes t.closing)) x w
+tale_cut holes t a b x w = cut_before a b t.lines.text (part_end t.lines.imports t.lines.calls (closing_in holes t.closing) t.leads) x w
 
-tale_is : (holes : List Hole) (t : Tale) (a b : Told) (e : TaleEnd) → WroteTale a b t e → tale_text holes t ≡ t.lines.text ++ part_end e.course.imports e.course.calls (closing_in holes e.closing)
+tale_is : (holes : List Hole) (t : Tale) (a b : Told) (e : TaleEnd) → WroteTale a b t e → tale_text holes t ≡ t.lines.text ++ part_end e.course.imports e.course.calls (closing_in holes e.closing) e.leads
 unfolding tale_text ◌⧺◌
-tale_is holes t a b e w = rw (w.imports, w.calls, w.closing) refl
+tale_is holes t a b e w = rw (w.imports, w.calls, w.closing, w.leads) refl
 
-pub end_cut : (holes : List Hole) (t : Tale) (a b c : Told) (e : TaleEnd) → WroteTale a b t e → Broke b c (part_end e.course.imports e.course.calls (closing_in holes e.closing)) → Broke a c (tale_text holes t)
-end_cut holes t a b c e w q = rw (tale_is holes t a b e w) (Broke-after a b c t.lines.text (part_end e.course.imports e.course.calls (closing_in holes e.closing)) w.written q)
+pub end_cut : (holes : List Hole) (t : Tale) (a b c : Told) (e : TaleEnd) → WroteTale a b t e → Broke b c (part_end e.course.imports e.course.calls (closing_in holes e.closing) e.leads) → Broke a c (tale_text holes t)
+end_cut holes t a b c e w q = rw (tale_is holes t a b e w) (Broke-after a b c t.lines.text (part_end e.course.imports e.course.calls (closing_in holes e.closing) e.leads) w.written q)
 
-pub end_done : (holes : List Hole) (t : Tale) (a b c : Told) (e : TaleEnd) → WroteTale a b t e → Wrote b c (part_end e.course.imports e.course.calls (closing_in holes e.closing)) → Wrote a c (tale_text holes t)
-end_done holes t a b c e w q = rw (tale_is holes t a b e w) (Wrote-trans a b c t.lines.text (part_end e.course.imports e.course.calls (closing_in holes e.closing)) w.written q)
+pub end_done : (holes : List Hole) (t : Tale) (a b c : Told) (e : TaleEnd) → WroteTale a b t e → Wrote b c (part_end e.course.imports e.course.calls (closing_in holes e.closing) e.leads) → Wrote a c (tale_text holes t)
+end_done holes t a b c e w q = rw (tale_is holes t a b e w) (Wrote-trans a b c t.lines.text (part_end e.course.imports e.course.calls (closing_in holes e.closing) e.leads) w.written q)
 
 -- ---- from here on
 

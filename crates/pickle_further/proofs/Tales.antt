@@ -24,6 +24,8 @@ use Rattle.pickle_show.proofs.Walking.{few_imports, few_calls}
 use Rattle.pickle_further.specs.declared.way.Way.{Way}
 use Rattle.pickle_further.specs.declared.way.Spot.{Spot}
 use Rattle.pickle_further.specs.declared.going.Gone.{Gone}
+use Rattle.pickle_further.specs.Leads.{or_first, event_leads}
+use Rattle.pickle_further.proofs.Leading.{or_first_assoc, or_first_none}
 use Rattle.pickle_further.specs.Going.{Standing, going, stands_after, spot_after, Tale, tale_over, tale_after, tale}
 use Rattle.pickle_further.specs.CallsText.{CutsText}
 use Rattle.pickle_further.specs.Inside.{standing, Goes, here, tale_here, ended, WroteTale, InTale}
@@ -31,47 +33,49 @@ use Rattle.pickle_further.specs.Inside.{standing, Goes, here, tale_here, ended, 
 -- ---- writing
 
 -- nothing is written yet
-pub tale_begins : (a : Told) (t : Tale) (m : Naming) → InTale t a a (record { imports = 0; calls = 0; naming = m; left = 0 }) t
-tale_begins a t m = record { front = []; written = Wrote-none a; lines = refl; imports = omega arith; calls = omega arith; closing = refl }
+pub tale_begins : (a : Told) (t : Tale) (m : Naming) → InTale t a a (record { imports = 0; calls = 0; naming = m; left = 0 }) None t
+tale_begins a t m = record { front = []; written = Wrote-none a; lines = refl; imports = omega arith; calls = omega arith; closing = refl; leads = refl }
 
 joined : (front e more : List ℕ) → front ++ (e ++ more) ≡ (front ++ e) ++ more
 joined front e more = sym (append_assoc front e more)
 
-after_line : (front : List ℕ) (e : CountedText) (t : Tale) → front ++ (tale_after e t).lines.text ≡ (front ++ e.text) ++ t.lines.text
+after_line : (front : List ℕ) (e : CountedText) (l : Option ℕ) (t : Tale) → front ++ (tale_after e l t).lines.text ≡ (front ++ e.text) ++ t.lines.text
 unfolding ◌⧺◌
-after_line front e t = joined front e.text t.lines.text
+after_line front e l t = joined front e.text t.lines.text
 
 counts : (whole a b c next : ℕ) → whole ≡ a + (b + c) → next ≡ a + b → whole ≡ next + c
 counts whole a b c next is e = omega (arith, is, e)
 
 -- a line more is written
-pub line_written : (whole : Tale) (a b c : Told) (course next : Course) (e : CountedText) (t : Tale) → InTale whole a b course (tale_after e t) → Wrote b c e.text
-    → next.imports ≡ course.imports + e.imports → next.calls ≡ course.calls + e.calls → InTale whole a c next t
-line_written whole a b c course next e t w q i j = record {
+pub line_written : (whole : Tale) (a b c : Told) (course next : Course) (found more : Option ℕ) (e : CountedText) (l : Option ℕ) (t : Tale) → InTale whole a b course found (tale_after e l t) → Wrote b c e.text
+    → next.imports ≡ course.imports + e.imports → next.calls ≡ course.calls + e.calls → more ≡ or_first found l → InTale whole a c next more t
+line_written whole a b c course next found more e l t w q i j f = record {
   front = w.front ++ e.text;
   written = Wrote-trans a b c w.front e.text w.written q;
-  lines = w.lines ∙ after_line w.front e t;
+  lines = w.lines ∙ after_line w.front e l t;
   imports = counts whole.lines.imports course.imports e.imports t.lines.imports next.imports w.imports i;
   calls = counts whole.lines.calls course.calls e.calls t.lines.calls next.calls w.calls j;
   closing = w.closing;
+  leads = w.leads ∙ or_first_assoc found l t.leads ∙ ap (λ (x : Option ℕ). or_first x t.leads) (sym f);
 }
 
 -- the line is cut short
-pub line_broken : (whole : Tale) (a b c : Told) (course : Course) (e : CountedText) (t : Tale) → InTale whole a b course (tale_after e t) → Broke b c e.text → Broke a c whole.lines.text
-line_broken whole a b c course e t w q =
-    rw (w.lines ∙ after_line w.front e t) (Broke-more a c (w.front ++ e.text) t.lines.text (Broke-after a b c w.front e.text w.written q))
+pub line_broken : (whole : Tale) (a b c : Told) (course : Course) (found : Option ℕ) (e : CountedText) (l : Option ℕ) (t : Tale) → InTale whole a b course found (tale_after e l t) → Broke b c e.text → Broke a c whole.lines.text
+line_broken whole a b c course found e l t w q =
+    rw (w.lines ∙ after_line w.front e l t) (Broke-more a c (w.front ++ e.text) t.lines.text (Broke-after a b c w.front e.text w.written q))
 
 -- it ends
-pub tale_done : (whole : Tale) (a b : Told) (course : Course) (c : Closing) → InTale whole a b course (tale_over c) → WroteTale a b whole (record { course = course; closing = c })
-tale_done whole a b course c w = record {
+pub tale_done : (whole : Tale) (a b : Told) (course : Course) (found : Option ℕ) (c : Closing) → InTale whole a b course found (tale_over c) → WroteTale a b whole (record { course = course; closing = c; leads = found })
+tale_done whole a b course found c w = record {
   written = subst (Wrote a b) (sym (w.lines ∙ append-nil w.front)) w.written;
   imports = omega (arith, w.imports);
   calls = omega (arith, w.calls);
   closing = sym w.closing;
+  leads = sym (w.leads ∙ or_first_none found);
 }
 
-pub memory_stops : (whole : Tale) (a b : Told) (course : Course) (t : Tale) → InTale whole a b course t → CutsText a b whole.lines.text stop.Memory
-memory_stops whole a b course t w = (t.lines.text, record { front = w.front; parts = w.lines; wrote = w.written })
+pub memory_stops : (whole : Tale) (a b : Told) (course : Course) (found : Option ℕ) (t : Tale) → InTale whole a b course found t → CutsText a b whole.lines.text stop.Memory
+memory_stops whole a b course found t w = (t.lines.text, record { front = w.front; parts = w.lines; wrote = w.written })
 
 -- ---- items
 
@@ -86,9 +90,9 @@ no_some c e = cc
 
 -- it ends after this item
 pub ends_here : (holes : List Hole) (n : ℕ) (w : Way) (p : Standing) (gone : Gone) (c : Closing) → ended gone n p.at.offset ≡ Some c
-    → tale_here holes n w p gone ≡ tale_after (counted_text (in_file holes p.at.offset) p.naming p.state.heap gone.event) (tale_over c)
+    → tale_here holes n w p gone ≡ tale_after (counted_text (in_file holes p.at.offset) p.naming p.state.heap gone.event) (event_leads p.state.heap gone.event) (tale_over c)
 unfolding tale
-ends_here holes n w p gone c e = ap (tale_after (counted_text (in_file holes p.at.offset) p.naming p.state.heap gone.event)) (go (n == 0) refl gone.closing e)
+ends_here holes n w p gone c e = ap (tale_after (counted_text (in_file holes p.at.offset) p.naming p.state.heap gone.event) (event_leads p.state.heap gone.event)) (go (n == 0) refl gone.closing e)
   where
     go : (b : Bool) → (n == 0) ≡ b → (x : Option Closing) → option_map_or Some x (if b then Some (closing.Fault (tail.Front front.Ended) (p.at.offset + gone.size)) else None) ≡ Some c
         → option_map_or tale_over x (tale holes n w (stands_after p (here gone p))) ≡ tale_over c
@@ -102,7 +106,7 @@ no_none c e = cc
 pub record GoesBehind (holes : List Hole) (n : ℕ) (w : Way) (p : Standing) (gone : Gone) : Type 0 where
   pub before : ℕ
   pub count : n ≡ suc before
-  pub tale_is : tale_here holes n w p gone ≡ tale_after (counted_text (in_file holes p.at.offset) p.naming p.state.heap gone.event) (tale holes n w (stands_after p (here gone p)))
+  pub tale_is : tale_here holes n w p gone ≡ tale_after (counted_text (in_file holes p.at.offset) p.naming p.state.heap gone.event) (event_leads p.state.heap gone.event) (tale holes n w (stands_after p (here gone p)))
 
 -- it does not
 pub goes_behind : (holes : List Hole) (n : ℕ) (w : Way) (p : Standing) (gone : Gone) → ended gone n p.at.offset ≡ None → GoesBehind holes n w p gone
@@ -128,8 +132,8 @@ next_tale holes n w p gone t g = elim g.state [
 
 -- ---- the loop
 
-pub record InLoop (holes : List Hole) (w : Way) (whole : Tale) (old now : Told) (s : State) (rest : List ℕ) (at : Spot) (gone : Gone) (course : Course) (left : ℕ) : Type 0 where
-  pub in_tale : InTale whole old now course (tale_here holes left w (standing s rest at course.naming) gone)
+pub record InLoop (holes : List Hole) (w : Way) (whole : Tale) (old now : Told) (s : State) (rest : List ℕ) (at : Spot) (gone : Gone) (course : Course) (found : Option ℕ) (left : ℕ) : Type 0 where
+  pub in_tale : InTale whole old now course found (tale_here holes left w (standing s rest at course.naming) gone)
   pub size : gone.size ≤ length rest
   pub few : left ≤ 2 ^ 30
   pub small : length rest ≤ 2 ^ 30
@@ -144,39 +148,40 @@ abbrev pub behind : State → List ℕ → Spot → Gone → Naming → Standing
 behind s rest at gone m = standing s (drop gone.size rest) (spot_after at gone) m
 
 -- the tale is this item's line, and what comes then
-goes_in_tale : (holes : List Hole) (w : Way) (whole : Tale) (a b c : Told) (s t : State) (rest : List ℕ) (at : Spot) (gone next : Gone) (course more : Course) (left m : ℕ)
-    → InTale whole a b course (tale_here holes left w (standing s rest at course.naming) gone) → Wrote b c (line_of (in_file holes at.offset) course.naming s.heap gone.event)
+goes_in_tale : (holes : List Hole) (w : Way) (whole : Tale) (a b c : Told) (s t : State) (rest : List ℕ) (at : Spot) (gone next : Gone) (course more : Course) (found first : Option ℕ) (left m : ℕ)
+    → InTale whole a b course found (tale_here holes left w (standing s rest at course.naming) gone) → Wrote b c (line_of (in_file holes at.offset) course.naming s.heap gone.event)
     → more.imports ≡ course.imports + imports_of s.heap gone.event → more.calls ≡ course.calls + calls_of s.heap gone.event
-    → more.naming ≡ naming_after gone.row (length s.heap) course.naming
+    → more.naming ≡ naming_after gone.row (length s.heap) course.naming → first ≡ or_first found (event_leads s.heap gone.event)
     → left ≡ suc m
-    → tale_here holes left w (standing s rest at course.naming) gone ≡ tale_after (counted_text (in_file holes at.offset) course.naming s.heap gone.event) (tale holes left w (behind s rest at gone (naming_after gone.row (length s.heap) course.naming)))
+    → tale_here holes left w (standing s rest at course.naming) gone ≡ tale_after (counted_text (in_file holes at.offset) course.naming s.heap gone.event) (event_leads s.heap gone.event) (tale holes left w (behind s rest at gone (naming_after gone.row (length s.heap) course.naming)))
     → Goes (going w (behind s rest at gone more.naming)) next t
-    → InTale whole a c more (tale_here holes m w (behind t rest at gone more.naming) next)
-goes_in_tale holes w whole a b c s t rest at gone next course more left m k q i j naming suc_is is g =
+    → InTale whole a c more first (tale_here holes m w (behind t rest at gone more.naming) next)
+goes_in_tale holes w whole a b c s t rest at gone next course more found first left m k q i j naming f suc_is is g =
     let p : Standing = behind s rest at gone more.naming in
     let named : tale holes left w (behind s rest at gone (naming_after gone.row (length s.heap) course.naming)) ≡ tale holes left w p = ap (λ (n : Naming). tale holes left w (behind s rest at gone n)) (sym naming) in
-    let same_tale : tale_here holes left w (standing s rest at course.naming) gone ≡ tale_after (counted_text (in_file holes at.offset) course.naming s.heap gone.event) (tale holes left w p) =
-    is ∙ ap (tale_after (counted_text (in_file holes at.offset) course.naming s.heap gone.event)) named in
-    let here_is : InTale whole a b course (tale_after (counted_text (in_file holes at.offset) course.naming s.heap gone.event) (tale holes left w p)) = subst (InTale whole a b course) same_tale k in
-    let line : InTale whole a c more (tale holes left w p) = line_written whole a b c course more (counted_text (in_file holes at.offset) course.naming s.heap gone.event) (tale holes left w p) here_is q i j in
+    let l : Option ℕ = event_leads s.heap gone.event in
+    let same_tale : tale_here holes left w (standing s rest at course.naming) gone ≡ tale_after (counted_text (in_file holes at.offset) course.naming s.heap gone.event) l (tale holes left w p) =
+    is ∙ ap (tale_after (counted_text (in_file holes at.offset) course.naming s.heap gone.event) l) named in
+    let here_is : InTale whole a b course found (tale_after (counted_text (in_file holes at.offset) course.naming s.heap gone.event) l (tale holes left w p)) = subst (InTale whole a b course found) same_tale k in
+    let line : InTale whole a c more first (tale holes left w p) = line_written whole a b c course more found first (counted_text (in_file holes at.offset) course.naming s.heap gone.event) l (tale holes left w p) here_is q i j f in
     let then_is : tale holes left w p ≡ tale_here holes m w (behind t rest at gone more.naming) next = ap (λ (n : ℕ). tale holes n w p) suc_is ∙ next_tale holes m w p next t g in
-    subst (InTale whole a c more) then_is line
+    subst (InTale whole a c more first) then_is line
 
-pub goes_round : (holes : List Hole) (w : Way) (whole : Tale) (a b c : Told) (s t : State) (rest : List ℕ) (at : Spot) (gone next : Gone) (course more : Course) (left : ℕ)
-    → InLoop holes w whole a b s rest at gone course left → Wrote b c (line_of (in_file holes at.offset) course.naming s.heap gone.event)
+pub goes_round : (holes : List Hole) (w : Way) (whole : Tale) (a b c : Told) (s t : State) (rest : List ℕ) (at : Spot) (gone next : Gone) (course more : Course) (found first : Option ℕ) (left : ℕ)
+    → InLoop holes w whole a b s rest at gone course found left → Wrote b c (line_of (in_file holes at.offset) course.naming s.heap gone.event)
     → more.imports ≡ course.imports + imports_of s.heap gone.event → more.calls ≡ course.calls + calls_of s.heap gone.event
-    → more.naming ≡ naming_after gone.row (length s.heap) course.naming
+    → more.naming ≡ naming_after gone.row (length s.heap) course.naming → first ≡ or_first found (event_leads s.heap gone.event)
     → ended gone left at.offset ≡ None
     → Goes (going w (behind s rest at gone more.naming)) next t
     → next.size ≤ length (drop gone.size rest) → length t.heap ≤ length s.heap + 2
-    → InLoop holes w whole a c t (drop gone.size rest) (spot_after at gone) next more (left - 1)
-goes_round holes w whole a b c s t rest at gone next course more left k q i j naming none g size heap =
+    → InLoop holes w whole a c t (drop gone.size rest) (spot_after at gone) next more first (left - 1)
+goes_round holes w whole a b c s t rest at gone next course more found first left k q i j naming f none g size heap =
     let behind = goes_behind holes left w (standing s rest at course.naming) gone none in
     let m : ℕ = behind.before in
     let less : left - 1 ≡ m = omega (arith, behind.count) in
     let shorter : length (drop gone.size rest) ≡ length rest - gone.size = length-drop gone.size rest in
     rw less (record {
-      in_tale = goes_in_tale holes w whole a b c s t rest at gone next course more left m k.in_tale q i j naming behind.count behind.tale_is g;
+      in_tale = goes_in_tale holes w whole a b c s t rest at gone next course more found first left m k.in_tale q i j naming f behind.count behind.tale_is g;
       size = size;
       few = omega (arith, k.few, behind.count);
       small = omega (arith, k.small, shorter);
@@ -188,27 +193,30 @@ goes_round holes w whole a b c s t rest at gone next course more left k q i j na
     })
 
 -- the line of an item after which it ends
-pub last_line : (holes : List Hole) (w : Way) (whole : Tale) (a b c : Told) (s : State) (rest : List ℕ) (at : Spot) (gone : Gone) (course more : Course) (left : ℕ) (x : Closing)
-    → InLoop holes w whole a b s rest at gone course left → Wrote b c (line_of (in_file holes at.offset) course.naming s.heap gone.event)
+pub last_line : (holes : List Hole) (w : Way) (whole : Tale) (a b c : Told) (s : State) (rest : List ℕ) (at : Spot) (gone : Gone) (course more : Course) (found first : Option ℕ) (left : ℕ) (x : Closing)
+    → InLoop holes w whole a b s rest at gone course found left → Wrote b c (line_of (in_file holes at.offset) course.naming s.heap gone.event)
     → more.imports ≡ course.imports + imports_of s.heap gone.event → more.calls ≡ course.calls + calls_of s.heap gone.event
-    → ended gone left at.offset ≡ Some x → WroteTale a c whole (record { course = more; closing = x })
-last_line holes w whole a b c s rest at gone course more left x k q i j e =
-    tale_done whole a c more x (line_written whole a b c course more (counted_text (in_file holes at.offset) course.naming s.heap gone.event) (tale_over x)
-    (subst (InTale whole a b course) (ends_here holes left w (standing s rest at course.naming) gone x e) k.in_tale) q i j)
+    → first ≡ or_first found (event_leads s.heap gone.event)
+    → ended gone left at.offset ≡ Some x → WroteTale a c whole (record { course = more; closing = x; leads = first })
+last_line holes w whole a b c s rest at gone course more found first left x k q i j f e =
+    tale_done whole a c more first x (line_written whole a b c course more found first (counted_text (in_file holes at.offset) course.naming s.heap gone.event) (event_leads s.heap gone.event) (tale_over x)
+    (subst (InTale whole a b course found) (ends_here holes left w (standing s rest at course.naming) gone x e) k.in_tale) q i j f)
 
 -- the line is cut short
-pub item_broken : (holes : List Hole) (w : Way) (whole : Tale) (a b c : Told) (s : State) (rest : List ℕ) (at : Spot) (gone : Gone) (course : Course) (left : ℕ)
-    → InLoop holes w whole a b s rest at gone course left → Broke b c (line_of (in_file holes at.offset) course.naming s.heap gone.event) → Broke a c whole.lines.text
-item_broken holes w whole a b c s rest at gone course left k q = line_broken whole a b c course (counted_text (in_file holes at.offset) course.naming s.heap gone.event) _ k.in_tale q
+pub item_broken : (holes : List Hole) (w : Way) (whole : Tale) (a b c : Told) (s : State) (rest : List ℕ) (at : Spot) (gone : Gone) (course : Course) (found : Option ℕ) (left : ℕ)
+    → InLoop holes w whole a b s rest at gone course found left → Broke b c (line_of (in_file holes at.offset) course.naming s.heap gone.event) → Broke a c whole.lines.text
+item_broken holes w whole a b c s rest at gone course found left k q =
+    line_broken whole a b c course found (counted_text (in_file holes at.offset) course.naming s.heap gone.event) (event_leads s.heap gone.event) _ k.in_tale q
 
 -- memory runs out behind the line of an item
-pub memory_behind : (holes : List Hole) (w : Way) (whole : Tale) (a b c : Told) (s : State) (rest : List ℕ) (at : Spot) (gone : Gone) (course : Course) (left : ℕ)
-    → InLoop holes w whole a b s rest at gone course left → Wrote b c (line_of (in_file holes at.offset) course.naming s.heap gone.event)
+pub memory_behind : (holes : List Hole) (w : Way) (whole : Tale) (a b c : Told) (s : State) (rest : List ℕ) (at : Spot) (gone : Gone) (course : Course) (found : Option ℕ) (left : ℕ)
+    → InLoop holes w whole a b s rest at gone course found left → Wrote b c (line_of (in_file holes at.offset) course.naming s.heap gone.event)
     → CutsText a c whole.lines.text stop.Memory
-memory_behind holes w whole a b c s rest at gone course left k q =
+memory_behind holes w whole a b c s rest at gone course found left k q =
     let e : CountedText = counted_text (in_file holes at.offset) course.naming s.heap gone.event in
     let more : Course = record { imports = course.imports + e.imports; calls = course.calls + e.calls; naming = course.naming; left = course.left } in
-    memory_stops whole a c more _ (line_written whole a b c course more e _ k.in_tale q refl refl)
+    let l : Option ℕ = event_leads s.heap gone.event in
+    memory_stops whole a c more (or_first found l) _ (line_written whole a b c course more found (or_first found l) e l _ k.in_tale q refl refl refl)
 
 -- ---- errors
 

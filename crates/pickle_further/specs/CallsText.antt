@@ -5,33 +5,46 @@ use Rattle.std.specs.Option.{option_map}
 use Rattle.pickle_io.specs.Text.{◌⧺◌}
 use Rattle.pickle_io.specs.Device.{Told, Wrote, Broke, WroteAllBut}
 use Rattle.pickle_doc.specs.Document.{Contents, ReadsAs}
+use Rattle.pickle_doc.specs.Place.{ops_of}
+use Rattle.pickle_machine.specs.State.{State, start}
+use Rattle.pickle_machine.specs.Run.{run}
 use Rattle.pickle_show.specs.declared.end.Ending.TheVariants as ending
 use Rattle.pickle_show.specs.declared.stop.TextStop.{TextStop}
 use Rattle.pickle_show.specs.declared.stop.TextStop.TheVariants as stop
 use Rattle.pickle_show.specs.Manner.{Manner, ending_in}
 use Rattle.pickle_show.specs.Output.{Output}
 use Rattle.pickle_show.specs.CallsLine.{calls_end_text, ending_status}
-use Rattle.pickle_show.specs.Calls.{calls}
+use Rattle.pickle_show.specs.Calls.{calls, calls_end}
 use Rattle.pickle_further.specs.declared.way.Pickles.{Pickles}
 use Rattle.pickle_further.specs.declared.way.Pickles.TheVariants as pickles
 use Rattle.pickle_show.specs.Column.{newline}
 use Rattle.pickle_show.specs.declared.naming.Detail.{Detail}
 use Rattle.pickle_io.specs.Holes.{in_file}
+use Rattle.pickle_further.specs.Leads.{first_leading, warning_text, warned_status}
 use Rattle.pickle_further.specs.Going.{Standing, Tale, tale_of}
 use Rattle.pickle_further.specs.Parts.{ignoring, buffering, holding, are_many, standing_first, loss_at, lost_by, parts}
 
 -- ---- of a document
 
--- the lines up to the end, and what is behind it; the status is that of the first
+-- the first import of the lines that leads to the unpickler
+abbrev pub leading_in : Option State → Option ℕ
+leading_in None = None
+leading_in (Some s) = first_leading s.heap
+
+unfoldable pub document_leads : Contents → Option ℕ
+document_leads d = leading_in (run (start d.many) (ops_of d) (calls_end d).place)
+
+-- the lines up to the end, a line where an import leads to the unpickler, and what is behind the end; the status is 1 there, or that of the first
 abbrev pub document_calls : Manner → Pickles → Contents → Output
-document_calls how p d = record { text = (calls how d).text ⧺ parts how p d; status = (calls how d).status }
+document_calls how p d =
+    record { text = ((calls how d).text ⧺ warning_text (document_leads d)) ⧺ parts how p d; status = warned_status (document_leads d) (calls how d).status }
 
 -- ---- of bytes that one unpickler reads on and on
 
 abbrev pub tale_calls : Manner → List ℕ → Tale → Output
 tale_calls how bytes t = record {
-  text = t.lines.text ⧺ calls_end_text bytes t.lines.imports t.lines.calls (ending_in how.holes (ending.Closed 0 t.closing));
-  status = ending_status (ending.Closed 0 t.closing);
+  text = (t.lines.text ⧺ calls_end_text bytes t.lines.imports t.lines.calls (ending_in how.holes (ending.Closed 0 t.closing))) ⧺ warning_text t.leads;
+  status = warned_status t.leads (ending_status (ending.Closed 0 t.closing));
 }
 
 -- where an Unpickler in Python, which leaves the rest of a frame at STOP, or one that buffers frames loses bytes, they do not read alike

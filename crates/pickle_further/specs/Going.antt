@@ -21,6 +21,7 @@ use Rattle.pickle_machine.specs.Loader.{loader_move, move_as, cleared}
 use Rattle.pickle_lenient.specs.declared.taken.Taken.{Taken}
 use Rattle.pickle_lenient.specs.Row.{is_far}
 use Rattle.pickle_lenient.specs.Stream.{taken}
+use Rattle.pickle_further.specs.Leads.{or_first, event_leads}
 use Rattle.pickle_io.specs.declared.hole.Hole.{Hole}
 use Rattle.pickle_io.specs.Holes.{in_file}
 use Rattle.pickle_show.specs.declared.report.Closing.{Closing}
@@ -142,22 +143,28 @@ stands_after p g =
 
 -- ---- all items, without the holes of a file
 
--- their lines with how many imports and calls these are, and how it ended
+-- their lines with how many imports and calls these are, how it ended, and the first import that leads to the unpickler
 pub record Tale : Type 0 where
   pub lines : CountedText
   pub closing : Closing
+  pub leads : Option ℕ
 
 abbrev pub tale_over : Closing → Tale
-tale_over c = record { lines = record { text = []; imports = 0; calls = 0 }; closing = c }
+tale_over c = record { lines = record { text = []; imports = 0; calls = 0 }; closing = c; leads = None }
 
-abbrev pub tale_after : CountedText → Tale → Tale
-tale_after e t =
-    record { lines = record { text = e.text ⧺ t.lines.text; imports = e.imports + t.lines.imports; calls = e.calls + t.lines.calls }; closing = t.closing }
+abbrev pub tale_after : CountedText → Option ℕ → Tale → Tale
+tale_after e l t =
+    record {
+      lines = record { text = e.text ⧺ t.lines.text; imports = e.imports + t.lines.imports; calls = e.calls + t.lines.calls };
+      closing = t.closing;
+      leads = or_first l t.leads;
+    }
 
 -- an item, and unless it ended there what comes then
 abbrev pub tale_with : List Hole → Standing → Going → Tale → Tale
 tale_with holes p g more =
-    tale_after (counted_text (in_file holes p.at.offset) p.naming g.state.heap g.gone.event) (option_map_or tale_over g.gone.closing more)
+    tale_after (counted_text (in_file holes p.at.offset) p.naming g.state.heap g.gone.event) (event_leads g.state.heap g.gone.event)
+    (option_map_or tale_over g.gone.closing more)
 
 -- at most n items: more than there are bytes there are not
 unfoldable pub tale : List Hole → ℕ → Way → Standing → Tale

@@ -21,6 +21,7 @@ use Rattle.pickle_further.specs.declared.engine.TaleEnd.{TaleEnd}
 use Rattle.pickle_further.specs.declared.going.Gone.{Gone}
 use Rattle.pickle_further.specs.declared.seek.Visited.{Visited}
 use Rattle.pickle_further.specs.declared.seek.Sought.TheVariants as sought
+use Rattle.pickle_further.specs.Leads.{or_first}
 use Rattle.pickle_further.specs.Going.{Standing, Going, going, Tale, tale, tale_with, stands_after, nothing, search_from}
 
 abbrev pub standing : State → List ℕ → Spot → Naming → Standing
@@ -105,18 +106,20 @@ FindsRoom t None = ⊤
 
 -- ---- the lines of a tale
 
--- they were written, and this is how many imports and calls they are, and how it ended
+-- they were written, and this is how many imports and calls they are, how it ended, and the first import that leads to the unpickler
 pub record WroteTale (old new : Told) (t : Tale) (end : TaleEnd) : Type 0 where
   pub written : Wrote old new t.lines.text
   pub imports : end.course.imports ≡ t.lines.imports
   pub calls : end.course.calls ≡ t.lines.calls
   pub closing : end.closing ≡ t.closing
+  pub leads : end.leads ≡ t.leads
 
--- of a tale all lines are written but those of this one, whose counts come on top of these
-pub record InTale (whole : Tale) (old now : Told) (course : Course) (t : Tale) : Type 0 where
+-- of a tale all lines are written but those of this one, whose counts come on top of these, and whose imports behind this one
+pub record InTale (whole : Tale) (old now : Told) (course : Course) (found : Option ℕ) (t : Tale) : Type 0 where
   pub front : List ℕ
   pub written : Wrote old now front
   pub lines : whole.lines.text ≡ front ++ t.lines.text
   pub imports : whole.lines.imports ≡ course.imports + t.lines.imports
   pub calls : whole.lines.calls ≡ course.calls + t.lines.calls
   pub closing : whole.closing ≡ t.closing
+  pub leads : whole.leads ≡ or_first found t.leads

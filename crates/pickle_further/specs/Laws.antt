@@ -13,10 +13,10 @@ use Rattle.pickle_further.specs.declared.seek.Sought.TheVariants as sought
 use Rattle.pickle_further.specs.Going.{Standing, going, tale, search_from}
 use Rattle.pickle_further.specs.CallsText.{document_calls}
 
--- the text up to the end of the lines is the beginning of the whole, and the status is its status
+-- the text up to the end of the lines is the beginning of the whole, and where the status is 0 that of these lines is
 abbrev pub LinesComeFirst : Type 0
 LinesComeFirst = (how : Manner) (p : Pickles) (d : Contents)
-    → ((more : List ℕ) × ((document_calls how p d).text ≡ (calls how d).text ++ more)) × ((document_calls how p d).status ≡ (calls how d).status)
+    → ((more : List ℕ) × ((document_calls how p d).text ≡ (calls how d).text ++ more)) × ((document_calls how p d).status ≡ 0 → (calls how d).status ≡ 0)
 
 -- an item that moves and has no line makes no opaque object and leaves every one as it was
 abbrev pub NoLineNoReachBehind : Type 0

@@ -1,4 +1,5 @@
 -- The definitions that contracts cite.
+pub mod Leads
 pub mod Going
 pub mod Far
 pub mod Parts

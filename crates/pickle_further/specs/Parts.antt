@@ -24,6 +24,7 @@ use Rattle.pickle_further.specs.declared.way.Pickles.{Pickles}
 use Rattle.pickle_further.specs.declared.way.Pickles.TheVariants as pickles
 use Rattle.pickle_further.specs.declared.way.Way.{Way}
 use Rattle.pickle_further.specs.declared.seek.Sought.TheVariants as sought
+use Rattle.pickle_further.specs.Leads.{warning_text}
 use Rattle.pickle_further.specs.Going.{Standing, Tale, tale_of, search_from}
 
 -- ---- the last lines of a part
@@ -40,8 +41,8 @@ ends_line closing.Stopped = stop_line
 ends_line (closing.Refused place r) = codes "it ends: " ⧺ closing_line (closing.Refused place r)
 ends_line (closing.Fault f offset) = codes "it ends: " ⧺ closing_line (closing.Fault f offset)
 
-unfoldable pub part_end : ℕ → ℕ → Closing → List ℕ
-part_end imports calls c = totals_line imports calls ⧺ ends_line c
+unfoldable pub part_end : ℕ → ℕ → Closing → Option ℕ → List ℕ
+part_end imports calls c leads = totals_line imports calls ⧺ (ends_line c ⧺ warning_text leads)
 
 -- ---- a part
 
@@ -63,7 +64,7 @@ unfoldable pub header : Frames → List ℕ
 header f = header_words f ⧺ newline
 
 unfoldable pub tale_text : List Hole → Tale → List ℕ
-tale_text holes t = t.lines.text ⧺ part_end t.lines.imports t.lines.calls (closing_in holes t.closing)
+tale_text holes t = t.lines.text ⧺ part_end t.lines.imports t.lines.calls (closing_in holes t.closing) t.leads
 
 -- from the first item with an event on, if there is one
 abbrev pub part_text : List Hole → Way → Option Standing → List ℕ

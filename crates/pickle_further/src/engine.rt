@@ -5,11 +5,12 @@ ghost use Rattle.pickle_further.specs.CallsText.{CutsText};
 ghost use Rattle.pickle_further.specs.Inside.{standing, tale_at, ended, WroteTale};
 
 use crate::going::{Gone, go};
+use crate::leads::{event_leads, or_first};
 use crate::machine::LoaderMachine;
 use crate::way::{Spot, Way};
 use pickle_doc::TailFault;
 use pickle_io::{Holes, Page};
-use pickle_ops::FrontFault;
+use pickle_ops::{FrontFault, ObjId};
 use pickle_show::{Closing, Course, Naming, TextStop, write_line};
 use std::alloc::Global;
 
@@ -20,6 +21,8 @@ pub struct TaleEnd {
     pub course: Course,
     /// Why it ended.
     pub closing: Closing,
+    /// The first import that leads to the unpickler.
+    pub leads: Option<ObjId>,
 }
 
 /// Why it ends after an item, where this many more may come.
@@ -90,12 +93,18 @@ pub fn write_items<S: Page>(
     let mut rest = bytes;
     let mut at = from;
     let mut course = course_of(naming);
+    let mut leads = None;
     let mut left = bytes.len();
     'items: loop {
         write_line(holes, at.offset, course.naming, machine, gone.event, page)?;
         course = course.with(gone.row, machine, gone.event);
+        leads = or_first(leads, event_leads(machine, gone.event));
         if let Some(closing) = ended(gone, left, at.offset) {
-            return Ok(TaleEnd { course, closing });
+            return Ok(TaleEnd {
+                course,
+                closing,
+                leads,
+            });
         }
         at = spot_after(at, gone);
         left -= 1;

@@ -2,7 +2,7 @@
 
 ghost use Rattle.pickle_further.specs.Laws.{LinesComeFirst, NoLineNoReachBehind, PartsBeginAtLines};
 
-/// What is said up to the end of the lines is said first, whatever comes behind it, and the status is that of these lines.
+/// What is said up to the end of the lines is said first, whatever comes behind it, and where the status is 0 that of these lines is.
 pub fn lines_come_first()
     ensures { LinesComeFirst }
 {}

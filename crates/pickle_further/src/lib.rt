@@ -9,6 +9,7 @@
 mod engine;
 mod going;
 mod laws;
+mod leads;
 mod machine;
 mod parts;
 mod seek;

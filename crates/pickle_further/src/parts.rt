@@ -3,6 +3,8 @@
 
 ghost use Rattle.std.specs.Prelude.{◌≡◌, ◌≤◌, ◌^◌, length, Some, IfOk, IfErr};
 ghost use Rattle.pickle_io.specs.Device.{Writes};
+ghost use Rattle.pickle_io.specs.Text.{◌⧺◌};
+ghost use Rattle.pickle_further.specs.Leads.{warning_text};
 ghost use Rattle.pickle_further.specs.CallsText.{PutsText};
 ghost use Rattle.pickle_further.specs.Going.{search_from};
 ghost use Rattle.pickle_further.specs.Parts.{stop_words, stop_line, ends_line, part_end, ignored_words, buffered_words, held_words, header_words, header, tale_text, part_text, text_from, found_text};
@@ -12,11 +14,13 @@ ghost use Rattle.pickle_further.specs.Inside.{standing, standing_begun, standing
 
 use crate::engine::write_items;
 use crate::going::go;
+use crate::leads::write_warning;
 use crate::machine::LoaderMachine;
 use crate::seek::{Sought, Visited, seek};
 use crate::way::{Spot, Way};
 use pickle_io::{Failed, Holes, Page, write_all};
 use pickle_lenient::Frames;
+use pickle_ops::ObjId;
 use pickle_show::{
     Closing, Course, Detail, Naming, TextStop, closing_in, write_closing, write_totals,
 };
@@ -101,13 +105,31 @@ fn write_ends<S: Page>(closing: Closing, page: &mut S) -> Result<(), Failed>
     }
 }
 
+/// Writes how it ended, and a line where an import leads to the unpickler.
+#[tactic(auto, using(pickle_io::proofs::Devices::text_steps))]
+fn write_ends_warned<S: Page>(
+    closing: Closing,
+    leads: Option<ObjId>,
+    page: &mut S,
+) -> Result<(), Failed>
+    ensures { Writes (S.told page.old) (S.told page.new) result (ends_line closing ⧺ warning_text leads) }
+{
+    write_ends(closing, page)?;
+    write_warning(leads, page)
+}
+
 /// Writes the last lines.
 #[tactic(auto, using(pickle_io::proofs::Devices::text_steps), unfolding(crate::specs::Parts::part_end))]
-fn write_part_end<S: Page>(course: Course, closing: Closing, page: &mut S) -> Result<(), Failed>
-    ensures { Writes (S.told page.old) (S.told page.new) result (part_end course.imports course.calls closing) }
+fn write_part_end<S: Page>(
+    course: Course,
+    closing: Closing,
+    leads: Option<ObjId>,
+    page: &mut S,
+) -> Result<(), Failed>
+    ensures { Writes (S.told page.old) (S.told page.new) result (part_end course.imports course.calls closing leads) }
 {
     write_totals(course, page)?;
-    write_ends(closing, page)
+    write_ends_warned(closing, leads, page)
 }
 
 /// Writes what comes to this, and the last lines.
@@ -134,7 +156,7 @@ fn write_tale<S: Page>(
         machine,
         page,
     )?;
-    write_part_end(end.course, closing_in(holes, end.closing), page)?;
+    write_part_end(end.course, closing_in(holes, end.closing), end.leads, page)?;
     Ok(())
 }
 

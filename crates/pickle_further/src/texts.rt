@@ -11,6 +11,7 @@ ghost use Rattle.pickle_further.specs.CallsText.{CompletesText, CutsCallsText, C
 
 use crate::engine::write_items;
 use crate::going::go;
+use crate::leads::{first_leading, warned_status, write_warning};
 use crate::machine::LoaderMachine;
 use crate::parts::{find_loss, write_found, write_from};
 use crate::way::{Pickles, Spot, Way};
@@ -155,8 +156,10 @@ fn write_document<S: Page>(
         page,
     )?;
     let status = write_end(holes, bytes, ran.course, ran.ending, page)?;
+    let leads = first_leading(&slim);
+    write_warning(leads, page)?;
     write_parts(alloc, detail, holes, pickles, bytes, ran, slim, page)?;
-    Ok(status)
+    Ok(warned_status(leads, status))
 }
 
 /// Where the first item is whose reading by one unpickler loses bytes, if there is one.
@@ -286,13 +289,14 @@ fn write_kept<S: Page>(
         Ending::Closed(0, end.closing),
         page,
     )?;
+    write_warning(end.leads, page)?;
     write_behind(alloc, detail, holes, bytes, loss, page)?;
-    Ok(kept_status(loss, status))
+    Ok(kept_status(loss, warned_status(end.leads, status)))
 }
 
 /// Writes what the pickles of the bytes would import and call: a line for each item that does, the last lines, and behind a refused item,
 /// a fault, or an end of which loaders disagree what those may do that go on. Answers the status: 0 where the reading ended with the
-/// bytes, right behind a STOP, else 1. The bytes are what is left of a file without these holes, and the offsets that are shown are those in
+/// bytes, right behind a STOP, and no import leads to the unpickler, else 1. The bytes are what is left of a file without these holes, and the offsets that are shown are those in
 /// the file. There are to be no more bytes than the limit.
 ///
 /// `Memory` (M) where memory runs out, `Failed` where the sink fails; what was written then is a beginning of the text.

@@ -13,8 +13,9 @@ import webbrowser
 from pathlib import Path
 from typing import Iterator, List, Optional
 
-from ..addresses import given
+from ..addresses import given, zip_behind
 from ..errors import PicklestepError, reason
+from ..opens import is_at_server
 from ..saving import naming, written_whole
 from ..wording import shown
 from .document import Document
@@ -101,13 +102,14 @@ def _opened(options: argparse.Namespace) -> Document:
     """The document. A terminal gets a line that says how far it is, which is wiped out at the end."""
     pickle, found = given(options.file)
     path, rest = (options.file, '') if found is None else (found.path, found.address[len(found.path):])
-    name, is_told = os.path.basename(path) + rest, sys.stderr.isatty()
+    name, is_told = (path if is_at_server(path) else os.path.basename(path)) + rest, sys.stderr.isatty()
     try:
         document = Document(pickle, name, options.many, _count if is_told else silent)
     finally:
         if is_told:
             _count('')
     document.container = '' if found is None else found.path
+    document.said = zip_behind(options.file) if found is None else list(found.said)
     return document
 
 

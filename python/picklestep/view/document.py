@@ -47,7 +47,8 @@ _IMPORTS = ('import', 'inst')
 _CALLS = ('inst', 'call', 'new', 'state', 'append', 'set', 'add')
 # How closing lines begin that say that not all of a file was read.
 _OF_CONTAINER = 'begins like a container: '
-_EARLY = ('refused: ', 'fault: ', _OF_CONTAINER)
+_WARNING = 'warning: '
+_EARLY = ('refused: ', 'fault: ', 'kept: ', _OF_CONTAINER)
 
 
 class Reaches:
@@ -73,14 +74,15 @@ class Reaches:
 
     @property
     def behind(self) -> List[str]:
-        """The container that the bytes begin like, a line for each part (what loaders may reach where this reading has ended), and where else to
-        look."""
+        """The container that the bytes begin like, whether an import leads to the unpickler, a line for each part (what loaders may reach where this
+        reading has ended), and where else to look."""
         if self.is_part:
             return [f'imports and calls: the first {len(self.kinds):,} alone, long as they are (picklestep calls shows all)']
         container = self.answer.container
         within = [f'{_OF_CONTAINER}{container} (picklestep scan looks into it)'] if container else []
         parts = [f'{part.heading}: {part.imports} imports, {part.calls} calls (picklestep calls shows them)' for part in self.answer.parts]
-        return [*within, *parts, *self.answer.hints]
+        warning = [f'{_WARNING}{self.answer.warning}'] if self.answer.warning else []
+        return [*within, *warning, *parts, *self.answer.hints]
 
     @property
     def counts(self) -> Tuple[int, int]:
@@ -164,6 +166,8 @@ class Document:
         self.name = name
         # The file that the pickle was opened in, if it was: it is not written over.
         self.container = ''
+        # What is said of how it was opened.
+        self.said: List[str] = []
         self._progress = progress
         self.session = Session(source, many=many, unframed=unframed)
         self._options = modes(many, unframed)
@@ -376,7 +380,7 @@ class Document:
 
     @property
     def missing(self) -> List[str]:
-        """Why a report has not all of the file: reading ended early, or these are a container, or there is an array of joblib."""
+        """Why a report has not all of the file: reading ended early or at STOP, or these are a container, or there is an array of joblib."""
         return [line for line in self.lines.closing if line.startswith(_EARLY)] + list(self.reaches.answer.hints)
 
     def made_before(self, place: int) -> Tuple[int, int]:

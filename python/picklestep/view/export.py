@@ -21,7 +21,7 @@ _HEAD = '''<!DOCTYPE html>
 <html lang="en"><head><meta charset="utf-8"><meta name="viewport" content="width=device-width">
 <meta http-equiv="Content-Security-Policy" content="default-src 'none'; style-src 'sha256-{hash}'; base-uri 'none'; form-action 'none'">
 <title>{name}: picklestep</title><style>{style}</style></head><body>
-<header><h1>{name}</h1>{missing}<p>{summary}</p>
+<header><h1>{name}</h1>{missing}{said}<p>{summary}</p>
 <nav><a href="#calls">Calls</a> <a href="#listing">Listing</a> <a href="#objects">Objects</a></nav></header>
 <main>
 '''
@@ -76,6 +76,11 @@ def _missing(document: Document) -> str:
     return f'<p><strong>Not all of the file is in this report:</strong> {escape(why)}.</p>' if why else ''
 
 
+def _said(document: Document) -> str:
+    """How the pickle was opened: the file, and what else is in it."""
+    return f'<p>{"<br>".join(map(escape, document.said))}</p>' if document.said else ''
+
+
 def write_report(document: Document, file: IO[str]) -> Tuple[int, int]:
     """Writes the report, and answers how many opcodes it shows and how many there are."""
     count = min(len(document.lines), MOST)
@@ -83,7 +88,7 @@ def write_report(document: Document, file: IO[str]) -> Tuple[int, int]:
     counts = f'{len(document.lines):,} opcodes, {imports:,} imports, {calls:,} calls'
     summary = f'{counts}. {"; ".join(document.lines.closing)}.'
     file.write(_HEAD.format(hash=_HASH, style=_STYLE, name=escape(document.name), summary=escape(summary),
-                            missing=_missing(document)))
+                            missing=_missing(document), said=_said(document)))
     for part in (_calls(document), _listing(document, count), _objects(document, count)):
         file.writelines(part)
     file.write('</main><footer>Made by picklestep. Nothing of the pickle was run.</footer></body></html>\n')

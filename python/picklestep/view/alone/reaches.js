@@ -64,7 +64,8 @@ class Reaches {
     else this.readEnd(at);
   }
 
-  // The counts, the container that the bytes begin like, and a line for each part: what loaders may reach where this reading has ended.
+  // The counts, the container that the bytes begin like, whether an import leads to the unpickler, and a line for each part: what loaders may
+  // reach where this reading has ended.
   readEnd(from) {
     let heading = null;
     for (let at = from; at < this.lines.length; at += 1) {
@@ -74,6 +75,8 @@ class Reaches {
       if (begins) this.watch(line, begins);
       if (!heading) this.fault = closingOf([line], 'fault') || this.fault;
       if (container && !heading) this.behind.push(`begins like a container: ${container} (picklestep scan looks into it)`);
+      const warning = closingOf([line], 'warning');
+      if (warning && !heading) this.behind.push(`warning: ${warning}`);
       if (counts && !heading) this.counts = counts;
       else if (counts) this.behind.push(`${heading}: ${counts[0]} imports, ${counts[1]} calls (picklestep calls shows them)`);
     }

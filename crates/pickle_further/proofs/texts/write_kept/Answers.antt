@@ -3,7 +3,7 @@ use Rattle.pickle_further.specs.declared.way.Pickles.TheVariants as pickles
 use Rattle.pickle_show.specs.Manner.{manner}
 use Rattle.pickle_further.proofs.Pieces.{no_text_yet}
 use Rattle.pickle_further.proofs.Tales.{err_is}
-use Rattle.pickle_further.proofs.Kept.{kept_cut, kept_broken, behind_cut, kept_done}
+use Rattle.pickle_further.proofs.Kept.{kept_cut, kept_broken, warning_broken, behind_cut, kept_done}
 use Rattle.pickle_further.proofs.texts.write_kept.Goals as goal
 
 pub returns-in_err-loss-clause-err : goal.returns-in_err-loss-clause-err
@@ -26,15 +26,22 @@ returns-in_err-status-clause-err g c =
     let wrote = rw c.begin.ensures at c.in_ok-end.ensures.ok in
     err_is _ _ _ c.from_residual-in_err-status.ensures.1 (rw c.in_err-status.ensures.failed (kept_broken (manner c.args.detail c.args.holes.now) _ _ _ _ _ _ _ (first _) wrote c.in_err-status.ensures.text))
 
+pub returns-in_err-write_warning-clause-err : goal.returns-in_err-write_warning-clause-err
+returns-in_err-write_warning-clause-err g c =
+    let first = rw (c.new-machine.ensures, c.start.ensures) at c.in_ok-first.ensures.ok in
+    let wrote = rw c.begin.ensures at c.in_ok-end.ensures.ok in
+    err_is _ _ _ c.from_residual-in_err-write_warning.ensures.1
+    (warning_broken (manner c.args.detail c.args.holes.now) _ _ _ _ _ _ _ _ (first _) wrote c.in_ok-status.ensures.text c.in_err-write_warning.ensures)
+
 pub returns-in_err-write_behind-clause-err : goal.returns-in_err-write_behind-clause-err
 returns-in_err-write_behind-clause-err g c =
     let first = rw (c.new-machine.ensures, c.start.ensures) at c.in_ok-first.ensures.ok in
     let wrote = rw c.begin.ensures at c.in_ok-end.ensures.ok in
     err_is _ _ _ c.from_residual-in_err-write_behind.ensures.1
-    (behind_cut (manner c.args.detail c.args.holes.now) _ _ _ _ _ _ _ _ _ _ (first _) wrote c.in_ok-status.ensures.text c.in_ok-loss.ensures.ok c.in_err-write_behind.ensures)
+    (behind_cut (manner c.args.detail c.args.holes.now) _ _ _ _ _ _ _ _ _ _ _ (first _) wrote c.in_ok-status.ensures.text c.in_ok-write_warning.ensures c.in_ok-loss.ensures.ok c.in_err-write_behind.ensures)
 
 pub returns-clause-ok : goal.returns-clause-ok
 returns-clause-ok g c =
     let first = rw (c.new-machine.ensures, c.start.ensures) at c.in_ok-first.ensures.ok in
     let wrote = rw c.begin.ensures at c.in_ok-end.ensures.ok in
-    rw c.kept_status.ensures (kept_done (manner c.args.detail c.args.holes.now) _ _ _ _ _ _ _ _ _ _ (first _) wrote c.in_ok-status.ensures.text c.in_ok-status.ensures.status c.in_ok-loss.ensures.ok c.in_ok-write_behind.ensures)
+    rw (c.kept_status.ensures, c.warned_status.ensures) (kept_done (manner c.args.detail c.args.holes.now) _ _ _ _ _ _ _ _ _ _ _ (first _) wrote c.in_ok-status.ensures.text c.in_ok-write_warning.ensures c.in_ok-status.ensures.status c.in_ok-loss.ensures.ok c.in_ok-write_behind.ensures)

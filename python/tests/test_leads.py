@@ -1,0 +1,123 @@
+"""Pickles that reach the unpickler which loads them: a real one calls what no line shows, and `calls` warns of it. Where a Python or a library is not
+there, the pickle is only asked about."""
+
+from __future__ import annotations
+
+import os
+import subprocess
+import sys
+import tempfile
+import unittest
+from pathlib import Path
+from typing import List
+
+import picklestep
+from pickles import ROOT
+
+# (of a folder of several Pythons those that the package runs in)
+_PYTHONS = [path for path in sorted(Path(os.environ.get('PYTHONS', '/nowhere')).expanduser().glob('3.*/bin/python3')) if int(path.parts[-3].split('.')[1]) >= 8]
+
+
+def text(value: bytes) -> bytes:
+    return b'\x8c' + bytes([len(value)]) + value
+
+
+def found(module: bytes, name: bytes) -> bytes:
+    """An import by STACK_GLOBAL."""
+    return text(module) + text(name) + b'\x93'
+
+
+# NONE becomes STACK_GLOBAL, and NEWTRUE becomes REDUCE, in the table of the unpickler in Python.
+TURNED = (b'\x80\x04' + found(b'pickle', b'_Unpickler.dispatch') + b'KN' + found(b'pickle', b'_Unpickler.load_stack_global') + b's'
+          + b'K\x88' + found(b'pickle', b'_Unpickler.load_reduce') + b's' + text(b'os') + text(b'getpid') + b'N' + b')\x88.')
+# The same of joblib's own table.
+_TABLE = b'NumpyUnpickler.dispatch'
+_TURN = found(b'joblib.numpy_pickle', _TABLE) + b''.join(
+    b'K' + new + found(b'joblib.numpy_pickle', _TABLE + b'.__getitem__') + b'K' + old + b'\x85Rs' for new, old in ((b'N', b'\x93'), (b'\x88', b'R')))
+OF_JOBLIB = b'\x80\x04' + _TURN + text(b'os') + text(b'getpid') + b'N' + b')\x88.'
+# The unpickler in C is found among all objects, and gets the memo of another one, in which 0 is `os.getpid`.
+GIVEN_A_MEMO = (
+    b'\x80\x04' + found(b'json', b'dumps') + b'q\x000' + found(b'gc', b'get_objects') + b')Rq\x010'
+    + found(b'_pickle', b'Unpickler') + found(b'io', b'BytesIO') + b'C\x0fcos\ngetpid\nq\x00N.\x85R\x85Rq\x030'
+    + found(b'_pickle', b'Unpickler.load') + b'h\x03\x85R0' + found(b'operator', b'attrgetter') + text(b'memo') + b'\x85Rh\x03\x85Rq\x020'
+    + found(b'operator', b'getitem') + b'h\x01'
+    + found(b'operator', b'indexOf') + found(b'builtins', b'map') + found(b'builtins', b'type') + b'h\x01\x86R' + found(b'_pickle', b'Unpickler')
+    + b'\x86R\x86RN}' + text(b'memo') + b'h\x02s\x86b0h\x00)R.')
+# The frame of `load_reduce` has the stack, into which `os.getpid` is put in the place of `json.dumps`.
+IN_A_FRAME = (
+    b'\x80\x04' + found(b'sys', b'_getframe') + b')R\x940' + found(b'operator', b'attrgetter') + text(b'f_locals') + b'\x85Rh\x00\x85R\x940'
+    + found(b'operator', b'itemgetter') + text(b'stack') + b'\x85Rh\x01\x85R\x940' + found(b'os', b'getpid') + b'\x940'
+    + found(b'json', b'dumps') + b'\x940h\x04h\x02K\x00h\x03s0)R.')
+_HIDDEN = found(b'os', b'getpid') + b')R0N.'
+
+
+def sought(number: int) -> bytes:
+    """A pickle that skips the beginning of a bytes literal in its file, so that what is in the literal is read as opcodes."""
+    front = b'\x80\x04' + found(b'posix', b'lseek') + b'K' + bytes([number]) + b'K\x03K\x01\x87R0'
+    return front + b'C' + bytes([len(_HIDDEN)]) + _HIDDEN + b'0N.'
+
+
+def says(python: str, statement: str, data: bytes) -> str:
+    """What a Python prints that has these bytes in a file."""
+    with tempfile.TemporaryDirectory() as folder:
+        file = Path(folder) / 'a.pickle'
+        file.write_bytes(data)
+        done = subprocess.run([python, '-B', '-c', statement, str(file)], capture_output=True, timeout=60, cwd=folder)
+    return done.stdout.decode().strip() or done.stderr.decode()[-300:]
+
+
+_LOADS = 'import os, pickle, sys; file = open(sys.argv[1], "rb", {buffering}); print({load} == os.getpid())'
+
+
+class ReachesTheUnpickler(unittest.TestCase):
+
+    def check(self, data: bytes, statement: str, first: int, pythons: List[str]) -> None:
+        """A real unpickler calls what no line shows, and the program warns of the first import that led there."""
+        answer = picklestep.calls(data)
+        self.assertEqual((answer.warning, answer.end.is_stopped), (f'W1 #{first} leads to the unpickler', True))
+        self.assertFalse(any(reach.what == 'call' and reach.name is not None and b'getpid' in repr(reach.name).encode() for reach in answer))
+        for python in pythons:
+            self.assertEqual(says(python, statement, data), 'True', python)
+
+    @property
+    def pythons(self) -> List[str]:
+        return [sys.executable, *map(str, _PYTHONS)]
+
+    def test_a_table_of_opcodes(self) -> None:
+        self.check(TURNED, _LOADS.format(buffering=-1, load='pickle._load(file)'), 2, self.pythons)
+
+    def test_a_table_of_joblib(self) -> None:
+        has_it = says(sys.executable, 'import joblib; print(joblib)', b'')
+        self.check(OF_JOBLIB, _LOADS.format(buffering=-1, load='__import__("joblib").load(sys.argv[1])'), 2,
+                   [sys.executable] if has_it.startswith('<module') else [])
+
+    def test_a_memo(self) -> None:
+        self.check(GIVEN_A_MEMO, _LOADS.format(buffering=-1, load='pickle.loads(file.read())'), 5, self.pythons)
+
+    def test_a_frame(self) -> None:
+        self.check(IN_A_FRAME, _LOADS.format(buffering=-1, load='pickle._load(file)'), 2, self.pythons)
+
+    def test_a_file(self) -> None:
+        statement = ('import os, pickle, sys; found = []\n'
+                     'class Unpickler(pickle.Unpickler):\n'
+                     '    def find_class(self, module, name):\n'
+                     '        found.append(name)\n'
+                     '        return super().find_class(module, name)\n'
+                     'file = os.fdopen(os.dup2(os.open(sys.argv[1], os.O_RDONLY), 9), "rb", 0)\n'
+                     'Unpickler(file).load(); print(found == ["lseek", "getpid"])')
+        data = sought(9)
+        if os.name == 'posix':
+            self.check(data, statement, 2, self.pythons)
+        self.assertEqual(picklestep.calls(data).imports, 1)
+
+    def test_the_status(self) -> None:
+        """It is 1, where no import leads there 0."""
+        with tempfile.TemporaryDirectory() as folder:
+            file = Path(folder) / 'a.pickle'
+            for data, status in ((TURNED, 1), (GIVEN_A_MEMO, 1), (IN_A_FRAME, 1), (sought(9), 1), (OF_JOBLIB, 1), (found(b'os', b'getpid') + b'.', 0)):
+                file.write_bytes(data)
+                self.assertEqual(subprocess.run([str(ROOT / 'picklestep'), 'calls', str(file)], capture_output=True).returncode, status)
+
+
+if __name__ == '__main__':
+    unittest.main()
