@@ -1,6 +1,6 @@
 -- The acts of an item that is allowed are permitted.
 use Rattle.std.proofs.Common.{◌≡◌, ℕ, zero, suc, ◌<◌, Bool, true, false, cond, List, [], ◌∷◌, ◌++◌, length, map, take, drop, Option, Some, None, refl, sym, ap, ap₂, subst, ◌∙◌, inl, inr, arith}
-use Rattle.std.specs.Prelude.{◌||◌, not, slice_get, nat_lt, if◌then◌else◌}
+use Rattle.std.specs.Prelude.{◌&&◌, ◌||◌, not, slice_get, nat_lt, if◌then◌else◌}
 use Rattle.std.specs.Option.{option_map_or}
 use Rattle.std.proofs.lemmas.Bool.{cases_lt}
 use Rattle.pickle_ops.specs.declared.opcode.Opcode.{Opcode}
@@ -39,9 +39,10 @@ use Rattle.pickle_allow.specs.declared.list.Use.TheVariants as use_of
 use Rattle.pickle_allow.specs.declared.list.Entry.{Entry}
 use Rattle.pickle_allow.specs.Allow.{Source, may_find, may_use}
 use Rattle.pickle_allow.specs.Source.{line_text, literal_text, source_at}
+use Rattle.pickle_allow.specs.Arguments.{may_be_given, may_be_set}
 use Rattle.pickle_gate.specs.Gate.{protocol_of, sources, may_make, may_happen, is_allowed_on, is_allowed, first_forbidden}
 use Rattle.gate_laws.specs.Permitted.{name_text, value_source, permits}
-use Rattle.gate_laws.proofs.Walk.{in_either, one_of, sources_by}
+use Rattle.gate_laws.proofs.Walk.{both, in_either, one_of, sources_by}
 use Rattle.gate_laws.proofs.Agreeing.{Agrees, Reads, ReadsParts, use_agrees, name_found, find_given, callee_agrees}
 
 -- ---- the acts of an event
@@ -93,11 +94,14 @@ happens_permits : (list : List Entry) (V : ℕ → Value) (proto : ℕ) (from : 
 happens_permits list V proto from acts s t None a h reads e is = absurd is
 happens_permits list V proto from acts s t (Some (event.Made id)) a h reads e is = go (slice_get t.heap id) refl e is
   where
-    go : (y : Option Object) → slice_get t.heap id ≡ y → option_map_or (λ (o : Object). may_make list proto t.heap from o.kind o.parts) y true ≡ true → IsAct a (option_map_or (λ (o : Object). making proto o.kind (map V o.parts)) y []) → permits list (sources_by [] acts) a ≡ true
+    go : (y : Option Object) → slice_get t.heap id ≡ y → option_map_or (λ (o : Object). may_make list proto t.heap from o.kind o.parts && may_be_given list proto t.heap o.kind o.parts) y true ≡ true → IsAct a (option_map_or (λ (o : Object). making proto o.kind (map V o.parts)) y []) → permits list (sources_by [] acts) a ≡ true
     go None at f g = absurd g
-    go (Some o) at f g = making_permits list V proto t.heap from acts o.kind o.parts a h (reads o at) f g
+    go (Some o) at f g =
+        making_permits list V proto t.heap from acts o.kind o.parts a h (reads o at)
+        (both (may_make list proto t.heap from o.kind o.parts) (may_be_given list proto t.heap o.kind o.parts) f).0 g
 happens_permits list V proto from acts s t (Some (event.State value target)) a h reads e is =
-    one_act list (sources_by [] acts) a (SetState (V target) (V value)) (use_agrees list use_of.State V from acts h target e) is
+    one_act list (sources_by [] acts) a (SetState (V target) (V value))
+    (use_agrees list use_of.State V from acts h target (both (may_use list use_of.State (source_at from target)) (may_be_set list proto t.heap value target) e).0) is
 happens_permits list V proto from acts s t (Some (event.Filled how n target)) a h reads e is =
     fill_permits list V from acts how target (map V (take (objects_in how n) (taken s t))) (nat_lt 0 n) a h e is
 

@@ -8,3 +8,5 @@ pub mod Loads
 pub mod Law
 pub mod Uses
 pub mod LawC
+pub mod Untouching
+pub mod Files

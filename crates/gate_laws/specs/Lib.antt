@@ -1,3 +1,4 @@
 -- The definitions that contracts cite.
 pub mod Permitted
 pub mod Laws
+pub mod Untouched

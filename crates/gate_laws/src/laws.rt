@@ -1,6 +1,7 @@
 //! Laws of the definitions. The functions do nothing: what they ensure holds of all lists, all bytes and all environments.
 
-ghost use Rattle.gate_laws.specs.Laws.{ImportsAreInTheList, UsesAreGranted, OnlyWhatIsAllowed, OnlyWhatIsAllowedInC};
+ghost use Rattle.gate_laws.specs.Laws.{ImportsAreInTheList, UsesAreGranted, OnlyWhatIsAllowed, OnlyWhatIsAllowedInC, OnlyWhatIsAllowedInAFile, OnlyWhatIsAllowedOfAPipe};
+ghost use Rattle.gate_laws.specs.Untouched.{NothingIsTouched, NothingIsTouchedInC};
 
 /// Among permitted acts each import is of a name in the list.
 pub fn imports_are_in_the_list()
@@ -21,4 +22,25 @@ pub fn only_what_is_allowed()
 /// And so is whatever the unpickler in C does, from bytes or from a stream.
 pub fn only_what_is_allowed_in_c()
     ensures { OnlyWhatIsAllowedInC }
+{}
+
+/// And so is whatever the unpickler in C does with a file that shows bytes ahead, however many.
+pub fn only_what_is_allowed_in_a_file()
+    ensures { OnlyWhatIsAllowedInAFile }
+{}
+
+/// And so is whatever the one in Python does with a pipe, as long as no opcode is made of a short answer.
+pub fn only_what_is_allowed_of_a_pipe()
+    ensures { OnlyWhatIsAllowedOfAPipe }
+{}
+
+/// Bytes that pass by a list of which no name leads to the unpickler are loaded as if no environment could reach it but by its answers, where the
+/// environment leaves the unpickler alone as long as no import leads there.
+pub fn nothing_is_touched()
+    ensures { NothingIsTouched }
+{}
+
+/// So they are by the unpickler in C, from bytes or from a stream.
+pub fn nothing_is_touched_in_c()
+    ensures { NothingIsTouchedInC }
 {}

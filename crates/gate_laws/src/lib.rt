@@ -4,5 +4,7 @@
 mod laws;
 
 pub use laws::{
-    imports_are_in_the_list, only_what_is_allowed, only_what_is_allowed_in_c, uses_are_granted,
+    imports_are_in_the_list, nothing_is_touched, nothing_is_touched_in_c, only_what_is_allowed,
+    only_what_is_allowed_in_a_file, only_what_is_allowed_in_c, only_what_is_allowed_of_a_pipe,
+    uses_are_granted,
 };

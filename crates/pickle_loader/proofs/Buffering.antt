@@ -179,7 +179,7 @@ same_framed true c t n m = (refl, refl)
 same_framed false true t n m = (refl, refl)
 same_framed false false t n m = (refl, refl)
 
-same_settled : (b c : Bool) (bytes : List ℕ) (t : Taken) → ((if b then refilled 0 t else (if c then framed bytes t (frame_number t.op) else t)).op ≡ t.op) × ((if b then refilled 0 t else (if c then framed bytes t (frame_number t.op) else t)).row ≡ t.row)
+pub same_settled : (b c : Bool) (bytes : List ℕ) (t : Taken) → ((if b then refilled 0 t else (if c then framed bytes t (frame_number t.op) else t)).op ≡ t.op) × ((if b then refilled 0 t else (if c then framed bytes t (frame_number t.op) else t)).row ≡ t.row)
 same_settled true c bytes t = (refl, refl)
 same_settled false true bytes t = same_framed (nat_le (frame_number t.op) t.left) (nat_le (frame_number t.op) (length bytes - (t.size + t.left))) t (frame_number t.op) (length bytes - (t.size + t.left))
 same_settled false false bytes t = (refl, refl)

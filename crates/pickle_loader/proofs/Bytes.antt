@@ -117,7 +117,7 @@ record IsRead (many : Bool) (bytes : List ℕ) (d : Contents) : Type 0 where
   small : length bytes < 2 ^ 64
   stops : (many ≡ false) ⊎ StopsEndFrames d.units
 
-run_within : (from : State) (ops : List Operation) (n : ℕ) (s : State) → run from ops n ≡ Some s → n ≤ length ops
+pub run_within : (from : State) (ops : List Operation) (n : ℕ) (s : State) → run from ops n ≡ Some s → n ≤ length ops
 run_within from ops zero s e = omega arith
 run_within from ops (suc n) s e = let m = move_to from ops n s e in omega (arith, slice_get_within ops n m.item m.there)
 

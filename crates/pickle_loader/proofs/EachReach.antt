@@ -31,7 +31,7 @@ use Rattle.pickle_show.specs.Listing.{reached}
 use Rattle.pickle_show.specs.Report.{refused_on}
 use Rattle.pickle_show.specs.Manner.{Manner}
 use Rattle.pickle_show.specs.Calls.{CountedText, CallsEnd, entry_at, is_inside, left_at, or_here, first_inside, closing_of, closing_to, kept_by, end_to, end_from, calls_end}
-use Rattle.pickle_show.specs.LineLaws.{if_any, item_lines, last_pieces}
+use Rattle.pickle_show.specs.LineLaws.{if_any, item_lines}
 use Rattle.pickle_show.proofs.Places.{is_reached}
 use Rattle.pickle_show.proofs.Walking.{entry_is}
 use Rattle.pickle_further.specs.declared.way.Pickles.{Pickles}
@@ -40,7 +40,7 @@ use Rattle.pickle_further.specs.Going.{Standing, Going, event_by, then_as, moved
 use Rattle.pickle_further.specs.Parts.{ignoring, buffering, are_many, is_open, standing_at, standing_first}
 use Rattle.pickle_loader.specs.Environment.{Value, Plain}
 use Rattle.pickle_loader.specs.Onward.{stands, begins_anew, unbuffered}
-use Rattle.pickle_loader.specs.Text.{line_gone, lines_from, lines_if, behind_lines, lost_lines, parts_lines, document_lines, IsAmong}
+use Rattle.pickle_loader.specs.Text.{line_gone, lines_from, lines_if, behind_lines, lost_lines, parts_lines, document_last, document_lines, IsAmong}
 use Rattle.pickle_loader.proofs.Still.{move_to}
 use Rattle.pickle_loader.proofs.Leads.{event_fresh, moved_on_fresh}
 use Rattle.pickle_loader.proofs.Lines.{all_reached}
@@ -236,7 +236,7 @@ none_over how pickles.OneMemo d n q r x most there ev = let wrong : false ≡ tr
 -- ---- of a document
 
 pub in_parts : (how : Manner) (p : Pickles) (d : Contents) (line : List ℕ) → IsAmong line (parts_lines how p d (calls_end d)) → IsAmong line (document_lines how p d)
-in_parts how p d line h = among_right line (item_lines how d (calls_end d).place ++ last_pieces how d (calls_end d)) (parts_lines how p d (calls_end d)) h
+in_parts how p d line h = among_right line (item_lines how d (calls_end d).place ++ document_last how d) (parts_lines how p d (calls_end d)) h
 
 behind_end : (how : Manner) (p : Pickles) (d : Contents) (n : ℕ) (q : Standing) (b : Bool) → is_open (calls_end d).ending ≡ b → IsReadSo p d → (x : EndIs d (calls_end d)) → (calls_end d).place ≤ n → stands (ignoring p) (First how p d) n ≡ Some q
     → HasEvent (ignoring p) q → IsAmong (line_gone how.holes q (going (ignoring p) q)) (parts_lines how p d (calls_end d))
@@ -267,7 +267,7 @@ ignoring_reach how p d n q r there ev =
           let a = accepted_at how p d n after.0 q r after.1 there in
           let some : (entry_at how d n).text ≢ [] = λ none. line_some how.holes q (going (ignoring p) q) ev.0 ev.1 (sym a.line ∙ none) in
           let item : IsAmong line (item_lines how d e.place) = subst (λ (l : List ℕ). IsAmong l (item_lines how d e.place)) a.line (among_items how d n e.place less some) in
-          among_left line (item_lines how d e.place ++ last_pieces how d e) (parts_lines how p d e) (among_left line (item_lines how d e.place) (last_pieces how d e) item)
+          among_left line (item_lines how d e.place ++ document_last how d) (parts_lines how p d e) (among_left line (item_lines how d e.place) (document_last how d) item)
       | inr most ↦ in_parts how p d line (behind_end how p d n q (is_open e.ending) refl r x most there ev)
     ]
 

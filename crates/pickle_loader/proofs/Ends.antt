@@ -67,16 +67,16 @@ rest_end d n e none = rest_is (items_of d) d.tail n ∙ ap (λ (l : List Operati
 
 -- ---- one item more
 
-acts_suc : (V : ℕ → Value) (p : Pickles) (d : Contents) (n : ℕ) (x : Option Standing) → stands (ignoring p) (First p d) n ≡ x
+pub acts_suc : (V : ℕ → Value) (p : Pickles) (d : Contents) (n : ℕ) (x : Option Standing) → stands (ignoring p) (First p d) n ≡ x
     → acts_before V (ignoring p) (First p d) (suc n) ≡ acts_before V (ignoring p) (First p d) n ++ acts_on V (ignoring p) (protocol (ignoring p) (First p d) n) x
 unfolding acts_before
 acts_suc V p d n x is = ap (λ (y : Option Standing). acts_before V (ignoring p) (First p d) n ++ acts_on V (ignoring p) (protocol (ignoring p) (First p d) n) y) is
 
-stands_suc : (p : Pickles) (d : Contents) (n : ℕ) (x : Option Standing) → stands (ignoring p) (First p d) n ≡ x → stands (ignoring p) (First p d) (suc n) ≡ stands_on (ignoring p) x
+pub stands_suc : (p : Pickles) (d : Contents) (n : ℕ) (x : Option Standing) → stands (ignoring p) (First p d) n ≡ x → stands (ignoring p) (First p d) (suc n) ≡ stands_on (ignoring p) x
 unfolding stands
 stands_suc p d n x is = ap (stands_on (ignoring p)) is
 
-first_zero : (V : ℕ → Value) (p : Pickles) (d : Contents) → acts_before V (ignoring p) (First p d) 0 ≡ listed V d.many (ops_of d) 0
+pub first_zero : (V : ℕ → Value) (p : Pickles) (d : Contents) → acts_before V (ignoring p) (First p d) 0 ≡ listed V d.many (ops_of d) 0
 unfolding acts_before listed
 first_zero V p d = refl
 

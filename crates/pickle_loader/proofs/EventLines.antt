@@ -41,9 +41,10 @@ use Rattle.pickle_further.specs.declared.way.Pickles.TheVariants as pickles
 use Rattle.pickle_further.specs.declared.way.Way.{Way}
 use Rattle.pickle_further.specs.Going.{Standing, going, stands_after, is_sought, Tale, tale_of, search, search_from}
 use Rattle.pickle_further.specs.Parts.{stop_words, stop_line, ends_line, ignored_words, buffered_words, held_words, header, ignoring, buffering, holding, are_many, is_open, standing_at, standing_first, loss_at}
-use Rattle.pickle_further.specs.CallsText.{loss_words, loss_line, first_loss, IsCallsText}
+use Rattle.pickle_further.specs.Leads.{warning_words, warning_line, warning_text}
+use Rattle.pickle_further.specs.CallsText.{document_leads, loss_words, loss_line, first_loss, IsCallsText}
 use Rattle.pickle_loader.specs.Onward.{stands}
-use Rattle.pickle_loader.specs.Text.{line_gone, line_on, lines_before, all_lines, part_end_lines, part_lines, lines_from, lines_if, behind_lines, lost_lines, parts_lines, document_lines, kept_first, kept_last, kept_parts, kept_lines, IsAmong, is_in_text}
+use Rattle.pickle_loader.specs.Text.{line_gone, line_on, lines_before, all_lines, part_end_lines, part_lines, lines_from, lines_if, behind_lines, lost_lines, parts_lines, document_last, document_lines, kept_first, kept_closing, kept_last, kept_parts, kept_lines, IsAmong, is_in_text}
 use Rattle.pickle_loader.specs.EventLine.{BeginsWithOffset, LacksOffset, IsStart, IsOfItem, EventLinesApart}
 use Rattle.pickle_loader.proofs.Losses.{shifted}
 use Rattle.pickle_loader.proofs.Reaches.{onward}
@@ -177,6 +178,10 @@ loss_begins : (offset : ℕ) → Begins 117 (loss_line offset)
 unfolding loss_line loss_words ◌⧺◌
 loss_begins offset = (_, refl)
 
+warning_begins : (id : ℕ) → Begins 119 (warning_line id)
+unfolding warning_line warning_words ◌⧺◌
+warning_begins id = (_, refl)
+
 unsure_begins : (offset : ℕ) → Begins 117 (unsure_line offset)
 unfolding unsure_line unsure_words ◌⧺◌
 unsure_begins offset = (_, refl)
@@ -205,6 +210,10 @@ ends_apart c = no_letter 105 (ends_line c) (omega arith) (ends_begins c)
 
 loss_apart : (offset : ℕ) → LacksOffset (loss_line offset)
 loss_apart offset = no_letter 117 (loss_line offset) (omega arith) (loss_begins offset)
+
+warning_apart : (leads : Option ℕ) → LacksOffset (warning_text leads)
+warning_apart None = lacks_colon [] refl
+warning_apart (Some id) = no_letter 119 (warning_line id) (omega arith) (warning_begins id)
 
 unsure_apart : (offset : ℕ) → LacksOffset (unsure_line offset)
 unsure_apart offset = no_letter 117 (unsure_line offset) (omega arith) (unsure_begins offset)
@@ -295,6 +304,9 @@ no_last a bytes imports calls e h = elim (among_split a.line (if_any (begins_tex
   ]
 ]
 
+no_warning : (a : Asked) (leads : Option ℕ) → IsAmong a.line (if_any (warning_text leads)) → Answer a
+no_warning a leads h = not_asked a (warning_text leads) (warning_apart leads) (among_if a.line (warning_text leads) h)
+
 -- ---- the lines of a reading
 
 in_reading : (a : Asked) (w : Way) (from : Standing) (k : ℕ) (p : Standing) (m : ℕ) → (w.pickles ≡ a.pickles) × (is_in_text w.pickles w.frames ≡ true) → IsStart a.how a.pickles a.bytes from → stands w from k ≡ Some p → IsAmong a.line (lines_before a.how.holes w p m) → Answer a
@@ -346,11 +358,11 @@ in_part_lines a w from k p mode begins there h =
       | inl same ↦ not_asked a (header w.frames) (heading_apart w.frames) same
       | inr more ↦ elim (among_split a.line (all_lines a.how.holes w p) (part_end_lines a.how.holes t) more) [
         | inl lines ↦ in_reading a w from k p (suc (length p.rest)) mode begins there lines
-        | inr last ↦ elim (among_cons a.line (totals_line t.lines.imports t.lines.calls) (ends_line (closing_in a.how.holes t.closing) ∷ []) last) [
+        | inr last ↦ elim (among_cons a.line (totals_line t.lines.imports t.lines.calls) (ends_line (closing_in a.how.holes t.closing) ∷ if_any (warning_text t.leads)) last) [
           | inl same ↦ not_asked a (totals_line t.lines.imports t.lines.calls) (totals_apart t.lines.imports t.lines.calls) same
-          | inr end ↦ elim (among_cons a.line (ends_line (closing_in a.how.holes t.closing)) [] end) [
+          | inr end ↦ elim (among_cons a.line (ends_line (closing_in a.how.holes t.closing)) (if_any (warning_text t.leads)) end) [
             | inl same ↦ not_asked a (ends_line (closing_in a.how.holes t.closing)) (ends_apart (closing_in a.how.holes t.closing)) same
-            | inr none ↦ among_none a.line none
+            | inr warning ↦ no_warning a t.leads warning
           ]
         ]
       ]
@@ -446,11 +458,13 @@ in_document : (a : Asked) (d : Contents) → IsReadSo a.pickles d → ReadsAs (a
 in_document a d r reads h =
     let e : CallsEnd = calls_end d in
     let items : List (List ℕ) = item_lines a.how d e.place in
-    let last : List (List ℕ) = last_pieces a.how d e in
-    elim (among_split a.line (items ++ last) (parts_lines a.how a.pickles d e) h) [
-      | inl lines ↦ elim (among_split a.line items last lines) [
+    elim (among_split a.line (items ++ document_last a.how d) (parts_lines a.how a.pickles d e) h) [
+      | inl lines ↦ elim (among_split a.line items (document_last a.how d) lines) [
         | inl item ↦ in_items a d e.place r reads item
-        | inr end ↦ no_last a (document_bytes d) (entries a.how d e.place).imports (entries a.how d e.place).calls (ending_in a.how.holes e.ending) end
+        | inr last ↦ elim (among_split a.line (last_pieces a.how d e) (if_any (warning_text (document_leads d))) last) [
+          | inl end ↦ no_last a (document_bytes d) (entries a.how d e.place).imports (entries a.how d e.place).calls (ending_in a.how.holes e.ending) end
+          | inr warning ↦ no_warning a (document_leads d) warning
+        ]
       ]
       | inr parts ↦ in_parts a d (is_open e.ending) reads parts
     ]
@@ -465,7 +479,10 @@ in_memo a mode h =
     elim (among_split a.line (kept_first a.how first ++ kept_last a.how a.bytes t) (kept_parts a.how a.bytes (first_loss a.how.detail a.bytes)) h) [
       | inl lines ↦ elim (among_split a.line (kept_first a.how first) (kept_last a.how a.bytes t) lines) [
         | inl items ↦ in_reading a w first 0 first (suc (length a.bytes)) (mode, refl) (inl (ap (λ (p : Pickles). standing_first a.how.detail p a.bytes) mode)) (stands_here w first) items
-        | inr last ↦ no_last a a.bytes t.lines.imports t.lines.calls (ending_in a.how.holes (ending.Closed 0 t.closing)) last
+        | inr last ↦ elim (among_split a.line (kept_closing a.how a.bytes t) (if_any (warning_text t.leads)) last) [
+          | inl end ↦ no_last a a.bytes t.lines.imports t.lines.calls (ending_in a.how.holes (ending.Closed 0 t.closing)) end
+          | inr warning ↦ no_warning a t.leads warning
+        ]
       ]
       | inr parts ↦ go (first_loss a.how.detail a.bytes) parts
     ]
@@ -506,6 +523,7 @@ event_lines_apart = record {
   closing = closing_apart;
   unsure = unsure_apart;
   loss = loss_apart;
+  warning = warning_apart;
   heading = heading_apart;
   ends = ends_apart;
   other = no_other;

@@ -58,4 +58,5 @@ pub mod ByFrames
 pub mod ActLines
 pub mod Inputs
 pub mod ShownFiles
+pub mod FileLines
 pub mod ShortReads

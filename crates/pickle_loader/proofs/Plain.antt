@@ -114,13 +114,13 @@ line_found text more h =
 odd_line_is : (code : ℕ) (text more : List ℕ) → list_any is_newline text ≡ false → odd (code ∷ (text ++ 10 ∷ more)) ≡ odd_so (keyed_by code (length text + 2) (key_of text))
 odd_line_is code text more h = rw (line_found text more h, take_at text (10 ∷ more) (length text) refl) refl
 
-odd_is : (code : ℕ) (arg more : List ℕ) (l : IsLine arg) → odd (code ∷ (arg ++ more)) ≡ odd_so (keyed_by code (length l.0 + 2) (key_of l.0))
+pub odd_is : (code : ℕ) (arg more : List ℕ) (l : IsLine arg) → odd (code ∷ (arg ++ more)) ≡ odd_so (keyed_by code (length l.0 + 2) (key_of l.0))
 odd_is code arg more (text, none, is) = rw (is, append_assoc text (10 ∷ []) more) (odd_line_is code text more none)
 
-text_is : (arg : List ℕ) (l : IsLine arg) → text_of arg ≡ l.0
+pub text_is : (arg : List ℕ) (l : IsLine arg) → text_of arg ≡ l.0
 text_is arg (text, none, is) = ap text_of is ∙ take_at text (10 ∷ []) (length (text ++ 10 ∷ []) - 1) (omega (arith, length-append text (10 ∷ [])))
 
-line_length : (arg : List ℕ) (l : IsLine arg) → length arg ≡ length l.0 + 1
+pub line_length : (arg : List ℕ) (l : IsLine arg) → length arg ≡ length l.0 + 1
 line_length arg (text, none, is) = ap length is ∙ length-append text (10 ∷ [])
 
 -- what int() reads PyLong_FromString reads
@@ -137,7 +137,7 @@ int_is_key line key e = go (list_any is_nul line) e
 pub whole_front : (c : Opcode) (rest : List ℕ) (n : ℕ) → arg_size (form_of c) rest ≡ Some n → front_of (code_of c ∷ rest) ≡ Whole c (take n rest) (drop n rest)
 whole_front c rest n size = ap (front_at (code_of c) rest) (opcode_of-code c) ∙ ap (front_behind c rest) size
 
-at_front : (bytes : List ℕ) (f : Front) (x : Option FrontFault) → front_of bytes ≡ f → front_fault f ≡ x → lenient bytes ≡ lenient_at bytes f x
+pub at_front : (bytes : List ℕ) (f : Front) (x : Option FrontFault) → front_of bytes ≡ f → front_fault f ≡ x → lenient bytes ≡ lenient_at bytes f x
 unfolding lenient
 at_front bytes f x e g = ap (λ (y : Front). lenient_at bytes y (front_fault y)) e ∙ ap (lenient_at bytes f) g
 
@@ -153,7 +153,7 @@ good_covered c rest n size value =
     (at_front (code_of c ∷ rest) (Whole c (take n rest) (drop n rest)) None (whole_front c rest n size) value)
     (Itself refl refl) (omega (arith, long, found.0)) (behind_size c rest n (length (take n rest) + 1) (ap (λ (m : ℕ). m + 1) long))
 
-refused : (b : Bool) (f g : FrontFault) → (if b then None else Some f) ≡ Some g → b ≡ false
+pub refused : (b : Bool) (f g : FrontFault) → (if b then None else Some f) ≡ Some g → b ≡ false
 refused true f g e = absurd cc
 refused false f g e = refl
 
@@ -188,11 +188,11 @@ put_covered : (rest : List ℕ) (n : ℕ) (x : Option ℕ) → arg_size form.Dec
 put_covered rest n None size bad is = Fails (λ w u. ap (λ (y : Option ℕ). with_int y u (λ key. load_put w key u)) is)
 put_covered rest n (Some key) size bad is = keyed_covered op.Put rest n (λ (k : ℕ). row.Put k) key size refl bad (λ m. refl) refl refl (λ w u. sym (ap (λ (y : Option ℕ). with_int y u (λ k. load_put w k u)) is)) is
 
-bad_decimal : (arg : List ℕ) (g : FrontFault) → value_fault form.Decimal arg ≡ Some g → value_fault form.Decimal arg ≡ Some fault.BadArgument
+pub bad_decimal : (arg : List ℕ) (g : FrontFault) → value_fault form.Decimal arg ≡ Some g → value_fault form.Decimal arg ≡ Some fault.BadArgument
 bad_decimal arg g e = ap (λ (b : Bool). if b then None else Some fault.BadArgument) (refused (is_decimal (text_of arg)) fault.BadArgument g e)
 
 -- a negative length is not read
-negative : (b : Bool) (g : FrontFault) → (if b then Some fault.NegativeLength else None) ≡ Some g → b ≡ true
+pub negative : (b : Bool) (g : FrontFault) → (if b then Some fault.NegativeLength else None) ≡ Some g → b ≡ true
 negative true g e = refl
 negative false g e = absurd cc
 

@@ -23,9 +23,10 @@ use Rattle.pickle_show.specs.Manner.{Manner, closing_in, ending_in}
 use Rattle.pickle_show.specs.Output.{Output}
 use Rattle.pickle_show.specs.CallsLine.{totals_line, unsure_line, ending_lines, calls_end_text}
 use Rattle.pickle_show.specs.Calls.{CallsEnd, entry_at, entries, calls, calls_end}
-use Rattle.pickle_show.specs.LineLaws.{before_first, cut_lines, if_any}
+use Rattle.pickle_show.specs.ObjectText.{id_text}
+use Rattle.pickle_show.specs.LineLaws.{before_first, cut_lines, if_any, item_lines, last_pieces}
 use Rattle.pickle_show.proofs.Walking.{text-suc}
-use Rattle.pickle_show.proofs.WithinLines.{Stays, then_stays, decimal_stays}
+use Rattle.pickle_show.proofs.WithinLines.{Stays, then_stays, decimal_stays, id_stays}
 use Rattle.pickle_show.proofs.TextLines.{IsLine, HasLine, line_of_body, cut_line, any_line, cut_any, cut_last, cut_end, calls_text, end_text, line_has, entry_has, totals_is_line, refused_is_line, fault_is_line, closing_has, kept_has, unsure_is_line, begins_has, text_is_its_lines}
 use Rattle.pickle_further.specs.declared.seek.Sought.TheVariants as sought
 use Rattle.pickle_further.specs.declared.way.Pickles.{Pickles}
@@ -33,9 +34,10 @@ use Rattle.pickle_further.specs.declared.way.Pickles.TheVariants as pickles
 use Rattle.pickle_further.specs.declared.way.Way.{Way}
 use Rattle.pickle_further.specs.Going.{Standing, Going, going, stands_after, Tale, tale_over, tale, tale_of, search_from}
 use Rattle.pickle_further.specs.Parts.{stop_words, stop_line, ends_line, part_end, ignored_words, buffered_words, held_words, header, tale_text, part_text, text_from, ignoring, buffering, holding, standing_at, standing_first, behind_at, found_text, loss_at, lost_by, is_open, parts}
-use Rattle.pickle_further.specs.CallsText.{document_calls, loss_words, loss_line, first_loss, loss_text, kept_behind, kept_calls}
+use Rattle.pickle_further.specs.Leads.{warning_words, leads_words, warning_line, warning_text}
+use Rattle.pickle_further.specs.CallsText.{document_leads, document_calls, loss_words, loss_line, first_loss, loss_text, kept_behind, kept_calls}
 use Rattle.pickle_loader.specs.Onward.{stands_behind, stands}
-use Rattle.pickle_loader.specs.Text.{line_gone, line_on, lines_before, part_lines, lines_from, lines_if, behind_lines, lost_lines, parts_lines, document_lines, kept_parts, kept_lines, WholeTextIsItsLines}
+use Rattle.pickle_loader.specs.Text.{line_gone, line_on, lines_before, part_lines, lines_from, lines_if, behind_lines, lost_lines, parts_lines, document_lines, kept_first, kept_closing, kept_parts, kept_lines, WholeTextIsItsLines}
 use Rattle.pickle_loader.proofs.Losses.{shifted, over}
 
 -- ---- texts that end with a newline
@@ -173,34 +175,48 @@ header_is_line frames.Ignored = line_of_body (codes "a loader may go on:") refl
 header_is_line frames.Buffered = line_of_body (codes "a loader that buffers frames may go on:") refl
 header_is_line frames.Held = line_of_body (codes "a loader that keeps its buffer may go on:") refl
 
-cut_part_end : (imports calls : ℕ) (c : Closing) → cut_lines (part_end imports calls c) ≡ totals_line imports calls ∷ ends_line c ∷ []
-unfolding part_end ◌⧺◌
-cut_part_end imports calls c =
-    cut_line (totals_line imports calls) (ends_line c) (totals_is_line imports calls) ∙ ap (λ (ls : List (List ℕ)). totals_line imports calls ∷ ls) (cut_one (ends_line c) (ends_is_line c))
+warning_is_line : (id : ℕ) → IsLine (warning_line id)
+unfolding warning_line warning_words leads_words
+warning_is_line id =
+    line_of_body (codes "warning: W1 " ⧺ id_text id ⧺ codes " leads to the unpickler")
+    (then_stays (codes "warning: W1 " ⧺ id_text id) (codes " leads to the unpickler") (then_stays (codes "warning: W1 ") (id_text id) refl (id_stays id)) refl)
 
-part_ends : (imports calls : ℕ) (c : Closing) → EndsLine (part_end imports calls c)
+warning_has : (leads : Option ℕ) → HasLine (warning_text leads)
+warning_has None = inl refl
+warning_has (Some id) = inr (warning_is_line id)
+
+cut_part_end : (imports calls : ℕ) (c : Closing) (leads : Option ℕ) → cut_lines (part_end imports calls c leads) ≡ totals_line imports calls ∷ (ends_line c ∷ if_any (warning_text leads))
 unfolding part_end ◌⧺◌
-part_ends imports calls c = both_end (totals_line imports calls) (ends_line c) (line_ends (totals_line imports calls) (totals_is_line imports calls)) (line_ends (ends_line c) (ends_is_line c))
+cut_part_end imports calls c leads =
+    cut_line (totals_line imports calls) (ends_line c ++ warning_text leads) (totals_is_line imports calls)
+    ∙ ap (λ (ls : List (List ℕ)). totals_line imports calls ∷ ls)
+    (cut_line (ends_line c) (warning_text leads) (ends_is_line c) ∙ ap (λ (ls : List (List ℕ)). ends_line c ∷ ls) (cut_last (warning_text leads) (warning_has leads)))
+
+part_ends : (imports calls : ℕ) (c : Closing) (leads : Option ℕ) → EndsLine (part_end imports calls c leads)
+unfolding part_end ◌⧺◌
+part_ends imports calls c leads =
+    both_end (totals_line imports calls) (ends_line c ++ warning_text leads) (line_ends (totals_line imports calls) (totals_is_line imports calls))
+    (both_end (ends_line c) (warning_text leads) (line_ends (ends_line c) (ends_is_line c)) (has_ends (warning_text leads) (warning_has leads)))
 
 cut_part : (holes : List Hole) (w : Way) (x : Option Standing) → cut_lines (part_text holes w x) ≡ part_lines holes w x
 unfolding tale_text ◌⧺◌
 cut_part holes w None = cut_nothing
 cut_part holes w (Some p) =
     let t : Tale = tale_of holes w p in
-    let end : List ℕ = part_end t.lines.imports t.lines.calls (closing_in holes t.closing) in
+    let end : List ℕ = part_end t.lines.imports t.lines.calls (closing_in holes t.closing) t.leads in
     cut_line (header w.frames) (t.lines.text ++ end) (header_is_line w.frames)
     ∙ ap (λ (ls : List (List ℕ)). header w.frames ∷ ls)
     (cut_join t.lines.text end (tale_ends holes (suc (length p.rest)) w p)
-    ∙ ap₂ (λ (a b : List (List ℕ)). a ++ b) (cut_tale holes (suc (length p.rest)) w p) (cut_part_end t.lines.imports t.lines.calls (closing_in holes t.closing)))
+    ∙ ap₂ (λ (a b : List (List ℕ)). a ++ b) (cut_tale holes (suc (length p.rest)) w p) (cut_part_end t.lines.imports t.lines.calls (closing_in holes t.closing) t.leads))
 
 part_ends_line : (holes : List Hole) (w : Way) (x : Option Standing) → EndsLine (part_text holes w x)
 unfolding tale_text ◌⧺◌
 part_ends_line holes w None = inl refl
 part_ends_line holes w (Some p) =
     let t : Tale = tale_of holes w p in
-    let end : List ℕ = part_end t.lines.imports t.lines.calls (closing_in holes t.closing) in
+    let end : List ℕ = part_end t.lines.imports t.lines.calls (closing_in holes t.closing) t.leads in
     both_end (header w.frames) (t.lines.text ++ end) (line_ends (header w.frames) (header_is_line w.frames))
-    (both_end t.lines.text end (tale_ends holes (suc (length p.rest)) w p) (part_ends t.lines.imports t.lines.calls (closing_in holes t.closing)))
+    (both_end t.lines.text end (tale_ends holes (suc (length p.rest)) w p) (part_ends t.lines.imports t.lines.calls (closing_in holes t.closing) t.leads))
 
 cut_from : (holes : List Hole) (w : Way) (p : Standing) → cut_lines (text_from holes w p) ≡ lines_from holes w p
 unfolding text_from
@@ -276,7 +292,16 @@ calls_ends how d =
 
 cut_document : (how : Manner) (p : Pickles) (d : Contents) → cut_lines (document_calls how p d).text ≡ document_lines how p d
 unfolding ◌⧺◌
-cut_document how p d = cut_join (calls how d).text (parts how p d) (calls_ends how d) ∙ ap₂ (λ (a b : List (List ℕ)). a ++ b) (text_is_its_lines how d) (cut_parts how p d)
+cut_document how p d =
+    let first : List ℕ = (calls how d).text in
+    let warning : List ℕ = warning_text (document_leads d) in
+    let ends : EndsLine warning = has_ends warning (warning_has (document_leads d)) in
+    let items : List (List ℕ) = item_lines how d (calls_end d).place in
+    cut_join (first ++ warning) (parts how p d) (both_end first warning (calls_ends how d) ends)
+    ∙ ap₂ (λ (a b : List (List ℕ)). a ++ b)
+    (cut_join first warning (calls_ends how d) ∙ ap₂ (λ (a b : List (List ℕ)). a ++ b) (text_is_its_lines how d) (cut_last warning (warning_has (document_leads d)))
+    ∙ append_assoc items (last_pieces how d (calls_end d)) (if_any warning))
+    (cut_parts how p d)
 
 -- ---- the text with one memo
 
@@ -305,9 +330,15 @@ cut_kept how bytes =
     let e : Ending = ending_in how.holes (ending.Closed 0 t.closing) in
     let end : List ℕ = calls_end_text bytes t.lines.imports t.lines.calls e in
     let n : ℕ = suc (length p.rest) in
-    cut_join (t.lines.text ++ end) (kept_behind how bytes (first_loss how.detail bytes)) (both_end t.lines.text end (tale_ends how.holes n w p) (end_ends bytes t.lines.imports t.lines.calls e))
+    let warning : List ℕ = warning_text t.leads in
+    let lines : EndsLine (t.lines.text ++ end) = both_end t.lines.text end (tale_ends how.holes n w p) (end_ends bytes t.lines.imports t.lines.calls e) in
+    cut_join ((t.lines.text ++ end) ++ warning) (kept_behind how bytes (first_loss how.detail bytes)) (both_end (t.lines.text ++ end) warning lines (has_ends warning (warning_has t.leads)))
+    ∙ ap₂ (λ (a b : List (List ℕ)). a ++ b)
+    (cut_join (t.lines.text ++ end) warning lines
     ∙ ap₂ (λ (a b : List (List ℕ)). a ++ b)
     (cut_join t.lines.text end (tale_ends how.holes n w p) ∙ ap₂ (λ (a b : List (List ℕ)). a ++ b) (cut_tale how.holes n w p) (cut_end bytes t.lines.imports t.lines.calls e))
+    (cut_last warning (warning_has t.leads))
+    ∙ append_assoc (kept_first how p) (kept_closing how bytes t) (if_any warning))
     (cut_loss how bytes (first_loss how.detail bytes))
 
 pub whole_text_is_its_lines : WholeTextIsItsLines

@@ -1,6 +1,6 @@
 -- Which lines of `calls` are those of events: the ones that begin with an offset, wherever they stand in the text.
 -- Source: own.
-use Rattle.std.specs.Prelude.{◌≡◌, ◌≢◌, ◌⊎◌, ℕ, ◌^◌, ◌<◌, true, List, [], length, codes, Some}
+use Rattle.std.specs.Prelude.{◌≡◌, ◌≢◌, ◌⊎◌, ℕ, ◌^◌, ◌<◌, true, List, [], length, codes, Option, Some}
 use Rattle.std.specs.List.{list_all}
 use Rattle.pickle_io.specs.Text.{◌⧺◌}
 use Rattle.pickle_ops.specs.Object.{Object}
@@ -25,6 +25,7 @@ use Rattle.pickle_further.specs.declared.way.Pickles.{Pickles}
 use Rattle.pickle_further.specs.declared.way.Way.{Way}
 use Rattle.pickle_further.specs.Going.{Standing, going}
 use Rattle.pickle_further.specs.Parts.{ends_line, header, are_many, standing_at, standing_first}
+use Rattle.pickle_further.specs.Leads.{warning_text}
 use Rattle.pickle_further.specs.CallsText.{loss_line, IsCallsText}
 use Rattle.pickle_loader.specs.Onward.{stands}
 use Rattle.pickle_loader.specs.Text.{line_gone, IsAmong, is_in_text}
@@ -68,6 +69,7 @@ pub record EventLinesApart : Type 0 where
   pub closing : (c : Closing) → LacksOffset (closing_line c)
   pub unsure : (offset : ℕ) → LacksOffset (unsure_line offset)
   pub loss : (offset : ℕ) → LacksOffset (loss_line offset)
+  pub warning : (leads : Option ℕ) → LacksOffset (warning_text leads)
   pub heading : (f : Frames) → LacksOffset (header f)
   pub ends : (c : Closing) → LacksOffset (ends_line c)
   pub other : (how : Manner) (p : Pickles) (bytes : List ℕ) (o : Output) → IsCallsText how p bytes o → length bytes < 2 ^ 64

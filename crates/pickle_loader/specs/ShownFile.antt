@@ -6,7 +6,7 @@
 -- stay where they are, as many as it likes. So are `open(f, "rb")`, gzip, members of zip files, `makefile("rb")` of a socket, and BytesIO.
 -- A file without `peek` is one that shows nothing, and one that the unpickler does not ask (for PREFETCH bytes or more) shows nothing then.
 -- Bytes (`pickle.loads`) are read as a file that shows all. Where a read comes short it raises.
-use Rattle.std.specs.Prelude.{◌≡◌, ℕ, zero, suc, ◌+◌, ◌-◌, ◌^◌, ◌<◌, Bool, true, false, List, [], ◌∷◌, ◌++◌, length, take, drop, nat_le, if◌then◌else◌, Option, Some, None}
+use Rattle.std.specs.Prelude.{◌≡◌, ℕ, zero, suc, ◌+◌, ◌-◌, ◌^◌, ◌<◌, ◌≤◌, Bool, true, false, List, [], ◌∷◌, ◌++◌, length, take, drop, nat_le, if◌then◌else◌, Option, Some, None}
 use Rattle.byteorder.specs.Endian.{little_number}
 use Rattle.pickle_ops.specs.declared.opcode.Opcode.{Opcode}
 use Rattle.pickle_ops.specs.declared.opcode.Opcode.TheVariants as op
@@ -16,18 +16,22 @@ use Rattle.pickle_ops.specs.Table.{form_of, opcode_of}
 use Rattle.pickle_ops.specs.Shape.{is_negative}
 use Rattle.pickle_ops.specs.Spelling.{Operation}
 use Rattle.pickle_doc.specs.Document.{Contents, ReadsAs}
+use Rattle.pickle_doc.specs.Place.{ops_of}
+use Rattle.pickle_machine.specs.State.{State, start}
+use Rattle.pickle_machine.specs.Run.{run}
 use Rattle.pickle_lenient.specs.Stream.{is_filled}
 use Rattle.pickle_show.specs.Manner.{Manner}
 use Rattle.pickle_show.specs.Output.{Output}
-use Rattle.pickle_show.specs.Calls.{calls}
+use Rattle.pickle_show.specs.Calls.{calls_end, calls}
 use Rattle.pickle_further.specs.declared.way.Pickles.{Pickles}
 use Rattle.pickle_further.specs.declared.way.Pickles.TheVariants as pickles
 use Rattle.pickle_further.specs.Parts.{ignoring, are_many, standing_first}
 use Rattle.pickle_further.specs.CallsText.{IsCallsText}
-use Rattle.pickle_loader.specs.Environment.{Value, World}
+use Rattle.pickle_loader.specs.Environment.{Value, Act, World}
 use Rattle.pickle_loader.specs.Dispatch.{acts_of}
 use Rattle.pickle_loader.specs.Reader.{Line, line_at, first_byte}
-use Rattle.pickle_loader.specs.Laws.{AreListedOf}
+use Rattle.pickle_loader.specs.Listed.{listed_of, listed}
+use Rattle.pickle_loader.specs.Laws.{Holds, AreListedOf}
 use Rattle.pickle_loader.specs.Onward.{reads_on, AreListedFrom, begins_anew}
 use Rattle.pickle_loader.specs.CUnpickler.{CUnpickler, CStep, CRaised, dispatch, seen}
 use Rattle.pickle_loader.specs.CLoad.{CLoaded, CGoing, CEnded, CFailed, c_loaded, seen_loaded, c_new, c_again}
@@ -240,3 +244,13 @@ NothingElseInAFileWithOneMemo = (how : Manner) (w : World) (shows : ℕ → ℕ)
     → length bytes < 2 ^ 64 → IsCallsText how pickles.OneMemo bytes o → o.status ≡ 0
     → (V : ℕ → Value)
     × AreListedFrom w V (ignoring pickles.OneMemo) (standing_first how.detail pickles.OneMemo bytes) (λ n. seen_loaded (c_load_file w shows pickles.OneMemo bytes n).now)
+
+-- where they end early: after no more opcodes than come before that end, all that is listed of it is a beginning of what the lines of as many items
+-- list, of the values that it holds
+abbrev pub UpToTheEndInAFile : Type 0
+UpToTheEndInAFile = (w : World) (shows : ℕ → ℕ) (p : Pickles) (bytes : List ℕ) (d : Contents) → begins_anew p ≡ true → ReadsAs (are_many p) bytes d
+    → length bytes < 2 ^ 64
+    → (V : ℕ → Value)
+    × ((n : ℕ) (s : State) → run (start d.many) (ops_of d) n ≡ Some s → n ≤ (calls_end d).place
+    → ((rest : List Act) × (listed_of (acts_of (seen_loaded (c_load_file w shows p bytes n).now)) ++ rest ≡ listed V d.many (ops_of d) n))
+    × Holds w V s (seen_loaded (c_load_file w shows p bytes n).now))

@@ -24,7 +24,8 @@ use Rattle.pickle_further.specs.declared.way.Pickles.TheVariants as pickles
 use Rattle.pickle_further.specs.declared.way.Way.{Way}
 use Rattle.pickle_further.specs.Going.{Standing, Going, going, Tale, tale_of, search_from}
 use Rattle.pickle_further.specs.Parts.{ends_line, header, ignoring, buffering, holding, is_open, standing_at, standing_first, loss_at}
-use Rattle.pickle_further.specs.CallsText.{loss_line, first_loss, IsCallsText}
+use Rattle.pickle_further.specs.Leads.{warning_text}
+use Rattle.pickle_further.specs.CallsText.{document_leads, loss_line, first_loss, IsCallsText}
 use Rattle.pickle_loader.specs.Environment.{Value}
 use Rattle.pickle_loader.specs.Onward.{stands, acts_gone, acts_before}
 
@@ -49,9 +50,9 @@ all_lines holes way p = lines_before holes way p (suc (length p.rest))
 
 -- ---- the lines of a part
 
--- how many imports and calls, and how it ended
+-- how many imports and calls, how it ended, and a line where an import leads to the unpickler
 abbrev pub part_end_lines : List Hole → Tale → List (List ℕ)
-part_end_lines holes t = totals_line t.lines.imports t.lines.calls ∷ ends_line (closing_in holes t.closing) ∷ []
+part_end_lines holes t = totals_line t.lines.imports t.lines.calls ∷ (ends_line (closing_in holes t.closing) ∷ if_any (warning_text t.leads))
 
 abbrev pub part_lines : List Hole → Way → Option Standing → List (List ℕ)
 part_lines holes way (Some p) = header way.frames ∷ (all_lines holes way p ++ part_end_lines holes (tale_of holes way p))
@@ -79,17 +80,23 @@ parts_lines how p d e =
 
 -- ---- the lines of a text
 
--- of a document
+-- of a document: the lines of its items, those that close them, a line where an import leads to the unpickler, and what is behind the end
+abbrev pub document_last : Manner → Contents → List (List ℕ)
+document_last how d = last_pieces how d (calls_end d) ++ if_any (warning_text (document_leads d))
+
 abbrev pub document_lines : Manner → Pickles → Contents → List (List ℕ)
-document_lines how p d = (item_lines how d (calls_end d).place ++ last_pieces how d (calls_end d)) ++ parts_lines how p d (calls_end d)
+document_lines how p d = (item_lines how d (calls_end d).place ++ document_last how d) ++ parts_lines how p d (calls_end d)
 
 -- of bytes that one unpickler reads on and on
 abbrev pub kept_first : Manner → Standing → List (List ℕ)
 kept_first how p = all_lines how.holes (ignoring pickles.OneMemo) p
 
-abbrev pub kept_last : Manner → List ℕ → Tale → List (List ℕ)
-kept_last how bytes t = if_any (begins_text bytes)
+abbrev pub kept_closing : Manner → List ℕ → Tale → List (List ℕ)
+kept_closing how bytes t = if_any (begins_text bytes)
     ++ (totals_line t.lines.imports t.lines.calls ∷ ending_pieces (ending_in how.holes (ending.Closed 0 t.closing)))
+
+abbrev pub kept_last : Manner → List ℕ → Tale → List (List ℕ)
+kept_last how bytes t = kept_closing how bytes t ++ if_any (warning_text t.leads)
 
 abbrev pub kept_parts : Manner → List ℕ → Option ℕ → List (List ℕ)
 kept_parts how bytes None = []

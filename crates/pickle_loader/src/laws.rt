@@ -13,7 +13,7 @@ ghost use Rattle.pickle_loader.specs.Import.{OnlyImportsSayImport};
 ghost use Rattle.pickle_loader.specs.FindClass.{FoundIsSaid};
 ghost use Rattle.pickle_loader.specs.Callee.{OneLineOneCallee};
 ghost use Rattle.pickle_loader.specs.OneMemo.{NothingElseWithOneMemo, NothingElseWithOneMemoInC};
-ghost use Rattle.pickle_loader.specs.ShownFile.{NothingElseInAFile, NothingElseInAFileWithOneMemo};
+ghost use Rattle.pickle_loader.specs.ShownFile.{NothingElseInAFile, NothingElseInAFileWithOneMemo, UpToTheEndInAFile};
 ghost use Rattle.pickle_loader.specs.ShortRead.{PipeIsFile, EachActOfAPipeHasItsLine};
 ghost use Rattle.pickle_loader.specs.CLoad.{OneLoad, NothingBeyondInC, NothingElseInAStream, NothingElseInC};
 
@@ -76,6 +76,11 @@ pub fn nothing_else_in_a_stream()
 /// Nor does the one that reads a file which shows some bytes, however many it shows.
 pub fn nothing_else_in_a_file()
     ensures { NothingElseInAFile }
+{}
+
+/// Where they end otherwise, it does up to the end what the lines tell, and with the values that they say.
+pub fn up_to_the_end_in_a_file()
+    ensures { UpToTheEndInAFile }
 {}
 
 /// An accepted item without a line makes the unpickler do nothing that is listed.

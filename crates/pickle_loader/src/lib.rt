@@ -13,6 +13,6 @@ pub use laws::{
     nothing_else_in_a_file, nothing_else_in_a_file_with_one_memo, nothing_else_in_a_stream,
     nothing_else_in_c, nothing_else_with_one_memo, nothing_else_with_one_memo_in_c,
     one_line_one_callee, one_load, one_stack, one_whole_text, only_imports_say_import,
-    ops_are_fetched, pipe_is_file, what_is_missing_raises, whole_text_is_its_lines,
-    wide_moves_are_followed,
+    ops_are_fetched, pipe_is_file, up_to_the_end_in_a_file, what_is_missing_raises,
+    whole_text_is_its_lines, wide_moves_are_followed,
 };

@@ -6,3 +6,12 @@ mod Mixes
 mod Ways
 mod InC
 mod Framed
+mod Split
+mod Standing
+mod Wholes
+mod Across
+mod Covered
+mod Fetched
+mod Behind
+mod Filed
+mod Lossless

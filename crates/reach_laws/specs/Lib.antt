@@ -1,3 +1,4 @@
 -- The definitions that contracts cite.
 pub mod Mixed
 pub mod Reached
+pub mod Filed
