@@ -1,0 +1,79 @@
+//! What is said of one member.
+
+ghost use Rattle.std.specs.Prelude.{◌≡◌, ◌≤◌, length, IfOk, MatchOption};
+ghost use Rattle.pickle_doc.specs.Document.{size_limit};
+ghost use Rattle.archive_gate.specs.Members.{alone, is_stored, Gives, MemberPasses, IsRefusal, IsRefusedAs, HasFault};
+ghost use Rattle.pickle_gate.specs.Gate.{Passes};
+ghost use Rattle.zip_archive.specs.Reader.{member_of};
+
+use crate::fault::Fault;
+use pickle_allow::Entry;
+use pickle_gate::{Verdict, gate};
+use pickle_reach::{Granted, Reach, first_reach};
+use std::alloc::{AllocError, Global};
+use zip_archive::EntryRef;
+
+/// What a loader was given that has nothing but bytes.
+fn alone() -> Granted
+    ensures { result ≡ alone }
+{
+    Granted {
+        extensions: false,
+        persistent: false,
+        buffers: false,
+    }
+}
+
+/// Whether a member is stored.
+fn is_stored(entry: &EntryRef<'_>) -> bool
+    ensures { result ≡ is_stored entry.now }
+{
+    entry.method() == 0
+}
+
+/// The verdict of the gate about the bytes of a member, unless they pass or no loader reaches anything in them.
+fn refused(alloc: Global, list: &[Entry<'_>], bytes: &[u8]) -> Result<Option<Verdict>, AllocError>
+    requires { length bytes.now ≤ size_limit }
+    ensures { IfOk result (λ o. MatchOption o (Gives list.now bytes.now) (λ v. IsRefusedAs list.now bytes.now v)) }
+{
+    match first_reach(alloc, alone(), bytes)? {
+        Reach::Nothing(_, _) => Ok(None),
+        Reach::At(_, _) => refused_by_gate(alloc, list, bytes),
+        Reach::TooMany => refused_by_gate(alloc, list, bytes),
+    }
+}
+
+/// The verdict of the gate, unless the bytes pass.
+fn refused_by_gate(
+    alloc: Global,
+    list: &[Entry<'_>],
+    bytes: &[u8],
+) -> Result<Option<Verdict>, AllocError>
+    requires { length bytes.now ≤ size_limit }
+    ensures { IfOk result (λ o. MatchOption o (Passes list.now bytes.now) (λ v. IsRefusal list.now bytes.now v)) }
+{
+    match gate(alloc, list, bytes)? {
+        Verdict::Passes => Ok(None),
+        Verdict::Forbidden(place, offset) => Ok(Some(Verdict::Forbidden(place, offset))),
+        Verdict::Other(other) => Ok(Some(Verdict::Other(other))),
+        Verdict::Ends(ending) => Ok(Some(Verdict::Ends(ending))),
+    }
+}
+
+/// Why a member does not pass, if it does not.
+pub(crate) fn fault_of(
+    alloc: Global,
+    list: &[Entry<'_>],
+    entry: &EntryRef<'_>,
+) -> Result<Option<Fault>, AllocError>
+    requires { length entry.now.content ≤ size_limit }
+    ensures { IfOk result (λ o. MatchOption o (MemberPasses list.now (member_of entry.now)) (λ f. HasFault list.now entry.now f)) }
+{
+    if !is_stored(entry) {
+        return Ok(Some(Fault::Packed));
+    }
+    match refused(alloc, list, entry.content())? {
+        None => Ok(None),
+        Some(verdict) => Ok(Some(Fault::Refused(verdict))),
+    }
+}

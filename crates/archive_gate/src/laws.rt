@@ -1,0 +1,14 @@
+//! Laws of archives that pass. The functions do nothing: what they ensure holds of all bytes.
+
+ghost use Rattle.zip_archive.specs.Reader.{told_by_locator, told_before};
+ghost use Rattle.archive_gate.specs.Members.{EachMemberPasses};
+
+/// Each member that a reader by the directory finds in an archive that passes, passes: one that goes where the locator tells, as miniz.
+pub fn by_locator_passes()
+    ensures { EachMemberPasses told_by_locator }
+{}
+
+/// And one that looks before the locator, as zipfile.
+pub fn by_place_passes()
+    ensures { EachMemberPasses told_before }
+{}

@@ -1,0 +1,61 @@
+-- The text of the members of a zip archive, or of why bytes are no archive in canonical form.
+-- Source: own.
+use Rattle.std.specs.Prelude.{◌≡◌, ◌≢◌, ◌⊎◌, ℕ, ◌==◌, if◌then◌else◌, List, codes, decimal, length, Result, Err, IfOk, IfErr}
+use Rattle.pickle_io.specs.Text.{◌⧺◌, quoted}
+use Rattle.pickle_io.specs.Device.{Told, each}
+use Rattle.pickle_show.specs.Column.{newline}
+use Rattle.pickle_show.specs.Output.{Output}
+use Rattle.zip_archive.specs.declared.reason.Refusal.{Refusal}
+use Rattle.zip_archive.specs.Sentence.{sentence_of}
+use Rattle.zip_archive.specs.Entry.{Entry, data_place}
+use Rattle.zip_archive.specs.Reader.{member_of}
+use Rattle.zip_archive.specs.Archive.{IsZip, NoZip}
+use Rattle.zip_archive.specs.Refused.{IsRefused}
+use Rattle.pickle_script.specs.GateText.{WroteText, StopsGate}
+use Rattle.pickle_script.specs.declared.stop.Stop.{Stop}
+use Rattle.pickle_script.specs.declared.stop.Stop.TheVariants as stop
+
+-- how a member is packed, and where it is, to how many bytes
+unfoldable pub deflated_text : ℕ → List ℕ
+deflated_text packed = codes " deflated to " ⧺ decimal packed ⧺ codes " "
+
+abbrev pub packed_text : Entry → List ℕ
+packed_text e = if (member_of e).method == 8 then deflated_text (length e.content) else codes " stored "
+
+-- where its data begin, how many bytes they are once unpacked, and its name
+unfoldable pub member_line : Entry → List ℕ
+member_line e = decimal (data_place e) ⧺ codes ": " ⧺ decimal (member_of e).size ⧺ packed_text e ⧺ quoted e.name ⧺ newline
+
+unfoldable pub refusal_words : List ℕ
+refusal_words = codes "not in form: "
+
+unfoldable pub refusal_line : Refusal → List ℕ
+refusal_line r = refusal_words ⧺ decimal r.offset ⧺ codes ": " ⧺ sentence_of r.why ⧺ newline
+
+abbrev pub members_output : List Entry → Output
+members_output es = record { text = each member_line es; status = 0 }
+
+abbrev pub refusal_output : Refusal → Output
+refusal_output r = record { text = refusal_line r; status = 1 }
+
+-- the bytes are an archive in canonical form with these members
+pub record IsListed (bytes : List ℕ) (o : Output) : Type 0 where
+  pub members : List Entry
+  pub archive : IsZip bytes members
+  pub text : o ≡ members_output members
+
+-- or no list of members makes them one, and this is the first rule that they break
+pub record IsUnlisted (bytes : List ℕ) (o : Output) : Type 0 where
+  pub refusal : Refusal
+  pub none : NoZip bytes
+  pub broken : IsRefused bytes refusal
+  pub text : o ≡ refusal_output refusal
+
+abbrev pub IsMembersText : List ℕ → Output → Type 0
+IsMembersText bytes o = IsListed bytes o ⊎ IsUnlisted bytes o
+
+-- what is answered where the text was to be written to a sink, of which `told` says what it reports
+pub record AnswersMembers (bytes : List ℕ) {S : Type 0} (told : S → Told) (old new : S) (answer : Result ℕ Stop) : Type 0 where
+  pub whole : IfOk answer (WroteText (IsMembersText bytes) (told old) (told new))
+  pub stopped : IfErr answer (StopsGate (IsMembersText bytes) (told old) (told new))
+  pub fits : answer ≢ Err stop.TooLarge
