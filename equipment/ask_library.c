@@ -1,5 +1,5 @@
 // Asks the library. Each line of standard input has a task, which is words of the program (list --many, calls --skip 3:2, debug; or of what the
-// script leaves: edited list and the like; or gate with the file of a list), a limit of memory in bytes (0: none), the file that is asked about, the file that the text is put
+// script leaves: edited list and the like; or gate with the file of a list; or reach), a limit of memory in bytes (0: none), the file that is asked about, the file that the text is put
 // in, and the file of the script of a conversation, with tabs between them. For each, a line of standard output has the answer and the status.
 // Status 1 where a file cannot be read or written.
 #include <picklestep.h>
@@ -72,6 +72,15 @@ static const struct {
     {"--memo", PICKLESTEP_MEMO_KEPT}, {"--full", PICKLESTEP_FULL},
 };
 
+static const struct {
+    const char *word;
+    uint32_t granted;
+} GRANTED[] = {
+    {" --extensions", PICKLESTEP_EXTENSIONS},
+    {" --persistent-ids", PICKLESTEP_PERSISTENT_IDS},
+    {" --buffers", PICKLESTEP_BUFFERS},
+};
+
 static bool begins(const char *text, const char *front) { return !strncmp(text, front, strlen(front)); }
 
 static options options_of(const char *task) {
@@ -123,6 +132,14 @@ static uint8_t ask_gate(const char *path, memory given, memory out, picklestep_w
     return found;
 }
 
+static uint8_t ask_reach(const char *task, memory given, memory out, picklestep_written *written) {
+    uint32_t granted = 0;
+    for (size_t i = 0; i < sizeof GRANTED / sizeof *GRANTED; i++)
+        if (strstr(task, GRANTED[i].word))
+            granted |= GRANTED[i].granted;
+    return picklestep_reach(granted, given.bytes, given.size, out.bytes, out.size, written);
+}
+
 // A task is asked of the function without options where there is one.
 static uint8_t ask(const char *task, memory given, memory out, picklestep_written *written) {
     if (!strcmp(task, "list"))
@@ -141,8 +158,12 @@ static uint8_t ask(const char *task, memory given, memory out, picklestep_writte
         return picklestep_calls_one_memo(given.bytes, given.size, out.bytes, out.size, written);
     if (!strcmp(task, "form"))
         return picklestep_form(given.bytes, given.size, out.bytes, out.size, written);
+    if (!strcmp(task, "members"))
+        return picklestep_members(given.bytes, given.size, out.bytes, out.size, written);
     if (begins(task, "gate "))
         return ask_gate(task + strlen("gate "), given, out, written);
+    if (begins(task, "reach"))
+        return ask_reach(task, given, out, written);
     return ask_of_script(task, given, out, written);
 }
 

@@ -10,6 +10,7 @@ const TASKS = {
     'calls --first': ['picklestep_calls_first'],
     'calls --memo kept': ['picklestep_calls_one_memo'],
     'form': ['picklestep_form'],
+    'members': ['picklestep_members'],
     'debug': ['picklestep_debug', 0],
     'debug --many': ['picklestep_debug', 1],
     'edited list': ['picklestep_edited_list', 0],
@@ -22,6 +23,8 @@ const TASKS = {
 };
 // What has options is asked of a function that takes them.
 const OPTIONS = { '--many': 1, '--unframed': 2, '--first': 4, '--memo': 8, '--full': 16 };
+// What a loader was given, for `reach`.
+const GRANTED = { '--extensions': 1, '--persistent-ids': 2, '--buffers': 4 };
 const module = new WebAssembly.Module(readFileSync(process.argv[2]));
 if (WebAssembly.Module.imports(module).length) throw new Error('it has imports');
 
@@ -33,7 +36,9 @@ function asked(task, library) {
         if (place) new Uint8Array(library.memory.buffer).set(list, Number(place));
         return ['picklestep_gate', place, BigInt(list.length)];
     }
-    const words = task.split(' '), options = words.map((word) => OPTIONS[word] ?? 0).reduce((sum, one) => sum | one);
+    const words = task.split(' '), sum = (values) => words.map((word) => values[word] ?? 0).reduce((all, one) => all | one);
+    if (words[0] === 'reach') return ['picklestep_reach', sum(GRANTED)];
+    const options = sum(OPTIONS);
     const name = `picklestep_${words.slice(0, words[0] === 'edited' ? 2 : 1).join('_')}_with`;
     if (words[0] !== 'calls') return [name, options];
     const holes = words.filter((_, at) => words[at - 1] === '--skip').flatMap((hole) => hole.split(':').map(BigInt));

@@ -18,6 +18,8 @@ from typing import Callable
 from machines import Answer, Asked, Machines, large
 from sample import rows, sample_of
 from trials.gate import CASES
+from trials.members import CASES as MEMBERS
+from trials.reach import CASES as REACHES
 from trials.room import beginning
 from trials.trial import Lack, Noted, Trial
 
@@ -144,6 +146,30 @@ class Libraries(Machines):
             listed.write_bytes(case.listed)
             file.write_bytes(case.pickle)
             made.append(Asked(("gate", str(listed)), file))
+        return made
+
+    @functools.cached_property
+    def of_reach(self) -> list[Asked]:
+        """The bytes of the trial of what is reached."""
+        folder = self.folder / "reach"
+        folder.mkdir(parents=True, exist_ok=True)
+        made = []
+        for number, case in enumerate(REACHES):
+            file = folder / f"{number}.bytes"
+            file.write_bytes(case.given)
+            made.append(Asked(("reach", *case.options), file))
+        return made
+
+    @functools.cached_property
+    def of_members(self) -> list[Asked]:
+        """The bytes of the trial of the members of archives."""
+        folder = self.folder / "members"
+        folder.mkdir(parents=True, exist_ok=True)
+        made = []
+        for number, case in enumerate(MEMBERS):
+            file = folder / f"{number}.bytes"
+            file.write_bytes(case.given)
+            made.append(Asked(("members",), file))
         return made
 
     # --- The ways to link it ---
@@ -341,6 +367,8 @@ ROWS: list[tuple[str, Callable[[Libraries], "str | Noted"]]] = [
     *((f"the library, {name}: the sample", functools.partial(compared, way=way, kind="sample")) for way, name in WAYS.items() if way != WHOLE),
     *((f"the library, {WAYS[way]}: what edits leave", functools.partial(of_edits, way=way)) for way in (WHOLE, "module")),
     *((f"the library, {WAYS[way]}: lists of the gate", functools.partial(compared, way=way, kind="at_gate")) for way in (WHOLE, "arm", "module")),
+    *((f"the library, {WAYS[way]}: what is reached", functools.partial(compared, way=way, kind="of_reach")) for way in (WHOLE, "arm", "module")),
+    *((f"the library, {WAYS[way]}: members of archives", functools.partial(compared, way=way, kind="of_members")) for way in (WHOLE, "arm", "module")),
     *((f"the library, {WAYS[way]}: options of no task", functools.partial(no_tasks, way=way)) for way in (WHOLE, "module")),
     ("the library: random pickles and scripts", fuzzed),
     *((f"the library, {WAYS[way]}: out of memory is an answer", functools.partial(limits, way=way)) for way in ("static", "shared", "musl", "arm")),

@@ -514,8 +514,8 @@ def stands_beside_it(releases: Releases) -> str:
 PAGES = ("share/man/man1/picklestep.1", "share/man/man1/picklestep-scan.1", "share/man/man1/picklestep-view.1")
 BASH = "share/bash-completion/completions/picklestep"
 ZSH = "share/zsh/site-functions/_picklestep"
-PLAIN = ("gate",)  # (a word without options)
-WORDS = ("scan", "view", "list", "objects", "calls", "form", "gate", "debug", "shell", "source", "diff", "mend")
+PLAIN = ("gate", "members")  # (words without options)
+WORDS = ("scan", "view", "list", "objects", "calls", "form", "gate", "reach", "members", "debug", "shell", "source", "diff", "mend")
 PAGES_OF = {"scan": PAGES[1], "view": PAGES[2]}
 PROGRAM = ("picklestep", "TOOLCHAIN", "libpicklestep.so")
 MODULE = ("picklestep.mjs", "picklestep.wasm", "libpicklestep.wasm", "TOOLCHAIN")
@@ -700,8 +700,8 @@ def completions(releases: Releases) -> str:
     (at / "two words").write_text("")
     page = str(releases.clone / BASH)
     for words, wanted in (
-        ([""], ["--help", "--version", "calls", "debug", "diff", "form", "gate", "help", "list", "mend", "objects", "policy", "scan", "shell", "source",
-               "view"]),
+        ([""], ["--help", "--version", "calls", "debug", "diff", "form", "gate", "help", "list", "members", "mend", "objects", "policy", "reach", "scan",
+               "shell", "source", "view"]),
         (["help", "sc"], ["scan"]),
         (["ob"], ["objects"]),
         (["one"], ["one.pickle"]),

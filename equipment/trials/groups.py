@@ -30,7 +30,7 @@ import try_others
 import try_readers
 import wheels
 
-from . import begins, examples, forms, gate, large, listings, memory, options, program, usage
+from . import begins, examples, forms, gate, large, listings, members, memory, options, program, reach, usage
 from .room import Room, Word
 from .trial import Group, Noted, Trial, Verdict
 
@@ -89,6 +89,8 @@ def of_program(room: Room) -> list[AnyGroup]:
         Group("begins", functools.partial(begins.trials, room)),
         Group("forms", functools.partial(forms.trials, room)),
         Group("gate", functools.partial(gate.trials, room)),
+        Group("reach", functools.partial(reach.trials, room)),
+        Group("members", functools.partial(members.trials, room)),
         Group("opcodes", functools.partial(opcodes.trials, room.root, str(room.program), room.folder / "opcodes")),
         Group("surface", functools.partial(surface.trials, room.root)),
         Group("pages", functools.partial(pages.trials, room.root, str(room.program), room.folder / "pages")),

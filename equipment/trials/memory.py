@@ -11,7 +11,7 @@ from collections.abc import Callable
 from dataclasses import dataclass, field
 
 from .room import Room, Run, Word, beginning
-from .samples import HOSTILE_CALLS, NOT_ALLOWED, PAIR_LISTING, PAIR_OBJECTS, TWICE_OBJECTS
+from .samples import HOSTILE_CALLS, MEMBERS, NOT_ALLOWED, PAIR_LISTING, PAIR_OBJECTS, REACHED, TWICE_OBJECTS
 from .trial import Noted, Trial
 
 MOST = 10_000
@@ -52,6 +52,8 @@ COMMANDS = (
     Command("the calls of a pickle", ("calls", "hostile.pickle"), HOSTILE_CALLS, is_part),
     Command("the objects of two pickles", ("objects", "--many", "twice.pickle"), TWICE_OBJECTS, is_nothing),
     Command("what a list does not allow", ("gate", "names.list", "hostile.pickle"), NOT_ALLOWED, is_nothing, status=1),
+    Command("what is reached", ("reach", "hostile.pickle"), REACHED, is_nothing, status=1),
+    Command("the members of an archive", ("members", "two.zip"), MEMBERS, is_nothing),
     Command(
         "saving a pickle from a window",
         ("debug", "doubled.pickle", "--window", "2", "--save", "saved.pickle"),

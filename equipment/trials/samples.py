@@ -2,6 +2,7 @@
 
 from __future__ import annotations
 
+import zipfile
 from pathlib import Path
 
 from devices import BREAKPOINTS
@@ -27,6 +28,9 @@ HOSTILE_CALLS = """\
 """
 # What is said of it by names.list.
 NOT_ALLOWED = "23: not allowed: call 'posix' 'system' ('id') as #3\n"
+REACHED = "reached at 0: GLOBAL 'posix' 'system'\n"
+# Of two.zip. (A header has 30 bytes, and a name here 5.)
+MEMBERS = "35: 2 stored 'a.pkl'\n72: 3 stored 'b.pkl'\n"
 
 # The size from which an edit is too large, and the size from which a file is not opened.
 LARGE = 2**28
@@ -53,6 +57,12 @@ SMALL = {
 }
 
 
+def make_archive(path: Path, members: dict[str, bytes]) -> None:
+    with zipfile.ZipFile(path, "w") as archive:
+        for name, content in members.items():
+            archive.writestr(name, content)
+
+
 def make_holes(path: Path, size: int, before: bytes = b"", behind: bytes = b".") -> None:
     """One BINBYTES of zeros between these bytes, of this size together. Most of the file takes no room on a disk."""
     zeros = size - len(before) - len(behind) - 5
@@ -67,6 +77,7 @@ def make(folder: Path, start: Path) -> None:
     (folder / "another folder").mkdir(parents=True)
     for name, content in SMALL.items():
         (folder / name).write_bytes(content)
+    make_archive(folder / "two.zip", {"a.pkl": b"N.", "b.pkl": b"K\x01."})
     (folder / "unreadable.pickle").chmod(0)
     make_holes(folder / "large.pickle", LARGE)
     make_holes(folder / "larger.pickle", LARGE + 1, behind=b".N")

@@ -12,9 +12,10 @@ from .row import Row, fails, misused, repeated, trials_of, unexpected, valueless
 from .trial import Trial
 
 OF_ONE_FILE = ("list", "objects", "calls", "debug", "form")
-TASKS = (*OF_ONE_FILE, "gate")
+TASKS = (*OF_ONE_FILE, "gate", "reach", "members")
 ANY_TASK = "<COMMAND>"
 GATE = "gate <LIST> <FILE>"
+MEMBERS = "members <FILE>"
 MISSING = "the following required arguments were not provided:"
 FILE_MISSING = f"{MISSING}\n  <FILE>"
 
@@ -39,15 +40,18 @@ NO_TASKS = (
 )
 
 WORDS = (
-    *(misused(f"{task} without a file", task, why=FILE_MISSING, usage=f"{task} <FILE>") for task in OF_ONE_FILE),
+    *(misused(f"{task} without a file", task, why=FILE_MISSING, usage=f"{task} <FILE>") for task in TASKS if task != "gate"),
     *(
         misused(f"{task} with two files", task, "pair.pickle", "none.pickle", why="unexpected argument 'none.pickle' found", usage=f"{task} [OPTIONS] <FILE>")
-        for task in OF_ONE_FILE
+        for task in TASKS
+        if task not in ("gate", "members")
     ),
+    misused("members with two files", "members", "pair.pickle", "none.pickle", why="unexpected argument 'none.pickle' found", usage=MEMBERS),
     misused("a gate without a file", "gate", why=f"{MISSING}\n  <LIST>\n  <FILE>", usage=GATE),
     misused("a gate with a list alone", "gate", "names.list", why=FILE_MISSING, usage=GATE),
     misused("a gate with two pickles", "gate", "names.list", "pair.pickle", "none.pickle", why="unexpected argument 'none.pickle' found", usage=GATE),
     unexpected("several pickles at a gate", "--many", GATE, "gate", "names.list", "pair.pickle", "--many"),
+    unexpected("several pickles for members", "--many", MEMBERS, "members", "pair.pickle", "--many"),
     unexpected("an unknown option of list", "--fast", "list [OPTIONS] <FILE>", "list", "--fast", "pair.pickle"),
     unexpected("an unknown option of list after its file", "--fast", "list <FILE>", "list", "pair.pickle", "--fast"),
     misused(
@@ -60,6 +64,8 @@ WORDS = (
     ),
     unexpected("a window of calls", "--window", "calls <FILE>", "calls", "pair.pickle", "--window", "2"),
     unexpected("bytes of list that are left out", "--skip", "list <FILE>", "list", "pair.pickle", "--skip", "1:1"),
+    unexpected("what several pickles reach", "--many", "reach <FILE>", "reach", "pair.pickle", "--many"),
+    repeated("buffers given twice", "--buffers", "reach", "pair.pickle", "--buffers", "--buffers"),
     unexpected("an unframed form", "--unframed", "form <FILE>", "form", "pair.pickle", "--unframed"),
     repeated("an option given twice", "--many", "list", "pair.pickle", "--many", "--many"),
     fails("a word that is not text", "cannot read", "list", b"\xff"),
@@ -116,11 +122,18 @@ WHAT_EACH_DOES = (
     ("form", "Says whether FILE is a pickle in the form that picklers write, else where it is not and why"),
 )
 GATE_DOES = ("gate", "Says whether all that the pickle in FILE imports and uses is in LIST, else what is not")
+REACH_DOES = ("reach", "Says whether any loader of FILE comes to an import or a call, whatever FILE is")
+MEMBERS_DOES = ("members", "Prints the members of FILE, if it is a zip archive in the form that writers write, else where it is not and why")
 GATE_FILES = (("<LIST>", "the list of names, and of what may be done with each"), ("<FILE>", "the pickle"))
 OPTIONS = {
     "list": (("    --many", MANY_HELP), ("    --unframed", UNFRAMED_HELP)),
     "objects": (("    --many", MANY_HELP), ("    --unframed", UNFRAMED_HELP)),
     "form": (("    --many", "changes nothing: FILE is to be one pickle"),),
+    "reach": (
+        ("    --extensions", "the loader knows extension codes"),
+        ("    --persistent-ids", "the loader has a persistent_load"),
+        ("    --buffers", "the loader was given buffers"),
+    ),
     "calls": (
         ("    --many", "changes nothing: all pickles of FILE are read without it too"),
         ("    --first", "read the first pickle alone, up to its STOP"),
@@ -152,7 +165,7 @@ def help_of(name: str, about: str) -> Row:
 
 PROGRAM_HELP = (
     "Shows what a Python pickle would import, call and build, and runs nothing of it\n\nUsage: picklestep <COMMAND>\n\n"
-    + columns("Commands:\n", (*WHAT_EACH_DOES, GATE_DOES, ("help", "Print this message or the help of the given subcommand(s)")))
+    + columns("Commands:\n", (*WHAT_EACH_DOES, GATE_DOES, REACH_DOES, MEMBERS_DOES, ("help", "Print this message or the help of the given subcommand(s)")))
     + columns("\nOptions:\n", (NO_MORE_HELP,))
 )
 HELPS = (
@@ -160,12 +173,19 @@ HELPS = (
         Row(f"the help of the program, by {word}", (word,), status=2, errors=PROGRAM_HELP, is_bare=True)
         for word in ("--help", "-h", "help")
     ),
-    *(help_of(name, about) for name, about in WHAT_EACH_DOES),
+    *(help_of(name, about) for name, about in (*WHAT_EACH_DOES, REACH_DOES)),
     Row(
         "the help of gate",
         ("gate", "--help"),
         status=2,
         errors=f"{GATE_DOES[1]}\n\nUsage: picklestep {GATE}\n\n" + columns("Arguments:\n", GATE_FILES) + columns("\nOptions:\n", (NO_MORE_HELP,)),
+        is_bare=True,
+    ),
+    Row(
+        "the help of members",
+        ("members", "--help"),
+        status=2,
+        errors=f"{MEMBERS_DOES[1]}\n\nUsage: picklestep {MEMBERS}\n\n{FILE_HELP}" + columns("\nOptions:\n", (NO_MORE_HELP,)),
         is_bare=True,
     ),
 )

@@ -13,9 +13,9 @@ __version__ = '1.0.0'
 
 __all__ = ['Answer', 'Argument', 'Brief', 'Briefs', 'Call', 'Calls', 'Change', 'Difference', 'End', 'Extension', 'GateAnswer', 'Global', 'Heap', 'Item',
            'Items', 'Listing', 'Mark', 'Member', 'Members', 'Name', 'NoResult', 'NotAllowed', 'NotOpened', 'Object', 'Objects', 'Opcode', 'OtherForm',
-           'OutOfMemory', 'Part', 'PicklestepError', 'PlainValue', 'ProgramError', 'PythonSource', 'Ran', 'Reach', 'Reached', 'Ref', 'Refused',
-           'Session', 'Shown', 'ShownObjects', 'TimedOut', 'TooLarge', 'Value', 'Where', 'calls', 'check', 'compare', 'form', 'gate', 'listing', 'members',
-           'objects', 'source', 'tree']
+           'OutOfMemory', 'Part', 'PicklestepError', 'PlainValue', 'ProgramError', 'PythonSource', 'Ran', 'Reach', 'ReachAnswer', 'Reached', 'Ref',
+           'Refused', 'Session', 'Shown', 'ShownObjects', 'TimedOut', 'TooLarge', 'Value', 'Where', 'calls', 'check', 'compare', 'form', 'gate',
+           'listing', 'members', 'objects', 'reach', 'source', 'tree']
 
 TYPE_CHECKING = False  # (`typing` would be an import)
 if TYPE_CHECKING:
@@ -25,11 +25,11 @@ if TYPE_CHECKING:
     from .errors import NoResult, NotAllowed, NotOpened, OutOfMemory, PicklestepError, ProgramError, Refused, TimedOut, TooLarge
     from .python_source import PythonSource, source
     from .records import (Argument, Brief, Briefs, Change, End, Extension, GateAnswer, Global, Item, Mark, Name, Object, Opcode, OtherForm, Ran,
-                          Reach, Ref, Shown, Value, Where)
+                          Reach, ReachAnswer, Ref, Shown, Value, Where)
     from .scan.checking import check
     from .scan.gating import gate
     from .session import Session
-    from .tasks import calls, form, listing, objects
+    from .tasks import calls, form, listing, objects, reach
     from .trees import Call, tree
     from .values import PlainValue
 

@@ -16,16 +16,14 @@ from dataclasses import dataclass
 from typing import Iterator, List, Optional, Tuple
 
 from .errors import PicklestepError, reason
-from .hints import OLD_TORCH, WRAPPER, Watch
-from .opens import has_zip_behind, is_taken_apart
+from .hints import Watch
+from .opens import has_zip_behind, is_taken_apart, may_have_arrays
 from .place import NOT_FOR_NODE, find_program, program_words
 from .wording import shown
 
 __all__ = ['main']
 
 _BLOCK = 1 << 16
-_BLOCK_OF_FILE, _MOST_SEARCHED = 1 << 18, 64 << 20
-_BEGIN_OF_TORCH = 32
 # Options of the program whose value is a word of its own.
 _WITH_VALUES = ('--memo', '--save', '--skip', '--window')
 _SIGNALS = ('SIGINT', 'SIGTERM', 'SIGHUP')  # (Windows has not all of them)
@@ -95,7 +93,7 @@ class _Given:
 def _given(words: List[str], held: contextlib.ExitStack) -> _Given:
     """What the program is given: the file, or the bytes that are opened in it, for as long as they are held. Raises NotOpened."""
     at = _place_of_file(words)
-    if at is None:
+    if at is None or words[0] == 'members':  # (this looks at a container itself)
         return _Given(words)
     if is_taken_apart(words[at]):
         given = _opened(words, at, held)
@@ -129,7 +127,7 @@ def _beside(words: List[str], path: str, held: contextlib.ExitStack) -> _Given:
     """What `calls` is given of a file that is a pickle itself. Arrays in it are left out."""
     given = _Given(words)
     try:
-        has_arrays, has_zip = not _value_of(words, '--skip') and _may_have_arrays(path), has_zip_behind(path)
+        has_arrays, has_zip = not _value_of(words, '--skip') and may_have_arrays(path), has_zip_behind(path)
         if not has_arrays and not has_zip:
             return given
         from . import addresses
@@ -139,24 +137,6 @@ def _beside(words: List[str], path: str, held: contextlib.ExitStack) -> _Given:
     except OSError:
         return given  # (the program says so)
     return given.without(skip, held, said) if skip else given
-
-
-def _may_have_arrays(path: str) -> bool:
-    """Whether a file has the name of joblib's arrays near its beginning, or begins as torch wrote before 1.6. (Behind the first array that comes
-    later a hint leads to `scan`.)"""
-    if path.startswith(('/dev/', '/proc/')) or not os.path.isfile(path):
-        return False
-    room, kept, left = bytearray(_BLOCK_OF_FILE), 0, _MOST_SEARCHED
-    view = memoryview(room)
-    with open(path, 'rb', buffering=0) as file:
-        while left > 0 and (count := file.readinto(view[kept:])):
-            end = kept + count
-            if room.find(WRAPPER, 0, end) >= 0 or left == _MOST_SEARCHED and room.find(OLD_TORCH, 0, _BEGIN_OF_TORCH) >= 0:
-                return True
-            kept = min(len(WRAPPER) - 1, end)
-            room[:kept] = room[end - kept:end]
-            left -= count
-    return False
 
 
 # --- The program ---
@@ -241,9 +221,9 @@ def _is_file(word: str, before: str, is_option_over: bool) -> bool:
 
 
 def _place_of_file(words: List[str]) -> Optional[int]:
-    """Where among the words of the program its file is, if there is one."""
+    """Where among the words of the program its file is, if there is one. (`gate` has a list before it.)"""
     found = [at for at, each in enumerate(_with_options(words)) if at and _is_file(*each)]
-    return found[0] if len(found) == 1 else None
+    return found[-1] if len(found) == (2 if words[0] == 'gate' else 1) else None
 
 
 def _value_of(words: List[str], option: str) -> str:

@@ -27,7 +27,7 @@ def main(words: 'list[str]') -> int:
     if sys.version_info < (3, 9):
         if words and _is_of_program(words[0]):
             return _hand_over(words)
-        return _complain('python3 is older than 3.9: only list, objects, calls, form, gate and debug work with it')
+        return _complain('python3 is older than 3.9: only list, objects, calls, form, gate, reach, members and debug work with it')
     if not words or words[0] in _ASKS_HELP:
         return _print_page('picklestep', to_output=bool(words))
     first, rest = words[0], words[1:]

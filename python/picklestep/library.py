@@ -14,14 +14,16 @@ from . import place
 from .errors import ProgramError
 from .in_node import InNode
 from .place import find_library, find_program, is_module
-from .question import Question, question, question_of_edits, question_of_gate
+from .question import Question, question, question_of_edits, question_of_gate, question_of_reach
 
-__all__ = ['MOST_BYTES', 'answer', 'edited', 'gate']
+__all__ = ['MOST_BYTES', 'answer', 'edited', 'gate', 'reach']
 
 # Inputs up to this size are asked about here. For a larger one the start of the program is a small part of its time.
 MOST_BYTES = 1 << 16
 # A list may be larger than what it is about: that of a set has tens of thousands of bytes.
 _MOST_OF_LIST = 1 << 20
+# Whether something is reached is asked in a time that grows as the input does.
+_MOST_OF_REACH = 1 << 20
 # So much memory an answer may take here.
 _MOST_MEMORY = 16 << 20
 # So much of a limit of memory the program needs for itself.
@@ -86,6 +88,16 @@ def gate(entries: bytes, content: bytes, memory: Optional[int] = None) -> Option
     True
     """
     return _ask(question_of_gate(entries, content), memory, MOST_BYTES - len(content), _MOST_OF_LIST - len(entries))
+
+
+def reach(content: bytes, granted: int = 0, memory: Optional[int] = None) -> Optional[bytes]:
+    """What the program says of whether a loader of these bytes reaches something. `granted` is the sum of what it was given besides: 1 extension
+    codes, 2 a persistent_load, 4 buffers. None where the program has to be asked.
+
+    >>> reach(b'N' * 10_000_000) is None
+    True
+    """
+    return _ask(question_of_reach(content, granted), memory, _MOST_OF_REACH - len(content))
 
 
 def _ask(asked: Optional[Question], memory: Optional[int], *room: int) -> Optional[bytes]:

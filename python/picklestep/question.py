@@ -7,17 +7,21 @@ import struct
 from functools import lru_cache
 from typing import List, NamedTuple, Optional, Sequence, Tuple
 
-__all__ = ['FUNCTIONS', 'Question', 'question', 'question_of_edits', 'question_of_gate']
+__all__ = ['FUNCTIONS', 'Question', 'granted', 'question', 'question_of_edits', 'question_of_gate', 'question_of_reach']
 
 _TASKS = ('list', 'objects', 'calls')
 # How many options and inputs come before the room for the text. (Holes are an input of `calls`.)
 FUNCTIONS = {
     'picklestep_form': (0, 1),
     'picklestep_gate': (0, 2),
+    'picklestep_reach': (1, 1),
+    'picklestep_members': (0, 1),
     **{f'picklestep_{task}_with': (1, 2 if task == 'calls' else 1) for task in _TASKS},
     **{f'picklestep_edited_{task}_with': (1, 2) for task in _TASKS},
 }
 _MANY, _UNFRAMED = 1, 2
+# What a loader was given besides the bytes, for `reach`.
+_GRANTED = {'--extensions': 1, '--persistent-ids': 2, '--buffers': 4}
 _OPTIONS = {'--many': _MANY, '--unframed': _UNFRAMED, '--first': 4, '--memo': 8, '--full': 16}
 _HOLE = re.compile(r'(\d+):(\d+)', re.ASCII)
 _BYTE, _SIZE_OF_HOLE = 1, 16
@@ -47,8 +51,10 @@ def question(words: Sequence[str], content: bytes) -> Optional[Question]:
 def _asked_by(words: Tuple[str, ...]) -> Optional[Question]:
     """What words ask, before it is known of what."""
     task, *rest = words
-    if task == 'form' and not rest:
-        return Question('picklestep_form', (), ())
+    if task in ('form', 'members') and not rest:
+        return Question(f'picklestep_{task}', (), ())
+    if task == 'reach' and len({*rest}) == len(rest) and {*rest} <= {*_GRANTED}:
+        return Question('picklestep_reach', (granted(rest),), ())
     options = _options(rest)
     if task not in _TASKS or options is None or (options.holes and task != 'calls'):
         return None
@@ -70,6 +76,20 @@ def question_of_edits(words: Sequence[str], many: bool, unframed: bool, content:
 def question_of_gate(entries: bytes, content: bytes) -> Question:
     """Whether a list, as the program reads it, allows all that a pickle has."""
     return Question('picklestep_gate', (), ((entries, _BYTE), (content, _BYTE)))
+
+
+def granted(words: Sequence[str]) -> int:
+    """What a loader was given besides the bytes, as the library takes it.
+
+    >>> granted([]), granted(['--persistent-ids', '--buffers'])
+    (0, 6)
+    """
+    return sum(_GRANTED[word] for word in words)
+
+
+def question_of_reach(content: bytes, granted: int) -> Question:
+    """Whether a loader of these bytes reaches something, that was given this besides."""
+    return Question('picklestep_reach', (granted,), ((content, _BYTE),))
 
 
 class _Options(NamedTuple):

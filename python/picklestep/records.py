@@ -9,7 +9,7 @@ from typing import Any, Dict, Optional, Tuple, Union
 from .values import PLAIN_KINDS, Argument, PlainValue, argument_value, kind_value
 
 __all__ = ['Argument', 'Brief', 'Briefs', 'Change', 'End', 'Extension', 'GateAnswer', 'Global', 'Item', 'Mark', 'Name', 'Object', 'Opcode',
-           'OtherForm', 'Ran', 'Reach', 'Ref', 'Shown', 'Value', 'Where']
+           'OtherForm', 'Ran', 'Reach', 'ReachAnswer', 'Ref', 'Shown', 'Value', 'Where']
 
 _SLOTS: Dict[str, Any] = {'slots': True} if sys.version_info >= (3, 10) else {}
 
@@ -67,9 +67,8 @@ class OtherForm:
 class GateAnswer:
     """What `gate` says of a pickle. It is true where the pickle passes.
 
-    `line` is the program's line. `kind` is 'passes', 'not allowed' (no list allows something that it does), 'arguments' (no list has the
-    arguments of a call, or the state of what a call made: this alone is not proved), 'other form' (no pickler writes it so) or 'ended'
-    (it does not come to its STOP). `reason` says what that is, and `offset` where.
+    `line` is the program's line. `kind` is 'passes', 'not allowed' (no list allows something that it does, or what it gives to a
+    call), 'other form' (no pickler writes it so) or 'ended' (it does not come to its STOP). `reason` says what that is, and `offset` where.
 
     >>> import picklestep
     >>> bool(picklestep.gate(b'N.')), picklestep.gate(b'J\\x01\\0\\0\\0.').kind
@@ -84,6 +83,29 @@ class GateAnswer:
 
     def __bool__(self) -> bool:
         return self.passes
+
+
+@dataclass(frozen=True, **_SLOTS)
+class ReachAnswer:
+    """What `reach` says of bytes. It is true where a loader reaches something, or may do so.
+
+    `text` is the program's line. Where something is reached, `offset` is where the opcode begins by which it is, and `line` has this opcode
+    and its argument. Where nothing is, each loader ends at `offset` or before it; `whatever_follows` says that nothing is reached either where
+    other bytes follow these. Where there are too many ways to read the bytes, something counts as reached, and `offset` is None.
+
+    >>> import picklestep
+    >>> picklestep.reach(b'K\\x01cos\\nsystem\\n.').line
+    "GLOBAL 'os' 'system'"
+    """
+
+    reached: bool
+    text: str
+    offset: Optional[int] = None
+    line: str = ''
+    whatever_follows: bool = False
+
+    def __bool__(self) -> bool:
+        return self.reached
 
 
 @dataclass(frozen=True, **_SLOTS)

@@ -1,15 +1,15 @@
-"""The program's short answers, read: those to lines of `debug`, that of `form`, and what it complains of."""
+"""The program's short answers, read: those to lines of `debug`, those of `form`, `gate` and `reach`, and what it complains of."""
 
 from __future__ import annotations
 
 import re
 from typing import Dict, List, Optional, Tuple, Union
 
-from .records import GateAnswer, Mark, OtherForm, Ran, Ref, Where
+from .records import GateAnswer, Mark, OtherForm, Ran, ReachAnswer, Ref, Where
 from .texts import LinesError, end_of
 
 __all__ = ['IN_FORM', 'WHERE_BEGINS', 'complaint_of', 'edit_in', 'entry_of', 'gate_answer', 'is_mark', 'last_words', 'memo_of', 'number_in_word',
-           'opcode_refused_in', 'other_form', 'place_in', 'ran_of', 'refused_in', 'stack_of', 'stored_under', 'where_of', 'words_of']
+           'opcode_refused_in', 'other_form', 'place_in', 'ran_of', 'reach_answer', 'refused_in', 'stack_of', 'stored_under', 'where_of', 'words_of']
 
 _REFUSED = 'refused: '
 _EDITED = re.compile(r'(edited|undone|redone) ([0-9]+)')
@@ -26,6 +26,10 @@ IN_FORM = b'in form\n'
 _PASSES = 'passes'
 _NOT_ALLOWED = re.compile(r'([0-9]+): not allowed: (.*)')
 _ENDED = re.compile(r'(?:refused|fault|unsure|kept): (.*?(?: at ([0-9]+))?)')
+# What `reach` answers where something is reached, and where nothing is; and where there are more ways than it goes.
+_REACHED = re.compile(r'reached at ([0-9]+): (.*)\n')
+_NOT_REACHED = re.compile(r'nothing reached: every loader ends by ([0-9]+)(, whatever follows)?\n')
+_TOO_MANY_WAYS = 'too many ways to read the bytes\n'
 _COMPLAINT = 'picklestep: '
 
 
@@ -202,6 +206,25 @@ def gate_answer(text: str) -> GateAnswer:
     if match is None:
         raise LinesError('no answer of gate')
     return GateAnswer(False, line, 'ended', match[1], None if match[2] is None else int(match[2]))
+
+
+def reach_answer(text: str) -> ReachAnswer:
+    """What the answer of `reach` says.
+
+    >>> reach_answer("reached at 2: GLOBAL 'os' 'system'\\n").line
+    "GLOBAL 'os' 'system'"
+    >>> reach_answer('nothing reached: every loader ends by 1\\n').offset
+    1
+    """
+    match = _NOT_REACHED.fullmatch(text)
+    if match is not None:
+        return ReachAnswer(False, text[:-1], int(match[1]), whatever_follows=match[2] is not None)
+    match = _REACHED.fullmatch(text)
+    if match is not None:
+        return ReachAnswer(True, text[:-1], int(match[1]), match[2])
+    if text != _TOO_MANY_WAYS:
+        raise LinesError('no answer of reach')
+    return ReachAnswer(True, text[:-1])
 
 
 def complaint_of(errors: str) -> str:

@@ -10,17 +10,17 @@ from contextlib import contextmanager
 from typing import Callable, Iterable, Iterator, List, Optional, Tuple, Type, TypeVar
 
 from . import library
-from .addresses import at_address
+from .addresses import holes_of, opened_in
 from .answers import Calls, Listing, Objects
 from .errors import ProgramError
 from .listed import TooDeep, bounded
 from .program import Process, check_timeout, run_program
-from .records import OtherForm
-from .replies import other_form, where_of
+from .records import OtherForm, ReachAnswer
+from .replies import other_form, reach_answer, where_of
 from .sources import Input, Source, is_read_once, small_content
 from .texts import MOST_OFFSET, OFFSET_IN_BYTES, frames_in
 
-__all__ = ['AskedOfEdits', 'calls', 'calls_of', 'form', 'frames', 'frames_of', 'left_out', 'listing', 'listing_of', 'modes', 'objects']
+__all__ = ['AskedOfEdits', 'calls', 'calls_of', 'form', 'frames', 'frames_of', 'left_out', 'listing', 'listing_of', 'modes', 'objects', 'reach']
 
 _Report = TypeVar('_Report', Objects, Calls)
 
@@ -61,14 +61,15 @@ def objects(source: Source, *, many: bool = False, unframed: bool = False, timeo
 
 
 def calls(source: Source, *, first: bool = False, memo_kept: bool = False, full: bool = False, many: bool = True,
-          skip: Iterable[Tuple[int, int]] = (), timeout: Optional[float] = None, memory: Optional[int] = None) -> Calls:
+          skip: Optional[Iterable[Tuple[int, int]]] = None, timeout: Optional[float] = None, memory: Optional[int] = None) -> Calls:
     """What pickles that follow one another import and call. Up to where the lines end, an accepted opcode without a line makes no object from
     elsewhere or from a call, and changes none.
 
     With `first` only the first pickle is read. With `memo_kept` they are read as by one unpickler that loads again and again, and keeps
     its memo. With `full` arguments are whole: texts of more than 64 characters, tuples of more than 16 parts. `many` changes nothing.
-    `skip` has the offset and the length of bytes that are left out, in order: what is left is read, with the offsets of the source. At an address
-    (`model.joblib.gz > (gzip)`) the numbers of joblib's arrays are left out without that.
+    `skip` has the offset and the length of bytes that are left out, in order: what is left is read, with the offsets of the source. Without it the
+    numbers of arrays are left out of the file or the address of a path, where joblib wrote it, or torch before 1.6; `skipped` of the answer says
+    which bytes these are.
 
     >>> for reach in calls(b'cposix\\nsystem\\n(X\\x02\\x00\\x00\\x00idtR.'):
     ...     print(reach.offset, reach.text)
@@ -78,7 +79,7 @@ def calls(source: Source, *, first: bool = False, memo_kept: bool = False, full:
     [0, 27]
     """
     with _Asked(source, timeout, memory) as asked:
-        return calls_of(asked, first, memo_kept, full, skip or asked.skip)
+        return calls_of(asked, first, memo_kept, full, asked.holes() if skip is None else skip)
 
 
 def form(source: Source, *, timeout: Optional[float] = None, memory: Optional[int] = None) -> Optional[OtherForm]:
@@ -91,6 +92,24 @@ def form(source: Source, *, timeout: Optional[float] = None, memory: Optional[in
     """
     with _Asked(source, timeout, memory) as asked:
         return other_form(asked.answer(['form']))
+
+
+def reach(source: Source, *, extensions: bool = False, persistent_ids: bool = False, buffers: bool = False, timeout: Optional[float] = None,
+          memory: Optional[int] = None) -> ReachAnswer:
+    r"""Whether any loader that begins at the first byte of a source comes to an import, a call, an extension code, a persistent id, a buffer, or
+    to something from elsewhere that it fills or gives a state, whatever it does with frames. The answer is true where one may.
+
+    The options say what the loader was given besides the bytes: extension codes, a `persistent_load`, buffers. Without them it was given what
+    `pickle.load` has: nothing but the file.
+
+    >>> bool(reach(b'\x93NUMPY\x01\x00')), reach(b'K\x01cos\nsystem\n.').offset
+    (False, 2)
+    >>> [bool(reach(b'P1\n.', persistent_ids=given)) for given in (False, True)]
+    [False, True]
+    """
+    words = [word for word, given in (('--extensions', extensions), ('--persistent-ids', persistent_ids), ('--buffers', buffers)) if given]
+    with _Asked(source, timeout, memory) as asked:
+        return reach_answer(asked.answer(['reach', *words]))
 
 
 def frames(source: Source, many: bool = False) -> List[Tuple[int, int]]:
@@ -120,9 +139,12 @@ def calls_of(asked: _Asked, first: bool, memo_kept: bool, full: bool, skip: Iter
         raise ValueError('first and memo_kept are two readings')
     options = ['--first'] if first else ['--memo', 'kept'] if memo_kept else []
     options += ['--full'] if full else []
+    skipped = tuple((offset, size) for offset, size in skip)
     # (A listing does not read on as one unpickler does, and leaves nothing out: where that was refused only the place is known.)
-    with left_out(skip) as words:
-        return _report(Calls, ['calls', *options, *words], asked, None if memo_kept or words else modes(not first))
+    with left_out(skipped) as words:
+        answer = _report(Calls, ['calls', *options, *words], asked, None if memo_kept or words else modes(not first))
+    answer.skipped = skipped
+    return answer
 
 
 @contextmanager
@@ -160,16 +182,21 @@ class _Asked:
 
     def __init__(self, source: Source, timeout: Optional[float], memory: Optional[int]) -> None:
         check_timeout(timeout)
-        opened = at_address(source)
-        # The bytes of it that are no opcodes, as far as that is known.
-        self.skip = () if opened is None else opened.skip
-        source = source if opened is None else opened.content
+        self._opened = opened_in(source)
+        self._file = os.fsdecode(source) if self._opened is None and isinstance(source, (str, os.PathLike)) else ''
+        source = source if self._opened is None else self._opened.content
         self._memory = memory
         self._timeout = timeout
         self._begun = 0.0
         self._content = small_content(source, library.MOST_BYTES) if timeout is None else None
         self._source = source if self._content is None else self._content
         self._input: Optional[Input] = None
+
+    def holes(self) -> Tuple[Tuple[int, int], ...]:
+        """The bytes of a path that are no opcodes: the numbers of arrays. Raises OSError."""
+        if self._opened is not None:
+            return self._opened.skip
+        return holes_of(self._file) if self._file else ()
 
     def answer(self, words: List[str]) -> str:
         """What the program writes about it with these words."""
@@ -210,10 +237,10 @@ class _Asked:
 
     def _given(self) -> Input:
         if self._input is None:
-            self._input = self._opened()
+            self._input = self._made_input()
         return self._input
 
-    def _opened(self) -> Input:
+    def _made_input(self) -> Input:
         # (A FIFO is read once, and a second question would wait for ever. With a timeout it is the program that waits for its writer.)
         return Input(self._source, own=self._timeout is None and is_read_once(self._source))
 
@@ -241,7 +268,7 @@ class AskedOfEdits(_Asked):
             return None
         return library.edited(words, self._many, self._unframed, self._content, self._edits, self._memory)
 
-    def _opened(self) -> Input:
+    def _made_input(self) -> Input:
         return Input(self._saved())
 
 

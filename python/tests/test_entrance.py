@@ -18,7 +18,7 @@ from pickles import ROOT, chosen
 from scan_support import HARMLESS, HOSTILE, PYTHON, ScanCase, environment
 
 PACKAGE = Path(picklestep.__file__).resolve().parent
-WORDS = ('list', 'objects', 'calls', 'form', 'gate', 'debug', 'scan', 'view', 'shell', 'source', 'diff', 'mend')
+WORDS = ('list', 'objects', 'calls', 'form', 'gate', 'reach', 'members', 'debug', 'scan', 'view', 'shell', 'source', 'diff', 'mend')
 # A file for each module of the standard library says in this file that it was imported.
 MARK = "open(__file__.rpartition('/')[0] + '/imported', 'a').write(__name__ + '\\n')\nraise ImportError('this folder is not searched')\n"
 

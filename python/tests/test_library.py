@@ -31,7 +31,7 @@ MODES: List[List[str]] = [[], ['--many'], ['--unframed'], ['--many', '--unframed
 READINGS = [['calls'], ['calls', '--first'], ['calls', '--memo', 'kept'], ['calls', '--full'], ['calls', '--first', '--full'],
             ['calls', '--memo', 'kept', '--full']]
 WORDS = [*([task, *modes] for task in ('list', 'objects') for modes in MODES), *READINGS, ['calls', '--many'],
-         ['calls', '--skip', '3:2', '--skip', '9:40'], ['calls', '--full', '--skip', '0:1'], ['form']]
+         ['calls', '--skip', '3:2', '--skip', '9:40'], ['calls', '--full', '--skip', '0:1'], ['form'], ['reach'], ['reach', '--buffers', '--extensions']]
 
 
 def has_library() -> bool:

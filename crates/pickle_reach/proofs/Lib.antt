@@ -1,2 +1,4 @@
 -- Lemmas.
-mod Walks
+pub mod Steps
+pub mod Alike
+pub mod Walks

@@ -6,11 +6,11 @@ ghost use Rattle.pickle_reach.specs.Item.{reaches, ends, names, is_unread};
 use crate::granted::Granted;
 use crate::name::{line_names, text_names};
 use crate::number::{begins_float, begins_integer};
-use pickle_ops::{Op, Opcode};
+use pickle_ops::{OpRef, Opcode};
 
 /// Whether something is reached, by a loader that holds a text which may name a module, or that does not.
 #[tactic(auto, unfolding(crate::specs::Item::reaches))]
-pub(crate) fn reaches(granted: Granted, named: bool, op: &Op) -> bool
+pub(crate) fn reaches(granted: Granted, named: bool, op: &OpRef<'_>) -> bool
     ensures { result ≡ reaches granted named op.now }
 {
     match op.opcode() {
@@ -28,7 +28,7 @@ pub(crate) fn reaches(granted: Granted, named: bool, op: &Op) -> bool
 }
 
 /// Whether no number is in its line.
-fn is_unread(op: &Op) -> bool
+fn is_unread(op: &OpRef<'_>) -> bool
     ensures { result ≡ is_unread op.now.opcode op.now.arg }
 {
     match op.opcode() {
@@ -41,7 +41,7 @@ fn is_unread(op: &Op) -> bool
 
 /// Whether each loader ends there, if nothing is reached.
 #[tactic(auto, unfolding(crate::specs::Item::ends))]
-pub(crate) fn ends(op: &Op) -> bool
+pub(crate) fn ends(op: &OpRef<'_>) -> bool
     ensures { result ≡ ends op.now }
 {
     match op.opcode() {
@@ -64,7 +64,7 @@ pub(crate) fn ends(op: &Op) -> bool
 
 /// Whether a text is made that may name a module.
 #[tactic(auto, unfolding(crate::specs::Item::names))]
-pub(crate) fn names(op: &Op) -> bool
+pub(crate) fn names(op: &OpRef<'_>) -> bool
     ensures { result ≡ names op.now }
 {
     match op.opcode() {

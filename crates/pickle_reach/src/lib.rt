@@ -10,11 +10,16 @@ mod granted;
 mod item;
 mod name;
 mod number;
+mod opcode;
+mod plain;
 mod spot;
+mod step;
 mod visit;
+mod waiting;
 mod walk;
 
 pub use answer::Reach;
 pub use granted::Granted;
+pub use opcode::op_reached;
 pub use spot::Spot;
 pub use walk::first_reach;

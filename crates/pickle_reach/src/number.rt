@@ -7,14 +7,14 @@ ghost use Rattle.pickle_reach.specs.Numbers.{is_before, is_digit_like, is_float_
 fn is_before(byte: u8) -> bool
     ensures { result ≡ is_before byte }
 {
-    byte <= 32 || (byte == 43 || byte == 45)
+    (1 <= byte && byte <= 32) || (byte == 43 || byte == 45)
 }
 
-/// Whether an integer may begin with it.
+/// Whether an integer may begin with it, or end before it.
 fn is_digit_like(byte: u8) -> bool
     ensures { result ≡ is_digit_like byte }
 {
-    (48 <= byte && byte <= 57) || 128 <= byte
+    byte == 0 || ((48 <= byte && byte <= 57) || 128 <= byte)
 }
 
 /// Whether a float may begin with it.

@@ -1,6 +1,8 @@
 //! Where a loader stands.
 
-ghost use Rattle.std.specs.Prelude.{◌≡◌, true};
+ghost use Rattle.std.specs.Prelude.{◌≡◌, ◌≢◌, true, false};
+
+use pickle_lenient::Frames;
 
 /// Where a loader stands that has reached nothing.
 #[derive(Clone, Copy, Debug)]
@@ -24,9 +26,19 @@ pub enum Step {
     Goes(Spot),
 }
 
+/// What looking at a spot came to.
+#[derive(Clone, Copy, Debug)]
+pub struct Visit {
+    /// What a loader does with frames that reaches something there.
+    pub reached: Option<Frames>,
+    /// Whether this does not hang on what follows the bytes.
+    pub settled: bool,
+}
+
 /// Whether two spots are one.
 pub(crate) fn is_same(one: Spot, other: Spot) -> bool
-    ensures { result ≡ true → one ≡ other }
+    ensures yes { result ≡ true → one ≡ other }
+    ensures no { result ≡ false → one ≢ other }
 {
     one.offset == other.offset && (one.left == other.left && one.named == other.named)
 }

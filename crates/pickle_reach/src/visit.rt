@@ -1,93 +1,37 @@
-//! What the item at a spot comes to, and the spots that wait.
+//! Looking at a spot.
 
-ghost use Rattle.std.specs.Prelude.{◌≡◌, ◌+◌, ◌<◌, ◌^◌, true, length, IfOk, OnOk};
-ghost use Rattle.pickle_reach.specs.Reach.{behind, step_taken, step_at, as_shown};
-ghost use Rattle.pickle_reach.specs.Inside.{Added, AddedBoth, IsWithin, GoesWithin, VisitedBy, IsVisited};
+ghost use Rattle.std.specs.Prelude.{◌≡◌, ◌+◌, ◌-◌, ◌<◌, ◌≤◌, ◌^◌, true, false, length, drop, IfOk};
+ghost use Rattle.pickle_ops.specs.Spelling.{size_of, Reads};
+ghost use Rattle.pickle_reach.specs.Reach.{step_of, step_at};
+ghost use Rattle.pickle_reach.specs.Inside.{IsWithin, GoesOn, VisitedBy, is_plain, is_unknown, IsVisited};
 
 use crate::granted::Granted;
-use crate::item::{ends, names, reaches};
-use crate::spot::{Spot, Step, is_same};
-use pickle_lenient::{Frames, NotTaken, Taken, take_op};
+use crate::plain::{is_plain, is_unknown};
+use crate::spot::{Spot, Visit};
+use crate::step::{step_at, step_of};
+use crate::waiting::follow;
+use pickle_lenient::Frames;
+use pickle_ops::{OpRef, peek_op};
 use std::alloc::{AllocError, Global};
 
-/// The spot behind an item.
-fn behind(spot: Spot, taken: &Taken) -> Spot
-    requires { spot.offset + taken.now.size < 2 ^ 63 }
-    ensures { result ≡ behind spot taken.now }
+/// What hangs on what follows, or may.
+fn unsettled(reached: Option<Frames>) -> Visit
+    ensures { result ≡ record { reached = reached; settled = false } }
 {
-    let text = names(&taken.op);
-    Spot {
-        offset: spot.offset + taken.size,
-        left: taken.left,
-        named: spot.named || text,
+    Visit {
+        reached,
+        settled: false,
     }
 }
 
-/// What an item comes to.
-fn step_taken(granted: Granted, spot: Spot, taken: &Taken) -> Step
-    requires { spot.offset + taken.now.size < 2 ^ 63 }
-    ensures { result ≡ step_taken granted spot taken.now }
+/// What does not.
+fn settled(reached: Option<Frames>) -> Visit
+    ensures { result ≡ record { reached = reached; settled = true } }
 {
-    if reaches(granted, spot.named, &taken.op) {
-        return Step::Reaches;
+    Visit {
+        reached,
+        settled: true,
     }
-    if ends(&taken.op) {
-        return Step::Ends;
-    }
-    Step::Goes(behind(spot, taken))
-}
-
-/// What the item at a spot comes to, by what a loader does with frames.
-#[tactic(auto, unfolding(crate::specs::Reach::step_at))]
-fn step_at(
-    alloc: Global,
-    granted: Granted,
-    bytes: &[u8],
-    frames: Frames,
-    spot: Spot,
-) -> Result<Step, AllocError>
-    requires small { length bytes.now < 2 ^ 62 }
-    requires within { IsWithin bytes.now spot }
-    ensures is { IfOk result (λ x. x ≡ step_at granted bytes.now frames spot) }
-    ensures within { IfOk result (GoesWithin bytes.now) }
-{
-    match take_op(alloc, frames, spot.left, &bytes[spot.offset..]) {
-        Ok(taken) => Ok(step_taken(granted, spot, &taken)),
-        Err(NotTaken::Fault(_)) => Ok(Step::Ends),
-        Err(NotTaken::Memory) => Err(AllocError),
-    }
-}
-
-/// Lets a spot wait, if it does not yet.
-fn add(waiting: &mut Vec<Spot>, spot: Spot) -> Result<(), AllocError>
-    ensures { OnOk result (Added waiting.old.items spot waiting.new.items) }
-{
-    for other in waiting.as_slice() {
-        if is_same(*other, spot) {
-            return Ok(());
-        }
-    }
-    waiting.push(spot)?;
-    Ok(())
-}
-
-/// The same spot, with what is in the buffer only shown.
-fn as_shown(spot: Spot) -> Spot
-    ensures { result ≡ as_shown true spot }
-{
-    Spot {
-        offset: spot.offset,
-        left: 0,
-        named: spot.named,
-    }
-}
-
-/// Lets a spot wait, and the same with what is in the buffer only shown.
-fn add_both(waiting: &mut Vec<Spot>, spot: Spot) -> Result<(), AllocError>
-    ensures { OnOk result (AddedBoth waiting.old.items spot waiting.new.items) }
-{
-    add(waiting, spot)?;
-    add(waiting, as_shown(spot))
 }
 
 /// Looks at a spot, where this is done with frames: whether something is reached there. The spot behind its item waits.
@@ -102,35 +46,115 @@ fn visit_by(
     requires small { length bytes.now < 2 ^ 62 }
     requires within { IsWithin bytes.now spot }
     ensures ok { IfOk result (VisitedBy (step_at granted bytes.now frames spot) waiting.old.items waiting.new.items) }
-    ensures within { IfOk result (λ _. GoesWithin bytes.now (step_at granted bytes.now frames spot)) }
+    ensures on { IfOk result (λ _. GoesOn bytes.now spot (step_at granted bytes.now frames spot)) }
 {
-    match step_at(alloc, granted, bytes, frames, spot)? {
-        Step::Reaches => Ok(true),
-        Step::Ends => Ok(false),
-        Step::Goes(next) => {
-            add_both(waiting, next)?;
-            Ok(false)
-        }
+    let step = step_at(alloc, granted, bytes, frames, spot)?;
+    follow(step, waiting)
+}
+
+/// Looks at a spot, whatever is done with frames there: by what is done with them something is reached, if anything is.
+fn visit_each(
+    alloc: Global,
+    granted: Granted,
+    bytes: &[u8],
+    spot: Spot,
+    waiting: &mut Vec<Spot>,
+) -> Result<Visit, AllocError>
+    requires small { length bytes.now < 2 ^ 62 }
+    requires within { IsWithin bytes.now spot }
+    ensures { IfOk result (IsVisited granted bytes.now spot waiting.old.items waiting.new.items) }
+{
+    if visit_by(alloc, granted, bytes, Frames::Held, spot, waiting)? {
+        return Ok(unsettled(Some(Frames::Held)));
+    }
+    if visit_by(alloc, granted, bytes, Frames::Buffered, spot, waiting)? {
+        return Ok(unsettled(Some(Frames::Buffered)));
+    }
+    if visit_by(alloc, granted, bytes, Frames::Ignored, spot, waiting)? {
+        return Ok(unsettled(Some(Frames::Ignored)));
+    }
+    Ok(unsettled(None))
+}
+
+/// Looks at a spot with an operation that is read alike whatever is done with frames.
+fn visit_plain(
+    granted: Granted,
+    bytes: &[u8],
+    spot: Spot,
+    op: &OpRef<'_>,
+    waiting: &mut Vec<Spot>,
+) -> Result<Visit, AllocError>
+    requires small { length bytes.now < 2 ^ 62 }
+    requires within { IsWithin bytes.now spot }
+    requires reads { Reads (drop spot.offset bytes.now) op.now (size_of op.now) }
+    requires plain { is_plain spot.left op.now ≡ true }
+    requires sizes { spot.offset + size_of op.now ≤ length bytes.now }
+    ensures { IfOk result (IsVisited granted bytes.now spot waiting.old.items waiting.new.items) }
+{
+    let size = op.size();
+    let left = spot.left.saturating_sub(size as u64);
+    let step = step_of(granted, spot, op, size, left);
+    if follow(step, waiting)? {
+        return Ok(settled(Some(Frames::Held)));
+    }
+    Ok(settled(None))
+}
+
+/// Looks at a spot with this operation.
+fn visit_op(
+    alloc: Global,
+    granted: Granted,
+    bytes: &[u8],
+    spot: Spot,
+    op: &OpRef<'_>,
+    waiting: &mut Vec<Spot>,
+) -> Result<Visit, AllocError>
+    requires small { length bytes.now < 2 ^ 62 }
+    requires within { IsWithin bytes.now spot }
+    requires reads { Reads (drop spot.offset bytes.now) op.now (size_of op.now) }
+    requires sizes { spot.offset + size_of op.now ≤ length bytes.now }
+    ensures { IfOk result (IsVisited granted bytes.now spot waiting.old.items waiting.new.items) }
+{
+    if is_plain(spot.left, op) {
+        visit_plain(granted, bytes, spot, op, waiting)
+    } else {
+        visit_each(alloc, granted, bytes, spot, waiting)
     }
 }
 
-/// Looks at a spot, whatever is done with frames there.
+/// Looks at a spot with bytes that are no operation as they stand.
+fn visit_none(
+    alloc: Global,
+    granted: Granted,
+    bytes: &[u8],
+    spot: Spot,
+    waiting: &mut Vec<Spot>,
+) -> Result<Visit, AllocError>
+    requires small { length bytes.now < 2 ^ 62 }
+    requires within { IsWithin bytes.now spot }
+    ensures { IfOk result (IsVisited granted bytes.now spot waiting.old.items waiting.new.items) }
+{
+    if is_unknown(&bytes[spot.offset..]) {
+        return Ok(settled(None));
+    }
+    visit_each(alloc, granted, bytes, spot, waiting)
+}
+
+/// Looks at a spot, whatever is done with frames there: by what is done with them something is reached, if anything is. Others wait then.
+/// An operation that is read alike whatever is done is read once.
 pub(crate) fn visit(
     alloc: Global,
     granted: Granted,
     bytes: &[u8],
     spot: Spot,
     waiting: &mut Vec<Spot>,
-) -> Result<bool, AllocError>
+) -> Result<Visit, AllocError>
     requires small { length bytes.now < 2 ^ 62 }
     requires within { IsWithin bytes.now spot }
     ensures { IfOk result (IsVisited granted bytes.now spot waiting.old.items waiting.new.items) }
 {
-    if visit_by(alloc, granted, bytes, Frames::Held, spot, waiting)? {
-        return Ok(true);
+    match peek_op(&bytes[spot.offset..]) {
+        Ok(op) => visit_op(alloc, granted, bytes, spot, &op, waiting),
+        Err(_) => visit_none(alloc, granted, bytes, spot, waiting),
     }
-    if visit_by(alloc, granted, bytes, Frames::Buffered, spot, waiting)? {
-        return Ok(true);
-    }
-    visit_by(alloc, granted, bytes, Frames::Ignored, spot, waiting)
 }

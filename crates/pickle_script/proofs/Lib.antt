@@ -8,6 +8,7 @@ pub mod Endings
 pub mod Outputs
 pub mod FormTexts
 pub mod GateTexts
+pub mod ReachTexts
 pub mod GateLaws
 pub mod Flushes
 pub mod WordLemmas

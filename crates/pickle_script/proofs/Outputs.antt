@@ -44,6 +44,7 @@ nothing_left : (t : Text) (many loose : Bool) (bytes : List ℕ) (a : Told) → 
 nothing_left text.Listing many loose bytes a small = nothing_written listing many loose bytes a small
 nothing_left text.Objects many loose bytes a small = refl
 nothing_left text.Form many loose bytes a small = refl
+nothing_left (text.Reach granted) many loose bytes a small = refl
 nothing_left (text.Calls pickles detail) many loose bytes a small = no_calls (whole detail) pickles bytes a small
 
 pub refused_large : {S : Type 0} (told : S → Told) (t : Text) (many loose : Bool) (bytes : List ℕ) (sink : S) → AreBytes bytes → size_limit < length bytes

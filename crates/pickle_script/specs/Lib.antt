@@ -8,6 +8,7 @@ pub mod Transcript
 pub mod Conversation
 pub mod FormText
 pub mod GateText
+pub mod ReachText
 pub mod Grammar
 pub mod GivenHoles
 pub mod FaultText

@@ -17,6 +17,8 @@ use Rattle.pickle_show.specs.declared.stop.TextStop.TheVariants as cut
 use Rattle.pickle_further.specs.declared.way.Pickles.{Pickles}
 use Rattle.pickle_further.specs.CallsText as further
 use Rattle.pickle_script.specs.FormText.{form_output}
+use Rattle.pickle_script.specs.GateText.{WroteText}
+use Rattle.pickle_script.specs.ReachText.{IsReachText, StopsReach}
 use Rattle.pickle_script.specs.declared.stop.Stop.{Stop}
 use Rattle.pickle_script.specs.declared.stop.Stop.TheVariants as stop
 use Rattle.pickle_script.specs.declared.texts.written.Text.{Text}
@@ -29,6 +31,7 @@ abbrev pub CompletesText : Text → Bool → Bool → List ℕ → Told → Told
 CompletesText text.Listing many loose bytes old new status = IsListed many loose bytes old new status
 CompletesText text.Objects many loose bytes old new status = IsReported many loose bytes old new status
 CompletesText text.Form many loose bytes old new status = Completes form_output false false bytes old new status
+CompletesText (text.Reach granted) many loose bytes old new status = WroteText (IsReachText granted bytes) old new status
 CompletesText (text.Calls pickles detail) many loose bytes old new status = further.CompletesText (whole detail) pickles bytes old new status
 
 -- ---- not finished
@@ -69,6 +72,7 @@ abbrev pub StopsText : Text → Bool → Bool → List ℕ → Told → Told →
 StopsText text.Listing many loose bytes old new e = Stops listing many loose bytes old new e
 StopsText text.Objects many loose bytes old new e = StopsReport many loose bytes old new e
 StopsText text.Form many loose bytes old new e = StopsForm bytes old new e
+StopsText (text.Reach granted) many loose bytes old new e = StopsReach granted bytes old new e
 StopsText (text.Calls pickles detail) many loose bytes old new e = StopsCalls (whole detail) pickles bytes old new e
 
 -- ---- the answer

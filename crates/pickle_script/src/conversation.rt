@@ -16,6 +16,7 @@ mod words;
 
 pub use grammar::read_command;
 pub use items::write_items;
+pub(crate) use items::write_op;
 pub use keyword::{OpWord, PlaceWord};
 pub use line::{Action, Line, Place, Query, Syntax};
 pub use place::write_where;

@@ -4,6 +4,7 @@ mod calls;
 mod edited;
 mod form;
 mod gate;
+mod reach;
 mod written;
 
 pub use calls::calls_of_file;

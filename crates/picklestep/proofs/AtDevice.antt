@@ -18,6 +18,7 @@ use Rattle.pickle_script.specs.declared.texts.written.Text.TheVariants as text
 use Rattle.pickle_script.specs.FormText.{form_output}
 use Rattle.pickle_script.specs.Output.{AnswersText, AnswersCalls, IsCallsOfFile, StopsText}
 use Rattle.pickle_script.specs.GateText.{IsGateText, AnswersGate, StopsGate}
+use Rattle.archive_script.specs.MembersText.{IsMembersText, AnswersMembers}
 use Rattle.pickle_session.specs.Allowed.{SessionState}
 use Rattle.pickle_script.specs.Conversation.{AppendsBeyond, BrokeBeyond, BrokeSince, StopsReading, StopsWriting}
 use Rattle.picklestep.specs.Talk.{StopsAtDevice, Cuts, IsUnopened}
@@ -26,6 +27,7 @@ use Rattle.picklestep.specs.Files.{Gives, Reports, IsRead}
 use Rattle.picklestep.specs.Skips.{StandFor}
 use Rattle.picklestep.specs.Program.{AnswersWords, Answers}
 use Rattle.picklestep.specs.Gated.{TookGate}
+use Rattle.picklestep.specs.Listed.{TookMembers}
 use Rattle.picklestep.specs.Device.{Took, TookText, NoneWithoutMemory, comes_last, nothing, IsTextOf, is_calls, AnswersInput}
 
 -- ---- what was written on the page
@@ -40,22 +42,27 @@ said_text : {S : Type 0} (told : S → Told) (t : Text) (many loose : Bool) (byt
     → AnswersText t many loose bytes told old new answer → TookText (IsTextOf t many loose bytes) (told old) (told new) answer
 said_text told text.Listing many loose bytes old new (Ok status) few p = let w = p.whole in inl (listing w.0, (w.0, w.1, refl), w.2)
 said_text told text.Form many loose bytes old new (Ok status) few p = let w = p.whole in inl (form_output w.0, (w.0, w.1, refl), w.2)
+said_text told (text.Reach granted) many loose bytes old new (Ok status) few p = let w = p.whole in inl (w.0, w.1, (w.2, w.3))
 said_text told text.Objects many loose bytes old new (Ok status) few p = let w = p.whole in inl (record { text = w.2.0; status = status }, (w.0, w.1, w.2.1), (w.2.2, refl))
 said_text told (text.Calls pickles detail) many loose bytes old new (Ok status) few p = let w = p.whole in inl (w.0, w.1, (w.2, w.3))
 said_text told text.Listing many loose bytes old new (Err stop.Write) few p = let w = p.stopped in inl (listing w.0, (w.0, w.1, refl), w.2)
 said_text told text.Form many loose bytes old new (Err stop.Write) few p = let w = p.stopped in inl (form_output w.0, (w.0, w.1, refl), w.2)
+said_text told (text.Reach granted) many loose bytes old new (Err stop.Write) few p = inl p.stopped
 said_text told text.Objects many loose bytes old new (Err stop.Write) few p = let w = p.stopped in inl (record { text = w.2.0; status = w.2.1 }, (w.0, w.1, w.2.2), w.2.3)
 said_text told (text.Calls pickles detail) many loose bytes old new (Err stop.Write) few p = inl p.stopped
 said_text told text.Listing many loose bytes old new (Err stop.Memory) few p = let w = p.stopped in inl (listing w.0, (w.0, w.1, refl), w.2)
 said_text told text.Form many loose bytes old new (Err stop.Memory) few p = inr (refl, wrote_nothing (told old) (told new) p.stopped)
+said_text told (text.Reach granted) many loose bytes old new (Err stop.Memory) few p = inr (refl, wrote_nothing (told old) (told new) p.stopped)
 said_text told text.Objects many loose bytes old new (Err stop.Memory) few p = inr (refl, wrote_nothing (told old) (told new) p.stopped)
 said_text told (text.Calls pickles detail) many loose bytes old new (Err stop.Memory) few p = inl p.stopped
 said_text told text.Listing many loose bytes old new (Err stop.Read) few p = absurd p.stopped
 said_text told text.Form many loose bytes old new (Err stop.Read) few p = absurd p.stopped
+said_text told (text.Reach granted) many loose bytes old new (Err stop.Read) few p = absurd p.stopped
 said_text told text.Objects many loose bytes old new (Err stop.Read) few p = absurd p.stopped
 said_text told (text.Calls pickles detail) many loose bytes old new (Err stop.Read) few p = absurd p.stopped
 said_text told text.Listing many loose bytes old new (Err stop.TooLarge) few p = too_large bytes few (p.too_large.0 refl)
 said_text told text.Form many loose bytes old new (Err stop.TooLarge) few p = too_large bytes few (p.too_large.0 refl)
+said_text told (text.Reach granted) many loose bytes old new (Err stop.TooLarge) few p = too_large bytes few (p.too_large.0 refl)
 said_text told text.Objects many loose bytes old new (Err stop.TooLarge) few p = too_large bytes few (p.too_large.0 refl)
 said_text told (text.Calls pickles detail) many loose bytes old new (Err stop.TooLarge) few p = too_large bytes few (p.too_large.0 refl)
 
@@ -74,6 +81,14 @@ said_gate told list bytes old new (Err stop.Write) few p = inl p.stopped
 said_gate told list bytes old new (Err stop.Memory) few p = inr (refl, wrote_nothing (told old) (told new) p.stopped)
 said_gate told list bytes old new (Err stop.Read) few p = absurd p.stopped
 said_gate told list bytes old new (Err stop.TooLarge) few p = too_large bytes few (p.too_large.0 refl)
+
+said_members : {S : Type 0} (told : S → Told) (bytes : List ℕ) (old new : S) (answer : Result ℕ Stop) → AnswersMembers bytes told old new answer
+    → TookText (IsMembersText bytes) (told old) (told new) answer
+said_members told bytes old new (Ok status) p = let w = p.whole in inl (w.0, w.1, (w.2, w.3))
+said_members told bytes old new (Err stop.Write) p = inl p.stopped
+said_members told bytes old new (Err stop.Memory) p = inr (refl, wrote_nothing (told old) (told new) p.stopped)
+said_members told bytes old new (Err stop.Read) p = absurd p.stopped
+said_members told bytes old new (Err stop.TooLarge) p = absurd (p.fits refl)
 
 -- ---- what it held was handed on, or that failed
 
@@ -198,6 +213,8 @@ unwritten told text.Objects many loose bytes old mid answer p last memory =
     subst (λ (r : Result ℕ Stop). IfErr r (StopsText text.Objects many loose bytes (told old) (told mid))) memory p.stopped
 unwritten told text.Form many loose bytes old mid answer p last memory =
     subst (λ (r : Result ℕ Stop). IfErr r (StopsText text.Form many loose bytes (told old) (told mid))) memory p.stopped
+unwritten told (text.Reach granted) many loose bytes old mid answer p last memory =
+    subst (λ (r : Result ℕ Stop). IfErr r (StopsText (text.Reach granted) many loose bytes (told old) (told mid))) memory p.stopped
 unwritten told (text.Calls pickles detail) many loose bytes old mid answer p last memory = absurd cc
 
 -- nothing was written, and nothing handed on
@@ -236,6 +253,26 @@ gate_took told list bytes old mid new d e first held answer result few w passed 
       last = λ memory.
           let n : result ≢ Err stop.Write = λ x. let c : err stop.Memory ≡ err stop.Write = sym memory ∙ x in absurd cc in
           let still : told mid ≡ told old = subst (λ (r : Result ℕ Stop). IfErr r (StopsGate (IsGateText list bytes) (told old) (told mid))) (sym (passed n) ∙ memory) w.stopped in
+          flushed_nothing told old mid new d e first held still (calm n) before after none (all n);
+    }
+
+-- the text of the members was written, and what the page held handed on
+pub members_took : {S : Type 0} (told : S → Told) (bytes : List ℕ) (old mid new : S) (d e : Told) (first held : List ℕ) (answer result : Result ℕ Stop)
+    → AnswersMembers bytes told old mid answer
+    → (result ≢ Err stop.Write → result ≡ answer) → (result ≢ Err stop.Write → Wrote (told mid) (told new) []) → (answer ≡ Err stop.Write → new ≡ mid)
+    → (result ≡ Err stop.Write → answer ≢ Err stop.Write → Broke (told mid) (told new) [])
+    → told old ≡ holding d first → told new ≡ holding e held → (holding d first).held ≡ 0 → (result ≢ Err stop.Write → (holding e held).held ≡ 0)
+    → TookMembers bytes d e result
+members_took told bytes old mid new d e first held answer result w passed calm untouched failed before after none all =
+    let h : HandsOn (told mid) (told new) answer result = record { passed = passed; calm = calm; untouched = λ e. ap told (untouched e); failed = failed } in
+    let said = text_handed (IsMembersText bytes) (told old) (told mid) (told new) answer result (said_members told bytes old mid answer w) h in
+    let from : TookText (IsMembersText bytes) (holding d first) (told new) result = subst (λ (x : Told). TookText (IsMembersText bytes) x (told new) result) before said in
+    let to : TookText (IsMembersText bytes) (holding d first) (holding e held) result = subst (λ (x : Told). TookText (IsMembersText bytes) (holding d first) x result) after from in
+    record {
+      took = text_below (IsMembersText bytes) d e first held result none all to;
+      last = λ memory.
+          let n : result ≢ Err stop.Write = λ x. let c : err stop.Memory ≡ err stop.Write = sym memory ∙ x in absurd cc in
+          let still : told mid ≡ told old = subst (λ (r : Result ℕ Stop). IfErr r (StopsGate (IsMembersText bytes) (told old) (told mid))) (sym (passed n) ∙ memory) w.stopped in
           flushed_nothing told old mid new d e first held still (calm n) before after none (all n);
     }
 

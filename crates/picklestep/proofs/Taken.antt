@@ -23,7 +23,7 @@ use Rattle.clap.specs.declared.parser.matches.ValueSource.{ValueSource}
 use Rattle.clap.specs.declared.parser.matches.ValueSource.TheVariants.{CommandLine, DefaultValue}
 use Rattle.clap.proofs.ValueTestLemmas.{accepts-Accepts}
 use Rattle.clap.proofs.WalkLemmas.{both}
-use Rattle.picklestep.specs.CommandLine.{FitsOptions, IsCommand, IsCount, IsWindow, NamesTask, file_rule, first_rule, full_rule, list_rule, many_rule, memo_rule, most_records, program, save_rule, skip_rule, unframed_rule, window_rule}
+use Rattle.picklestep.specs.CommandLine.{FitsOptions, IsCommand, IsCount, IsWindow, NamesTask, file_rule, first_rule, full_rule, list_rule, many_rule, memo_rule, extensions_rule, persistent_rule, buffers_rule, most_records, program, save_rule, skip_rule, unframed_rule, window_rule}
 use Rattle.picklestep.proofs.Walked.{Each, Keeps, KeepsDefault, enters, enters_rows, found_each, level_is_valid, level_keeps, no_help, required}
 
 -- ---- a row
@@ -346,6 +346,15 @@ window_suits = record { no_count = refl; gives = refl; window = λ e. (refl, ref
 save_suits : Suits (filled save_rule)
 save_suits = record { no_count = refl; gives = refl; window = λ e. absurd cc }
 
+extensions_suits : Suits (filled extensions_rule)
+extensions_suits = record { no_count = refl; gives = refl; window = λ e. absurd cc }
+
+persistent_suits : Suits (filled persistent_rule)
+persistent_suits = record { no_count = refl; gives = refl; window = λ e. absurd cc }
+
+buffers_suits : Suits (filled buffers_rule)
+buffers_suits = record { no_count = refl; gives = refl; window = λ e. absurd cc }
+
 help_suits : Suits (filled help_rule)
 help_suits = record { no_count = refl; gives = refl; window = λ e. absurd cc }
 
@@ -395,12 +404,28 @@ ours name = (
           }),
           (
             (λ t called. record {
-              command = inr (inr (inr (inr (inr refl))));
+              command = inr (inr (inr (inr (inr (inl refl)))));
               suits = (list_suits, (last_suits, (help_suits, tt)));
               file = λ rows e. (both _ _ (both _ _ e).1).0;
               list = λ is rows e. (both _ _ e).0;
             }),
-            ((λ t called. absurd (help_is_none name t called)), tt),
+            (
+              (λ t called. record {
+                command = inr (inr (inr (inr (inr (inr (inl refl))))));
+                suits = (file_suits, (extensions_suits, (persistent_suits, (buffers_suits, (help_suits, tt)))));
+                file = λ rows e. (both _ _ e).0;
+                list = no_gate (codes "reach") refl;
+              }),
+              (
+                (λ t called. record {
+                  command = inr (inr (inr (inr (inr (inr (inr refl))))));
+                  suits = (file_suits, (help_suits, tt));
+                  file = λ rows e. (both _ _ e).0;
+                  list = no_gate (codes "members") refl;
+                }),
+                ((λ t called. absurd (help_is_none name t called)), tt),
+              ),
+            ),
           ),
         ),
       ),

@@ -13,6 +13,7 @@ use Rattle.pickle_script.specs.GivenHoles.{holes_of}
 use Rattle.pickle_show.specs.declared.naming.Detail.{Detail}
 use Rattle.pickle_show.specs.declared.naming.Detail.TheVariants as detail
 use Rattle.pickle_further.specs.declared.way.Pickles.{Pickles}
+use Rattle.pickle_reach.specs.declared.granted.Granted.{Granted}
 use Rattle.pickle_further.specs.declared.way.Pickles.TheVariants as pickles
 use Rattle.picklestep.specs.declared.task.Task.{Task}
 use Rattle.picklestep.specs.declared.task.Task.TheVariants as task
@@ -81,13 +82,29 @@ debug_app = with_rule (with_rule (frames_app (codes "debug")) window_rule) save_
 abbrev pub gate_app : App
 gate_app = with_rule (with_rule (new_app (codes "gate")) list_rule) file_rule
 
+abbrev pub extensions_rule : Rule
+extensions_rule = record (new_rule (codes "extensions")) { long = Some (codes "extensions"); action = Some SetTrue }
+
+abbrev pub persistent_rule : Rule
+persistent_rule = record (new_rule (codes "persistent-ids")) { long = Some (codes "persistent-ids"); action = Some SetTrue }
+
+abbrev pub buffers_rule : Rule
+buffers_rule = record (new_rule (codes "buffers")) { long = Some (codes "buffers"); action = Some SetTrue }
+
+abbrev pub reach_app : App
+reach_app = with_rule (with_rule (with_rule (with_rule (new_app (codes "reach")) file_rule) extensions_rule) persistent_rule) buffers_rule
+
+abbrev pub members_app : App
+members_app = with_rule (new_app (codes "members")) file_rule
+
 abbrev pub wants_subcommand : App → App
 wants_subcommand a = record a { top = record a.top { subcommand_required = true } }
 
 abbrev pub program : App
 program =
-    with_subcommand (with_subcommand (with_subcommand (with_subcommand (with_subcommand (with_subcommand (wants_subcommand (new_app (codes "picklestep")))
-    (frames_app (codes "list")).top) (frames_app (codes "objects")).top) calls_app.top) debug_app.top) (on_file (codes "form")).top) gate_app.top
+    with_subcommand (with_subcommand (with_subcommand (with_subcommand (with_subcommand (with_subcommand (with_subcommand (with_subcommand (wants_subcommand
+    (new_app (codes "picklestep"))) (frames_app (codes "list")).top) (frames_app (codes "objects")).top) calls_app.top) debug_app.top)
+    (on_file (codes "form")).top) gate_app.top) reach_app.top) members_app.top
 
 -- ---- the task that matches name
 
@@ -157,6 +174,16 @@ pub record HasCallsOptions (rows : List Row) (options : CallsOptions) : Type 0 w
 abbrev pub HasList : List Row → Text → Type 0
 HasList rows list = first_of (codes "LIST") rows ≡ Some list
 
+-- an option without a value is among them, or not
+abbrev pub HasFlag : List Row → Text → Bool → Type 0
+HasFlag rows name given = (IsTrue given → first_of name rows ≡ Some (codes "true")) × (first_of name rows ≡ Some (codes "true") → IsTrue given)
+
+-- what a loader was given besides the bytes
+pub record HasGranted (rows : List Row) (granted : Granted) : Type 0 where
+  pub extensions_is : HasFlag rows (codes "extensions") granted.extensions
+  pub persistent_is : HasFlag rows (codes "persistent-ids") granted.persistent
+  pub buffers_is : HasFlag rows (codes "buffers") granted.buffers
+
 pub record HasOptions (rows : List Row) (options : Options) : Type 0 where
   pub save_is : first_of (codes "save") rows ≡ option_map string_bytes options.save
   pub window_is : IsWindow (one_of (codes "window") rows) options.window
@@ -167,6 +194,8 @@ IsNamed matches (task.Objects input) = IsUsed (codes "objects") matches input
 IsNamed matches (task.Calls input options) = (u : IsUsed (codes "calls") matches input) × HasCallsOptions u.rows options
 IsNamed matches (task.Form input) = IsUsed (codes "form") matches input
 IsNamed matches (task.Gate input list) = (u : IsUsed (codes "gate") matches input) × HasList u.rows (string_bytes list)
+IsNamed matches (task.Reach input granted) = (u : IsUsed (codes "reach") matches input) × HasGranted u.rows granted
+IsNamed matches (task.Members input) = IsUsed (codes "members") matches input
 IsNamed matches (task.Debug input options) = (u : IsUsed (codes "debug") matches input) × HasOptions u.rows options
 
 -- ---- the matches that name a task
@@ -188,7 +217,8 @@ FitsOptions matches = (rows : List Row) → matches ≡ Some (codes "calls", row
 abbrev pub IsCommand : Text → Type 0
 IsCommand name =
     (name ≡ codes "list")
-    ⊎ ((name ≡ codes "objects") ⊎ ((name ≡ codes "calls") ⊎ ((name ≡ codes "debug") ⊎ ((name ≡ codes "form") ⊎ (name ≡ codes "gate")))))
+    ⊎ ((name ≡ codes "objects") ⊎ ((name ≡ codes "calls") ⊎ ((name ≡ codes "debug") ⊎ ((name ≡ codes "form") ⊎ ((name ≡ codes "gate")
+    ⊎ ((name ≡ codes "reach") ⊎ (name ≡ codes "members")))))))
 
 -- one of the commands was used, with a FILE, of `gate` with a LIST, a window that is none or within the bounds, and options of `calls` that fit
 pub record NamesTask (matches : Matches) : Type 0 where
@@ -210,6 +240,8 @@ IsBounded (task.Objects input) = ⊤
 IsBounded (task.Calls input options) = ⊤
 IsBounded (task.Form input) = ⊤
 IsBounded (task.Gate input list) = ⊤
+IsBounded (task.Reach input granted) = ⊤
+IsBounded (task.Members input) = ⊤
 IsBounded (task.Debug input options) = IfSome options.window (λ n. (1 ≤ n) × (n ≤ most_records))
 
 -- the words are refused where memory runs out

@@ -18,6 +18,7 @@ use Rattle.pickle_script.specs.Stop.{stop_of_read}
 use Rattle.pickle_script.specs.declared.texts.written.Text.TheVariants as text
 use Rattle.pickle_show.specs.Manner.{manner, whole}
 use Rattle.pickle_script.specs.FormText.{form_output}
+use Rattle.pickle_script.specs.ReachText.{IsReachText}
 use Rattle.pickle_script.specs.Output.{IsCallsOfFile}
 use Rattle.picklestep.specs.declared.task.Task.{Task}
 use Rattle.picklestep.specs.declared.task.Task.TheVariants as task
@@ -52,6 +53,7 @@ TookText Is old new result = ((o : Output) × Is o × Took o old new result) ⊎
 abbrev pub comes_last : Text → Bool
 comes_last text.Objects = true
 comes_last text.Form = true
+comes_last (text.Reach granted) = true
 comes_last _ = false
 
 -- where memory ran out nothing was written
@@ -60,12 +62,13 @@ NoneWithoutMemory old new result = result ≡ Err stop.Memory → Wrote old new 
 
 -- ---- a text of an input
 
--- this is the text of bytes: the listing or the report of the document that they read as, what is imported and called, or whether the one
--- pickle that they are is in the form that picklers write
+-- this is the text of bytes: the listing or the report of the document that they read as, what is imported and called, whether the one
+-- pickle that they are is in the form that picklers write, or whether a loader of them reaches something
 abbrev pub IsTextOf : Text → Bool → Bool → List ℕ → Output → Type 0
 IsTextOf text.Listing many loose bytes o = (d : Contents) × ReadsIn many loose bytes d × (o ≡ listing d)
 IsTextOf text.Form many loose bytes o = (d : Contents) × ReadsAs false bytes d × (o ≡ form_output d)
 IsTextOf text.Objects many loose bytes o = (d : Contents) × ReadsIn many loose bytes d × IsReport d o.text o.status
+IsTextOf (text.Reach granted) many loose bytes o = IsReachText granted bytes o
 IsTextOf (text.Calls pickles detail) many loose bytes o = IsCallsText (whole detail) pickles bytes o
 
 -- the source was not read whole, and nothing was written
@@ -94,20 +97,23 @@ input_of (task.Objects input) = input
 input_of (task.Calls input options) = input
 input_of (task.Form input) = input
 input_of (task.Gate input list) = input
+input_of (task.Reach input granted) = input
+input_of (task.Members input) = input
 input_of (task.Debug input options) = input
 
 -- what is imported and called by what is left of a file
 abbrev pub is_calls : CallsOptions → List ℕ → Output → Type 0
 is_calls options bytes o = IsCallsOfFile (manner options.detail options.holes) options.pickles bytes o
 
--- a conversation asks for no text, and the gate for that of two files
+-- a conversation asks for no text, the gate for that of two files, and the members of an archive are told of no pickle
 abbrev pub asks_for_text : Task → Bool
 asks_for_text (task.Gate input list) = false
+asks_for_text (task.Members input) = false
 asks_for_text (task.Debug input options) = false
 asks_for_text _ = true
 
--- the device took so of the text that is asked for, in the mode that is asked for, of all bytes of the source; a report and the form come
--- last
+-- the device took so of the text that is asked for, in the mode that is asked for, of all bytes of the source; a report, the form and what is reached
+-- come last
 abbrev pub AnswersTask : Task → Gives → Gives → Told → Told → Result ℕ Stop → Type 0
 AnswersTask (task.List input) source source' old new result = AnswersInput (IsTextOf text.Listing input.many input.unframed) source source' old new result
 AnswersTask (task.Objects input) source source' old new result =
@@ -115,7 +121,10 @@ AnswersTask (task.Objects input) source source' old new result =
 AnswersTask (task.Calls input options) source source' old new result = AnswersInput (is_calls options) source source' old new result
 AnswersTask (task.Form input) source source' old new result =
     AnswersInput (IsTextOf text.Form false false) source source' old new result × NoneWithoutMemory old new result
+AnswersTask (task.Reach input granted) source source' old new result =
+    AnswersInput (IsTextOf (text.Reach granted) false false) source source' old new result × NoneWithoutMemory old new result
 AnswersTask (task.Gate input list) source source' old new result = ⊤
+AnswersTask (task.Members input) source source' old new result = ⊤
 AnswersTask (task.Debug input options) source source' old new result = ⊤
 
 -- of all bytes of a file that was opened

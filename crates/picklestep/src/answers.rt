@@ -64,6 +64,8 @@ fn input_of(task: &Task) -> &GivenFile
         Task::Calls(input, _) => input,
         Task::Form(input) => input,
         Task::Gate(input, _) => input,
+        Task::Reach(input, _) => input,
+        Task::Members(input) => input,
         Task::Debug(input, _) => input,
     }
 }
@@ -72,7 +74,7 @@ fn input_of(task: &Task) -> &GivenFile
 /// and answers the status.
 ///
 /// `Stop::Read` where the source fails, `Stop::TooLarge` where it has more bytes than `LIMIT`, `Stop::Memory` where memory runs out: a
-/// beginning of the text was written and handed on then, and of a report, of the form or before all was read nothing. `Stop::Write` where
+/// beginning of the text was written and handed on then, and of a report, of the form, of what is reached or before all was read nothing. `Stop::Write` where
 /// the device fails.
 fn answer_task<R: Source, K: Sink + Drop>(
     alloc: Global,
@@ -97,7 +99,11 @@ fn answer_task<R: Source, K: Sink + Drop>(
         }
         Task::Calls(_, options) => answer_calls(alloc, options, source, page),
         Task::Form(_) => answer_text(alloc, Text::Form, false, false, source, page),
+        Task::Reach(_, granted) => {
+            answer_text(alloc, Text::Reach(*granted), false, false, source, page)
+        }
         Task::Gate(_, _) => unreachable!(),
+        Task::Members(_) => unreachable!(),
         Task::Debug(_, _) => unreachable!(),
     }
 }

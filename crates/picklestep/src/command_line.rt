@@ -2,7 +2,7 @@
 
 ghost use Rattle.std.specs.Prelude.{◌≡◌, IfOk, false, codes};
 ghost use Rattle.clap.specs.Words.{rule_of, app_of, new_app};
-ghost use Rattle.picklestep.specs.CommandLine.{file_rule, many_rule, unframed_rule, first_rule, memo_rule, full_rule, skip_rule, window_rule, save_rule, list_rule, on_file, frames_app, calls_app, debug_app, gate_app, wants_subcommand, program};
+ghost use Rattle.picklestep.specs.CommandLine.{file_rule, many_rule, unframed_rule, first_rule, memo_rule, full_rule, skip_rule, window_rule, save_rule, list_rule, extensions_rule, persistent_rule, buffers_rule, on_file, frames_app, calls_app, debug_app, gate_app, reach_app, members_app, wants_subcommand, program};
 
 use clap::{Arg, ArgAction, Command};
 use std::alloc::{AllocError, Global};
@@ -109,6 +109,39 @@ fn skip_argument<'a>(alloc: Global) -> Arg<'a>
         .action(ArgAction::Append)
 }
 
+/// Whether a loader knows extension codes.
+fn extensions_argument<'a>(alloc: Global) -> Arg<'a>
+    ensures rule { rule_of result ≡ extensions_rule }
+    ensures local { result.global ≡ false }
+{
+    Arg::new(alloc, "extensions")
+        .long("extensions")
+        .help("the loader knows extension codes")
+        .action(ArgAction::SetTrue)
+}
+
+/// Whether it knows persistent ids.
+fn persistent_argument<'a>(alloc: Global) -> Arg<'a>
+    ensures rule { rule_of result ≡ persistent_rule }
+    ensures local { result.global ≡ false }
+{
+    Arg::new(alloc, "persistent-ids")
+        .long("persistent-ids")
+        .help("the loader has a persistent_load")
+        .action(ArgAction::SetTrue)
+}
+
+/// Whether it was given buffers.
+fn buffers_argument<'a>(alloc: Global) -> Arg<'a>
+    ensures rule { rule_of result ≡ buffers_rule }
+    ensures local { result.global ≡ false }
+{
+    Arg::new(alloc, "buffers")
+        .long("buffers")
+        .help("the loader was given buffers")
+        .action(ArgAction::SetTrue)
+}
+
 /// How many step records a conversation keeps.
 fn window_argument<'a>(alloc: Global) -> Arg<'a>
     ensures rule { rule_of result ≡ window_rule }
@@ -199,6 +232,29 @@ fn gate_command<'a>(alloc: Global) -> Result<Command<'a>, AllocError>
         .arg(file_argument(alloc))
 }
 
+/// The command that says whether a loader of a file reaches something.
+fn reach_command<'a>(alloc: Global) -> Result<Command<'a>, AllocError>
+    ensures { IfOk result (λ c. app_of c ≡ reach_app) }
+{
+    Command::new(alloc, "reach")
+        .about("Says whether any loader of FILE comes to an import or a call, whatever FILE is")
+        .arg(file_argument(alloc))?
+        .arg(extensions_argument(alloc))?
+        .arg(persistent_argument(alloc))?
+        .arg(buffers_argument(alloc))
+}
+
+/// The command that prints the members of a zip archive.
+fn members_command<'a>(alloc: Global) -> Result<Command<'a>, AllocError>
+    ensures { IfOk result (λ c. app_of c ≡ members_app) }
+{
+    Command::new(alloc, "members")
+        .about(
+            "Prints the members of FILE, if it is a zip archive in the form that writers write, else where it is not and why",
+        )
+        .arg(file_argument(alloc))
+}
+
 /// The program's command line, which has no commands yet.
 fn without_commands<'a>(alloc: Global) -> Command<'a>
     ensures { app_of result ≡ wants_subcommand (new_app (codes "picklestep")) }
@@ -232,5 +288,7 @@ pub fn command_line<'a>(alloc: Global) -> Result<Command<'a>, AllocError>
             "Says whether FILE is a pickle in the form that picklers write, else where it is not and why",
             MANY_OF_FORM,
         )?)?
-        .subcommand(gate_command(alloc)?)
+        .subcommand(gate_command(alloc)?)?
+        .subcommand(reach_command(alloc)?)?
+        .subcommand(members_command(alloc)?)
 }

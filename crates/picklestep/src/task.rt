@@ -4,13 +4,14 @@ ghost use Rattle.std.specs.Prelude.{◌≡◌, ◌≤◌, IsTrue, ℕ, [], Optio
 ghost use Rattle.std.specs.String.{string_bytes};
 ghost use Rattle.clap.specs.Words.{found_of, first_of, one_of, rows_of, fault_of, subcommand_of, subcommand_rows_of, takes};
 ghost use Rattle.pickle_script.specs.GivenHoles.{holes_of};
-ghost use Rattle.picklestep.specs.CommandLine.{program, most_records, GivesReading, HasReading, HasInput, HasDetail, HasCallsOptions, skips_of, HasOptions, HasList, IsWindow, IsNamed, FitsOptions, NamesTask, IsBounded, IsMemory};
+ghost use Rattle.picklestep.specs.CommandLine.{program, most_records, GivesReading, HasReading, HasInput, HasDetail, HasCallsOptions, skips_of, HasOptions, HasList, HasGranted, IsWindow, IsNamed, FitsOptions, NamesTask, IsBounded, IsMemory};
 
 use crate::command_line::{MOST_RECORDS, command_line};
 use clap::error::ErrorKind;
 use clap::{ArgMatches, Error};
 use pickle_further::Pickles;
 use pickle_io::Holes;
+use pickle_reach::Granted;
 use pickle_script::first_unfit;
 use pickle_show::Detail;
 use std::alloc::{AllocError, Global};
@@ -43,6 +44,10 @@ pub enum Task {
     Form(GivenFile),
     /// Print whether the file is one pickle that passes the list in the file of this name.
     Gate(GivenFile, String),
+    /// Print whether a loader of the file reaches something that was given this besides.
+    Reach(GivenFile, Granted),
+    /// Print the members of the zip archive in canonical form that the file is.
+    Members(GivenFile),
     /// Read commands from standard input and answer each.
     Debug(GivenFile, Options),
 }
@@ -205,6 +210,20 @@ fn detail_of(found: &ArgMatches<'_>) -> Detail
     }
 }
 
+/// What a loader was given besides the bytes.
+fn granted_of(found: &ArgMatches<'_>) -> Granted
+    ensures { HasGranted (rows_of (found_of found.now)) result }
+{
+    let extensions = is_given(found, "extensions");
+    let persistent = is_given(found, "persistent-ids");
+    let buffers = is_given(found, "buffers");
+    Granted {
+        extensions,
+        persistent,
+        buffers,
+    }
+}
+
 /// The bytes of the file that are left out; no answer where a text is no hole, or none that stands behind those before it.
 fn holes_of(alloc: Global, found: &ArgMatches<'_>) -> Result<Option<Holes>, AllocError>
     ensures { IfOk result (λ holes. holes ≡ holes_of (skips_of (rows_of (found_of found.now)))) }
@@ -301,6 +320,10 @@ fn named(alloc: Global, matches: &ArgMatches<'_>) -> Result<Option<Task>, AllocE
             return Ok(None);
         };
         Ok(Some(Task::Gate(input, list)))
+    } else if name == "reach" {
+        Ok(Some(Task::Reach(input, granted_of(found))))
+    } else if name == "members" {
+        Ok(Some(Task::Members(input)))
     } else {
         Ok(None)
     }

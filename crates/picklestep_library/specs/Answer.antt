@@ -12,6 +12,7 @@ use Rattle.pickle_show.specs.Manner.{manner}
 use Rattle.pickle_further.specs.declared.way.Pickles.{Pickles}
 use Rattle.pickle_script.specs.Output.{CompletesText, CompletesFile}
 use Rattle.pickle_script.specs.GateText.{IsGateText, WroteText}
+use Rattle.archive_script.specs.MembersText.{IsMembersText}
 use Rattle.pickle_script.specs.Conversation.{Finishes}
 use Rattle.pickle_script.specs.ReplyText.{syntax_line}
 use Rattle.pickle_script.specs.declared.conversation.line.Syntax.TheVariants as syntax
@@ -36,6 +37,10 @@ IsCallsOf detail holes pickles bytes written status = CompletesFile (manner deta
 -- these bytes are the whole text of whether an input passes a list, and this is its status
 abbrev pub IsGateOf : List ℕ → List ℕ → List ℕ → ℕ → Type 0
 IsGateOf list bytes written status = WroteText (IsGateText list bytes) (took []) (took written) status
+
+-- these bytes are the whole text of the members of an input, and this is its status
+abbrev pub IsMembersOf : List ℕ → List ℕ → ℕ → Type 0
+IsMembersOf bytes written status = WroteText (IsMembersText bytes) (took []) (took written) status
 
 -- these bytes are all answers to the lines of a script, in a session of an input, and this is its status
 pub record IsTalkOf (many loose : Bool) (bytes script written : List ℕ) (status : ℕ) : Type 0 where
@@ -95,7 +100,7 @@ IsNoTask old new answer = (answer ≡ 4) × (new ≡ old)
 abbrev pub FillsIn : ℕ → (List ℕ → ℕ → Type 0) → List ℕ → List ℕ → List ℕ → Written → ℕ → Type 0
 FillsIn options IsWanted bytes old new written answer = MatchBool (are_modes options) (Fills IsWanted bytes old new written answer) (IsNoTask old new answer)
 
--- where there are pickles to tell of, it was
-abbrev pub FillsOf : Option Pickles → (Pickles → List ℕ → ℕ → Type 0) → List ℕ → List ℕ → List ℕ → Written → ℕ → Type 0
-FillsOf (Some p) IsWanted bytes old new written answer = Fills (IsWanted p) bytes old new written answer
+-- where the options say something, it was
+abbrev pub FillsOf : {A : Type 0} → Option A → (A → List ℕ → ℕ → Type 0) → List ℕ → List ℕ → List ℕ → Written → ℕ → Type 0
+FillsOf (Some said) IsWanted bytes old new written answer = Fills (IsWanted said) bytes old new written answer
 FillsOf None IsWanted bytes old new written answer = IsNoTask old new answer

@@ -5,6 +5,7 @@ use Rattle.pickle_io.specs.declared.hole.Hole.{Hole}
 use Rattle.pickle_io.specs.Holes.{may_follow}
 use Rattle.pickle_show.specs.declared.naming.Detail.{Detail}
 use Rattle.pickle_show.specs.declared.naming.Detail.TheVariants as detail
+use Rattle.pickle_reach.specs.declared.granted.Granted.{Granted}
 use Rattle.pickle_further.specs.declared.way.Pickles.{Pickles}
 use Rattle.pickle_further.specs.declared.way.Pickles.TheVariants as pickles
 use Rattle.picklestep_library.specs.declared.asked.GivenHole.{GivenHole}
@@ -47,6 +48,10 @@ detail_by false = detail.Cut
 -- how much of an argument is shown
 abbrev pub detail_of : ℕ → Detail
 detail_of options = detail_by (is_given options 16)
+
+-- what a loader was given besides the bytes, where these are options for that
+abbrev pub granted_of : ℕ → Option Granted
+granted_of options = if nat_lt options 8 then Some (record { extensions = is_given options 1; persistent = is_given options 2; buffers = is_given options 4 }) else None
 
 -- ---- holes
 

@@ -3,10 +3,11 @@
 ghost use Rattle.std.specs.Prelude.{◌≡◌, ◌≢◌, ◌+◌, [], ◌∷◌, ◌++◌, true, None, OnOk, IfOk};
 ghost use Rattle.pickle_io.specs.Holes.{end_of};
 ghost use Rattle.pickle_io.specs.Holes.{may_follow};
-ghost use Rattle.picklestep_library.specs.Asked.{is_given, is_many, is_loose, are_modes, pickles_by, pickles_of, pickles_of_input, pickles_left, detail_of, hole_of, stand_from, holes_of};
+ghost use Rattle.picklestep_library.specs.Asked.{is_given, is_many, is_loose, are_modes, pickles_by, pickles_of, pickles_of_input, pickles_left, detail_of, granted_of, hole_of, stand_from, holes_of};
 
 use pickle_further::Pickles;
 use pickle_io::{Hole, Holes};
+use pickle_reach::Granted;
 use pickle_show::Detail;
 use std::alloc::{AllocError, Global};
 
@@ -22,6 +23,15 @@ const MEMO_KEPT: u32 = 8;
 const FULL: u32 = 16;
 /// All of these.
 const ALL: u32 = 31;
+
+/// Of a loader: it knows extension codes.
+const EXTENSIONS: u32 = 1;
+/// It knows persistent ids.
+const PERSISTENT_IDS: u32 = 2;
+/// It was given buffers.
+const BUFFERS: u32 = 4;
+/// All of these.
+const ALL_GRANTED: u32 = 7;
 
 /// Bytes of an input that are left out.
 #[repr(C)]
@@ -103,6 +113,21 @@ pub fn detail_of(options: u32) -> Detail
         Detail::Full
     } else {
         Detail::Cut
+    }
+}
+
+/// What a loader was given besides the bytes, where these are options for that.
+pub fn granted_of(options: u32) -> Option<Granted>
+    ensures { result ≡ granted_of options }
+{
+    if options <= ALL_GRANTED {
+        Some(Granted {
+            extensions: is_given(options, EXTENSIONS),
+            persistent: is_given(options, PERSISTENT_IDS),
+            buffers: is_given(options, BUFFERS),
+        })
+    } else {
+        None
     }
 }
 

@@ -12,6 +12,7 @@ mod asked;
 mod edited;
 mod fill;
 mod gate;
+mod members;
 mod talk;
 mod texts;
 
@@ -19,8 +20,8 @@ ghost use Rattle.pickle_further.specs.declared.way.Pickles.TheVariants as pickle
 ghost use Rattle.pickle_show.specs.declared.naming.Detail.TheVariants as detail;
 ghost use Rattle.pickle_script.specs.declared.texts.written.Text.TheVariants as asked_text;
 ghost use Rattle.std.specs.Prelude.{false};
-ghost use Rattle.picklestep_library.specs.Asked.{is_many, is_loose, pickles_of, pickles_left, detail_of, holes_of};
-ghost use Rattle.picklestep_library.specs.Answer.{IsTextOf, IsCallsOf, IsGateOf, IsTalkOf, IsTextAfter, Fills, FillsIn, FillsOf};
+ghost use Rattle.picklestep_library.specs.Asked.{is_many, is_loose, pickles_of, pickles_left, detail_of, granted_of, holes_of};
+ghost use Rattle.picklestep_library.specs.Answer.{IsTextOf, IsCallsOf, IsGateOf, IsMembersOf, IsTalkOf, IsTextAfter, Fills, FillsIn, FillsOf};
 
 pub use asked::GivenHole;
 pub use fill::Written;
@@ -125,6 +126,34 @@ pub extern "C" fn picklestep_gate(
     ensures { Fills (IsGateOf list.now bytes.now) bytes.now out.old out.new written.new result }
 {
     gate::fill_gate(alloc, list, bytes, out, written)
+}
+
+/// Whether a loader of the bytes reaches something, or by which opcode first, whatever it does with frames. `granted` is the sum of what it was
+/// given besides: 1 extension codes, 2 a `persistent_load`, 4 buffers.
+#[unsafe(no_mangle)]
+pub extern "C" fn picklestep_reach(
+    alloc: Global,
+    granted: u32,
+    bytes: &[u8],
+    out: &mut [u8],
+    written: &mut Written,
+) -> u8
+    ensures { FillsOf (granted_of granted) (λ g. IsTextOf (asked_text.Reach g) false false bytes.now) bytes.now out.old out.new written.new result }
+{
+    texts::fill_reach(alloc, granted, bytes, out, written)
+}
+
+/// The members of the zip archive in canonical form that the bytes are, or the first rule that they break, and where.
+#[unsafe(no_mangle)]
+pub extern "C" fn picklestep_members(
+    alloc: Global,
+    bytes: &[u8],
+    out: &mut [u8],
+    written: &mut Written,
+) -> u8
+    ensures { Fills (IsMembersOf bytes.now) bytes.now out.old out.new written.new result }
+{
+    members::fill_members(alloc, bytes, out, written)
 }
 
 /// The answers of a conversation: those to all lines of a script, in a session of a pickle, or where `many` holds of several. `written` has

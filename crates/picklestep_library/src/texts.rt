@@ -1,11 +1,12 @@
 //! The texts of an input, in memory.
 
-ghost use Rattle.std.specs.Prelude.{◌≡◌, ◌<◌, ◌↔◌, [], true, length, IfOk, Err};
+ghost use Rattle.std.specs.Prelude.{◌≡◌, ◌<◌, ◌↔◌, [], true, false, length, IfOk, Err};
 ghost use Rattle.pickle_doc.specs.Document.{size_limit};
 ghost use Rattle.pickle_show.specs.Manner.{manner};
 ghost use Rattle.pickle_script.specs.Output.{CompletesFile};
 ghost use Rattle.pickle_script.specs.declared.stop.Stop.TheVariants as stops;
-ghost use Rattle.picklestep_library.specs.Asked.{is_many, is_loose, detail_of, stand_from, holes_of, pickles_left};
+ghost use Rattle.pickle_script.specs.declared.texts.written.Text.TheVariants as asked_text;
+ghost use Rattle.picklestep_library.specs.Asked.{is_many, is_loose, detail_of, granted_of, stand_from, holes_of, pickles_left};
 ghost use Rattle.picklestep_library.specs.Answer.{IsTextOf, IsCallsOf, Fills, FillsIn, FillsOf};
 
 use crate::asked::{self, GivenHole};
@@ -71,6 +72,30 @@ pub fn fill_in(
     }
     let (many, loose) = (asked::is_many(options), asked::is_loose(options));
     fill(alloc, text, many, loose, bytes, out, written)
+}
+
+/// Puts whether a loader of an input reaches something, which was given what the options say besides, at the start of `out`.
+pub fn fill_reach(
+    alloc: Global,
+    options: u32,
+    bytes: &[u8],
+    out: &mut [u8],
+    written: &mut Written,
+) -> u8
+    ensures { FillsOf (granted_of options) (λ g. IsTextOf (asked_text.Reach g) false false bytes.now) bytes.now out.old out.new written.new result }
+{
+    match asked::granted_of(options) {
+        Some(granted) => fill(
+            alloc,
+            Text::Reach(granted),
+            false,
+            false,
+            bytes,
+            out,
+            written,
+        ),
+        None => NO_TASK,
+    }
 }
 
 /// Writes what is imported and called by an input without holes.

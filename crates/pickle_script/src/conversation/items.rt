@@ -37,7 +37,7 @@ fn write_columns<S: Page>(place: usize, offset: u64, page: &mut S) -> Result<(),
 
 /// Writes the name of an opcode, and after a blank the text of its argument where there is one.
 #[tactic(auto, using(pickle_io::proofs::Devices::text_steps, crate::proofs::PlaceLemmas::name_steps), unfolding(crate::specs::PlaceText::op_text))]
-fn write_op<S: Page>(op: &Op, page: &mut S) -> Result<(), Failed>
+pub(crate) fn write_op<S: Page>(op: &Op, page: &mut S) -> Result<(), Failed>
     ensures { Writes (S.told page.old) (S.told page.new) result (op_text op.now) }
 {
     if op.has_arg_text() {

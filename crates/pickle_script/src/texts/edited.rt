@@ -66,7 +66,7 @@ fn write_by_bytes<K: Page>(
 
 /// Writes a text of a session's document as it is, in its mode, and answers the status: just what `write_text` does of the bytes that
 /// would be saved. The session stays as it is, and nothing is saved. The stops are those of `write_text`, and `Stop::Memory`, before
-/// anything is written, where what is imported and called, or the form, is asked for and there is no room for the bytes.
+/// anything is written, where what is imported and called, the form, or what is reached is asked for and there is no room for the bytes.
 pub fn write_session_text<P: Past, K: Page>(
     alloc: Global,
     text: Text,
@@ -81,5 +81,6 @@ pub fn write_session_text<P: Past, K: Page>(
         Text::Objects => write_objects_of(alloc, document, page),
         Text::Calls(_, _) => write_by_bytes(alloc, text, document, page),
         Text::Form => write_by_bytes(alloc, text, document, page),
+        Text::Reach(_) => write_by_bytes(alloc, text, document, page),
     }
 }

@@ -1,14 +1,16 @@
-//! The texts that are written of an input: its listing, the report of its objects, what it would import and call, and whether it is in
-//! the form that picklers write.
+//! The texts that are written of an input: its listing, the report of its objects, what it would import and call, whether it is in the
+//! form that picklers write, and whether a loader of it reaches something.
 
 ghost use Rattle.std.specs.Prelude.{true, false};
 ghost use Rattle.pickle_script.specs.Output.{AnswersText};
 
 use crate::stop::Stop;
 use crate::texts::form::write_form;
+use crate::texts::reach::write_reach;
 use pickle_doc::LIMIT;
 use pickle_further::Pickles;
 use pickle_io::{Holes, Page};
+use pickle_reach::Granted;
 use pickle_show::{Detail, list_bytes, report_of_bytes};
 use std::alloc::Global;
 
@@ -26,14 +28,18 @@ pub enum Text {
     /// Whether the first pickle, whatever the mode, is in the form that picklers write, with nothing behind it; else the first place at
     /// which it is not, and why.
     Form,
+    /// Whether a loader of it reaches something that was given this besides, whatever the mode: the first opcode by which one does.
+    Reach(Granted),
 }
 
 /// Writes a text of the pickle that the bytes are, or where `many` holds of several pickles that follow one another, and answers its
 /// status: 1 where an item is refused or the bytes have a fault, else 0. Where `loose` holds frames are not looked at. What is imported and
 /// called has a reading of its own and does not depend on `many` or `loose`; its status is 0 where the reading ends with the bytes, right
-/// behind a STOP, else 1. Nor does the form, whose status is 0 where the pickle is in it, else 1.
+/// behind a STOP, else 1. Nor does the form, whose status is 0 where the pickle is in it, else 1; nor what is reached, whose status is 0
+/// where that is nothing, else 1.
 /// `Stop::TooLarge` where there are more bytes than `LIMIT`: nothing was written then. `Stop::Memory` where memory runs out,
-/// `Stop::Write` where the sink fails: what was written then is a beginning of the text; where memory ran out, of a report or form nothing.
+/// `Stop::Write` where the sink fails: what was written then is a beginning of the text; where memory ran out, of a report, of the form
+/// and of what is reached nothing.
 /// The sink may still hold a part of what was written: the caller flushes it.
 pub fn write_text<S: Page>(
     alloc: Global,
@@ -52,6 +58,7 @@ pub fn write_text<S: Page>(
         Text::Listing => Ok(list_bytes(alloc, many, loose, bytes, page)?),
         Text::Objects => Ok(report_of_bytes(alloc, many, loose, bytes, page)?),
         Text::Form => Ok(write_form(alloc, bytes, page)?),
+        Text::Reach(granted) => Ok(write_reach(alloc, granted, bytes, page)?),
         Text::Calls(pickles, detail) => {
             let holes = Holes::new(alloc);
             Ok(pickle_further::calls(alloc, detail, &holes, pickles, bytes, page)?)

@@ -1,7 +1,7 @@
 use Rattle.std.proofs.Common.{◌≡◌, ◌∙◌, ap, ap₂, codes}
 use Rattle.std.proofs.lemmas.Result.{IfOk-weaker}
 use Rattle.clap.specs.Words.{App, app_of, new_app, with_subcommand}
-use Rattle.picklestep.specs.CommandLine.{on_file, frames_app, calls_app, debug_app, gate_app, wants_subcommand}
+use Rattle.picklestep.specs.CommandLine.{on_file, frames_app, calls_app, debug_app, gate_app, reach_app, members_app, wants_subcommand}
 use Rattle.picklestep.proofs.Plain.{third}
 use Rattle.picklestep.proofs.command_line.command_line.Goals as goal
 
@@ -13,11 +13,15 @@ returns c =
     let debugging : app_of c.in_ok-debug_command.field-0 ≡ debug_app = c.in_ok-debug_command.ensures in
     let forming : app_of c.in_ok-on_file.field-0 ≡ on_file (codes "form") = c.in_ok-on_file.ensures in
     let gating : app_of c.in_ok-gate_command.field-0 ≡ gate_app = c.in_ok-gate_command.ensures in
+    let reaching : app_of c.in_ok-reach_command.field-0 ≡ reach_app = c.in_ok-reach_command.ensures in
+    let telling : app_of c.in_ok-members_command.field-0 ≡ members_app = c.in_ok-members_command.ensures in
     let start : app_of c.without_commands.result ≡ wants_subcommand (new_app (codes "picklestep")) = c.without_commands.ensures in
     let one = c.in_ok-subcommand.ensures.shape (third _ _ _ _ (ap (λ (a : App). a.top.is_plain) listing)) ∙ ap₂ with_subcommand start (ap (λ (a : App). a.top) listing) in
     let two = c.in_ok-subcommand-2.ensures.shape (third _ _ _ _ (ap (λ (a : App). a.top.is_plain) reporting)) ∙ ap₂ with_subcommand one (ap (λ (a : App). a.top) reporting) in
     let three = c.in_ok-subcommand-3.ensures.shape (third _ _ _ _ (ap (λ (a : App). a.top.is_plain) calling)) ∙ ap₂ with_subcommand two (ap (λ (a : App). a.top) calling) in
     let four = c.in_ok-subcommand-4.ensures.shape (third _ _ _ _ (ap (λ (a : App). a.top.is_plain) debugging)) ∙ ap₂ with_subcommand three (ap (λ (a : App). a.top) debugging) in
     let five = c.in_ok-subcommand-5.ensures.shape (third _ _ _ _ (ap (λ (a : App). a.top.is_plain) forming)) ∙ ap₂ with_subcommand four (ap (λ (a : App). a.top) forming) in
-    IfOk-weaker c.subcommand-6.result _ _
-    (λ r a. a.shape (third _ _ _ _ (ap (λ (a : App). a.top.is_plain) gating)) ∙ ap₂ with_subcommand five (ap (λ (a : App). a.top) gating)) c.subcommand-6.ensures
+    let six = c.in_ok-subcommand-6.ensures.shape (third _ _ _ _ (ap (λ (a : App). a.top.is_plain) gating)) ∙ ap₂ with_subcommand five (ap (λ (a : App). a.top) gating) in
+    let seven = c.in_ok-subcommand-7.ensures.shape (third _ _ _ _ (ap (λ (a : App). a.top.is_plain) reaching)) ∙ ap₂ with_subcommand six (ap (λ (a : App). a.top) reaching) in
+    IfOk-weaker c.subcommand-8.result _ _
+    (λ r a. a.shape (third _ _ _ _ (ap (λ (a : App). a.top.is_plain) telling)) ∙ ap₂ with_subcommand seven (ap (λ (a : App). a.top) telling)) c.subcommand-8.ensures

@@ -44,3 +44,15 @@ returns-in-Some-5-clause-some c =
       },
       search rules,
     )
+
+pub returns-then-eq-7-clause-some : goal.returns-then-eq-7-clause-some
+returns-then-eq-7-clause-some c =
+    let name : c.in-Some.name.now ≡ codes "reach" = search rules in
+    let rows = rows_of (found_of c.in-Some.found.now) in (
+      record {
+        rows = rows;
+        used = used_is _ _ _ _ _ c.in-Some.ensures.name c.in-Some.ensures.rows ∙ ap (λ (n : Text). Some (n, rows)) name;
+        input_is = search rules;
+      },
+      c.granted_of.ensures,
+    )
