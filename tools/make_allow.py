@@ -3,9 +3,10 @@
 
     /usr/bin/python3 tools/make_allow.py
 
-Needs torch and scikit-learn (Debian: python3-torch python3-sklearn). Classes are found by their base class. What fitted models hold
-besides is found by fitting each estimator with its defaults and reading the names of its pickle. Read the sets over before they are kept:
-no name in them may run text or import by name. `python/tests/test_sets.py` tries each against the list of known names.
+Needs torch and scikit-learn (Debian: python3-torch python3-sklearn); without one of them its set stays as it is. Classes are found by their base
+class. What fitted models hold besides is found by fitting each estimator with its defaults and reading the names of its pickle. Lines that a set has
+stay. Read the others over before they are kept: no name in them may run text or import by name. `python/tests/test_sets.py` tries each against the list
+of known names. At the end `made_words.py` writes into all sets what may be done with what calls make.
 """
 
 from __future__ import annotations
@@ -21,13 +22,16 @@ from pathlib import Path
 from types import ModuleType
 from typing import Any, Iterator, Set, Tuple
 
+import made_words
 import numpy
 import sklearn
 import sklearn.gaussian_process.kernels
-import torch
 from sklearn.base import BaseEstimator
 from sklearn.utils import all_estimators
 
+from made_words import read_line
+
+MADE_BY = 'Made by tools/make_allow.py, and read over.'
 FOLDER = Path(__file__).resolve().parent.parent / 'python' / 'picklestep' / 'scan' / 'allow'
 # They take a list of other models, so they have no defaults that can be fitted.
 ARGUMENTS = {
@@ -125,28 +129,43 @@ def used(name: str) -> str:
 
 
 def write(name: str, head: str, needed: Tuple[str, ...], names: Set[str], note: str) -> None:
-    """Writes a set, which includes the sets that it needs."""
-    entries = [f'{each}:{used(each)}' for each in sorted(names)]
-    width = max(map(len, entries))
-    lines = [f'# {line}' for line in head.splitlines()] + [f'include {each}' for each in needed] + [f'{each:{width}}  # {note}' for each in entries]
-    (FOLDER / f'{name}.txt').write_text('\n'.join(lines) + '\n')
-    print(f'{name}: {len(names)} names')
+    """Writes a set, which includes the sets that it needs. The lines that it has stay, since somebody has read them over."""
+    path = FOLDER / f'{name}.txt'
+    having = {line.name: text for text in path.read_text().splitlines() for line in [read_line(text)] if line is not None and not line.is_include}
+    lines = [f'# {line}' for line in head.splitlines()] + [f'include {each}' for each in needed]
+    path.write_text('\n'.join([*lines, *having.values(), *(f'{each}:{used(each)}  # {note}' for each in sorted(names - set(having)))]) + '\n')
+    print(f'{name}: {len(names - set(having))} names more')
 
 
 def main() -> None:
     warnings.simplefilter('ignore')
-    made_by = 'Made by tools/make_allow.py, and read over.'
+    try:
+        write_torch()
+    except ImportError as error:
+        print(f'torch-modules stays: {error}', file=sys.stderr)
+    write_sklearn()
+    made_words.write_all()
+
+
+def write_torch() -> None:
+    """The layers of torch."""
+    import torch
     write('torch-modules', f'The classes of torch.nn.modules ({torch.__version__}): whole models are pickled with them. Their code runs\n'
-          f'when a model is used. {made_by}', ('torch',),
+          f'when a model is used. {MADE_BY}', ('torch',),
           classes_of(importlib.import_module('torch.nn.modules'), torch.nn.Module) | {f'torch.nn.functional.{name}' for name in FUNCTIONS},
           'layer, or a function that one has')
+
+
+def write_sklearn() -> None:
+    """The models of scikit-learn."""
     kernels = classes_of(sklearn.gaussian_process, sklearn.gaussian_process.kernels.Kernel)
     estimators = classes_of(sklearn, BaseEstimator)
     fitted = fitted_names()
     print('in other sets:', *sorted(name for name in fitted if not name.startswith('sklearn.')))
     write('sklearn', f'All estimators of scikit-learn ({sklearn.__version__}), and what fitted ones hold. joblib dumps many of them.\n'
-          f'{made_by} Other versions may have other names.', ('scipy', 'joblib'),
+          f'{MADE_BY} Other versions may have other names.', ('scipy', 'joblib'),
           kernels | estimators | parts() | {name for name in fitted if name.startswith('sklearn.')}, 'model, or a part of one')
 
 
-main()
+if __name__ == '__main__':
+    main()

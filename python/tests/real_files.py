@@ -1,7 +1,8 @@
 """Writes real files with the libraries of this machine. A file of its own, for an interpreter that has them.
 
-    real_files.py FOLDER LIBRARY    writes the files of a library into a folder
-    real_files.py --keep            writes those of each library that is installed into data/real, as an archive
+    real_files.py FOLDER LIBRARY         writes the files of a library into a folder
+    real_files.py --each FOLDER LIBRARY  the same, with each value in each protocol
+    real_files.py --keep                 writes those of each library that is installed into data/real, as an archive
 
 Each library's writer is a function of its name here. `test_sets` looks at what they write, and at what is kept, so that it needs no
 library; each writes ten files or more. Numbers at random have a seed, and the clock stands still, so that the files are the same again (but
@@ -21,15 +22,26 @@ import tempfile
 import time
 import warnings
 from pathlib import Path
-from typing import Any, Callable, Dict
+from typing import Any, Callable, Dict, Sequence
 
 KEPT = Path(__file__).resolve().parent / 'data' / 'real'
 
 
+# The protocols in which each value is written. Where there are none, these are 2 to 5 in turn.
+PROTOCOLS: Sequence[int] = ()
+
+
 def dump(folder: Path, values: Dict[str, Any]) -> None:
-    """A pickle of each value, with protocols 2 to 5 in turn."""
+    """A pickle of each value."""
     for number, (name, value) in enumerate(values.items()):
-        (folder / f'{name}.pkl').write_bytes(pickle.dumps(value, 2 + number % 4))
+        if not PROTOCOLS:
+            (folder / f'{name}.pkl').write_bytes(pickle.dumps(value, 2 + number % 4))
+        for protocol in PROTOCOLS:
+            try:
+                content = pickle.dumps(value, protocol)
+            except TypeError:  # (protocols 0 and 1 have no objects with slots)
+                continue
+            (folder / f'{name}_{protocol}.pkl').write_bytes(content)
 
 
 def plain(folder: Path) -> None:
@@ -288,4 +300,5 @@ if __name__ == '__main__':
             if each != 'plain' and is_installed(each):
                 keep(each)
     else:
-        write(Path(sys.argv[1]), sys.argv[2])
+        PROTOCOLS = range(6) if sys.argv[1] == '--each' else ()
+        write(Path(sys.argv[-2]), sys.argv[-1])

@@ -2,18 +2,23 @@
 
 from __future__ import annotations
 
+import itertools
+import re
 import subprocess
 import sys
 import tarfile
 import tempfile
 import unittest
 from pathlib import Path
-from typing import Dict, Tuple
+from typing import Dict, FrozenSet, Tuple
 
+from picklestep import NotAllowed, check, gate
 from picklestep.scan import Judge, look
-from picklestep.scan.allow import SETS, read_names
+from picklestep.scan.allow import SETS, read_lines, read_names
 from picklestep.scan.known import known_names
+from picklestep.scan.names import read_line
 from evasions import NO_PARTS, kind, long
+from made_pickles import WORD_OF, Made, Named
 from real_files import KEPT, MODULES
 from scan_support import MODELS, ScanCase, python_with
 
@@ -26,6 +31,8 @@ MODELS_OF: Dict[str, Tuple[str, Tuple[str, ...]]] = {
 # No package of the machine has these. What torch alone writes of them is among the real files; files with the documented names of their
 # settings are made here.
 BY_NAMES = ('transformers', 'lightning')
+# In protocols 2 and 3 these get a method of interp1d by `getattr`, which no set allows.
+BY_GETATTR = ('linear_2.pkl', 'linear_3.pkl')
 # It holds code, which no set allows.
 SCRIPT = 'torch_script.pt'
 
@@ -34,6 +41,17 @@ def set_for(library: str, file: str) -> str:
     """The set that is to be enough for a file of a library."""
     other, beginnings = MODELS_OF.get(library, (library, ()))
     return other if file.startswith(beginnings) else library
+
+
+def write_files(folder: Path, library: str) -> bool:
+    """Has a library of this machine write its files, with each value in each protocol, as far as sets allow them. False where it is not installed."""
+    python = sys.executable if library == 'plain' else python_with(MODULES.get(library, library))
+    if python is None:
+        return False
+    subprocess.run([python, str(WRITER), '--each', str(folder), library], check=True, timeout=900, cwd=tempfile.gettempdir())
+    for name in BY_GETATTR:
+        (folder / name).unlink(missing_ok=True)
+    return True
 
 
 class Names(unittest.TestCase):
@@ -51,6 +69,13 @@ class Names(unittest.TestCase):
             self.assertTrue(names.names)
             for name, note in names.names.items():
                 self.assertTrue(note, f'{word}: {name}')
+
+    def test_each_line_says_what_may_be_done_with_what_calls_make(self) -> None:
+        """One that does not would allow everything, also to what a line of another list lets be called."""
+        for word in SETS:
+            for text in read_lines([word], with_needed=False):
+                line = read_line(text)
+                self.assertTrue(line is None or line.made is not None, f'{word}: {text}')
 
     def test_each_set_is_tried(self) -> None:
         self.assertEqual({*LIBRARIES, *(word for word, _ in MODELS_OF.values())}, set(SETS))
@@ -110,11 +135,9 @@ class RealFiles(ScanCase):
         self.tried(library)
 
     def written(self, library: str) -> None:
-        """Looks at what a library of this machine writes."""
-        python = sys.executable if library == 'plain' else python_with(MODULES.get(library, library))
-        if python is None:
+        """Looks at what a library of this machine writes, in each protocol."""
+        if not write_files(self.folder, library):
             self.skipTest(f'{library} is not installed; its kept files are looked at')
-        subprocess.run([python, str(WRITER), str(self.folder), library], check=True, timeout=900, cwd=tempfile.gettempdir())
         self.tried(library)
 
     def test_all_are_kept(self) -> None:
@@ -151,11 +174,83 @@ class ByNames(ScanCase):
             self.assertGreaterEqual(len(names.names), 10)
             for number, name in enumerate(names.names):
                 module, _, attribute = name.rpartition('.')
-                made = b')\x81}X\x01\0\0\0bK\x01sb' if names.allows_done('new', name) else b''
+                made = b')\x81' * names.allows_done('new', name)
+                made += b'}X\x01\0\0\0bK\x01sb' * (bool(made) and names.allows_done('made-state', name))
                 content = b'\x80\x02}X\x01\0\0\0ac' + f'{module}\n{attribute}\n'.encode() + made + b's.'
                 result = self.look(f'{library}{number}.ckpt', content)
                 self.assertEqual([found.name for found in result.pickles[0].imports], [name])
                 self.assertEqual(list(judge.looks(result)), [], name)
+
+
+# What a pickler does with what a call of each name makes, by the `__reduce__` of its class; a set is enough for each. Nothing else passes.
+NOTHING, STATE, ITEMS = frozenset(), frozenset(('state',)), frozenset(('items', 'pairs'))
+DAY = (b'\x07\xe4\x01\x01',)
+MADE: Tuple[Tuple[str, Made, FrozenSet[str]], ...] = (
+    ('plain', Made('datetime.date', DAY), NOTHING), ('plain', Made('collections.OrderedDict'), ITEMS), ('plain', Made('collections.defaultdict'), ITEMS),
+    ('plain', Made('collections.Counter', ({'a': 1},)), NOTHING), ('plain', Made('collections.deque', ((), 5)), ITEMS),
+    ('plain', Made('random.Random', state=(3, (1, 2), None)), STATE), ('plain', Made('uuid.UUID', is_new=True), STATE),
+    ('plain', Made('urllib.parse.ParseResult', ('a',), is_new=True), NOTHING), ('plain', Made('builtins.ValueError', ('a',)), STATE),
+    ('plain', Made('copyreg._reconstructor', (Named('argparse.Namespace'), object, None)), STATE),
+    ('numpy', Made('numpy.dtype', ('f8', False, True), state=(3, '<', None, None, None, -1, -1, 0)), STATE),
+    ('numpy', Made('numpy.ma.core.MaskedConstant'), NOTHING),
+    ('numpy', Made('numpy.core.multiarray._reconstruct', (Named('numpy.ndarray'), (0,), b'b')), STATE),
+    ('numpy', Made('numpy._core.multiarray._reconstruct', (Named('numpy.ndarray'), (0,), b'b')), STATE),
+    ('numpy', Made('numpy.core.numeric._frombuffer', (b'a',)), NOTHING), ('numpy', Made('numpy.random._pickle.__randomstate_ctor', ('MT19937',)), STATE),
+    ('joblib', Made('joblib.numpy_pickle.NumpyArrayWrapper', is_new=True), STATE),
+    ('pandas', Made('pandas._libs.internals._unpickle_block', (1,)), NOTHING), ('pandas', Made('pandas._libs.arrays.__pyx_unpickle_NDArrayBacked', (1,)), STATE),
+    ('pandas', Made('pandas.core.frame.DataFrame', is_new=True), STATE), ('pandas', Made('pandas._libs.tslibs.timestamps._unpickle_timestamp', (1,)), NOTHING),
+    ('scipy', Made('scipy.sparse._csr.csr_matrix', is_new=True), STATE), ('scipy', Made('scipy.optimize._optimize.OptimizeResult', is_new=True), STATE | ITEMS),
+    ('sklearn', Made('sklearn.tree._tree.Tree', (1,)), STATE), ('sklearn', Made('sklearn.linear_model._sgd_fast.Hinge', (1.0,)), NOTHING),
+    ('sklearn', Made('sklearn.utils._bunch.Bunch', is_new=True), STATE | ITEMS), ('sklearn', Made('sklearn.svm._classes.SVC', is_new=True), STATE),
+    ('torch', Made('torch._utils._rebuild_tensor_v2', (1,)), NOTHING), ('torch', Made('collections.OrderedDict'), STATE | ITEMS),
+    ('torch', Made('torch._utils._rebuild_parameter', (1,)), NOTHING), ('torch', Made('torch.Size', ((1,),)), NOTHING),
+    ('torch-modules', Made('torch.nn.modules.linear.Linear', is_new=True), STATE), ('xgboost', Made('xgboost.core.Booster', is_new=True), STATE),
+    ('networkx', Made('networkx.classes.graph.Graph', is_new=True), STATE), ('xarray', Made('xarray.core.variable.Variable', is_new=True), STATE),
+    ('lightning', Made('lightning.fabric.utilities.data.AttributeDict', is_new=True), STATE | ITEMS),
+    ('transformers', Made('transformers.trainer_utils.IntervalStrategy', ('no',)), NOTHING),
+    ('transformers', Made('transformers.training_args.TrainingArguments', is_new=True), STATE))
+
+
+class WhatCallsMake(unittest.TestCase):
+    """What may be done with it."""
+
+    def test_each_set_has_a_row(self) -> None:
+        self.assertEqual({word for word, _, _ in MADE}, set(SETS))
+
+    def test_rows(self) -> None:
+        for word, made, passing in MADE:
+            for use, protocol in itertools.product(('', *WORD_OF), (2, 4)):
+                with self.subTest(word, name=made.name, use=use, protocol=protocol):
+                    content = made.pickled(use, protocol)
+                    answer = gate(content, allow=[word])
+                    self.assertEqual(bool(answer), not use or use in passing, answer.line)
+                    if not answer:
+                        self.assertEqual(answer.kind, 'not allowed')
+                        with self.assertRaisesRegex(NotAllowed, f'{WORD_OF[use]} {re.escape(made.name)}'):
+                            check(content, allow=[word])
+
+    def test_what_only_protocols_0_and_1_make(self) -> None:
+        """`copyreg._reduce_ex` gives a state, and never items; what else `copyreg` makes gets a state at most, too."""
+        for name, given in (('_reconstructor', (object, None)), ('__newobj__', ()), ('__newobj_ex__', ((), {}))):
+            made = Made(f'copyreg.{name}', (Named('argparse.Namespace'), *given))
+            for use, protocol in itertools.product(('', 'state', 'items', 'pairs', 'call'), (0, 1)):
+                with self.subTest(name, use=use, protocol=protocol):
+                    answer = gate(made.pickled(use, protocol), allow=['plain'])
+                    self.assertEqual(bool(answer), use in ('', 'state'), answer.line)
+
+    def test_a_line_beside_a_set_says_what_may_be_done(self) -> None:
+        """The set only lets the name be imported."""
+        for use in WORD_OF:
+            content = Made('numpy.mean', (1,)).pickled(use, 4)
+            for line, passes in (('numpy.mean: call made', False), (f'numpy.mean: call {WORD_OF[use]}', True), ('numpy.mean: call', True)):
+                self.assertEqual(bool(gate(content, allow=['numpy'], names=[line])), passes, (use, line))
+
+    def test_what_getattr_gives(self) -> None:
+        """It goes by `getattr`, so a line for that says what may be done with it."""
+        for use in WORD_OF:
+            content = Made('builtins.getattr', (Named('argparse.Namespace'), 'mro')).pickled(use, 4)
+            for line, passes in (('builtins.getattr: call made', False), (f'builtins.getattr: call {WORD_OF[use]}', True)):
+                self.assertEqual(bool(gate(content, allow=['plain'], names=[line])), passes, (use, line))
 
 
 class Done(unittest.TestCase):
