@@ -31,6 +31,26 @@ def _take_terminal() -> None:
     fcntl.ioctl(0, termios.TIOCSCTTY, 0)
 
 
+def shown_at(words: List[str], folder: str, **environment: str) -> 'tuple[int, str]':
+    """The status of the package's command at a terminal of its own, and all that it shows there."""
+    master, slave = pty.openpty()
+    path = os.pathsep.join([_PACKAGE, os.environ.get('PYTHONPATH', '')])
+    process = subprocess.Popen([sys.executable, '-m', 'picklestep', *words], stdin=slave, stdout=slave, stderr=slave, cwd=folder,
+                               env={**os.environ, 'PYTHONPATH': path, **environment}, start_new_session=True)
+    os.close(slave)
+    read = b''
+    while True:
+        try:
+            block = os.read(master, 65536)
+        except OSError:  # (the end of a terminal's other side)
+            break
+        if not block:
+            break
+        read += block
+    os.close(master)
+    return process.wait(), read.decode('utf-8', 'replace').replace('\r\n', '\n')
+
+
 class Terminal:
     """The shell at a terminal of its own, with a home of its own for what was typed."""
 

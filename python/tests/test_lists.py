@@ -63,12 +63,12 @@ class Lines(unittest.TestCase):
             self.assertEqual((' '.join(sorted(found.words)), None if found.made is None else ' '.join(sorted(found.made))), (words, made), line)
 
     def test_lines_for_the_gate(self) -> None:
-        """They are those of the list, without what the gate does not read, and say the same when they are read again."""
+        """They are those of the list, without names in quotes, and say the same when they are read again."""
         lines = ['a.b', 'a.b: call', 'a.*: call(text 3) then(held) made-state  # why', 'a.**: made', "'os ' 'x'", '"it\'s" \'x\'', "'**", "'os' #*", 'ext 7', 'ext *',
                  'persistent', 'buffer: fill', 'torch.*Storage:', '**', 'été.Ärger: new']
         names = Names(lines)
         entries = list(names.entries())
-        self.assertEqual(entries, ['a.b: call new state fill', 'a.*: call new made-state', 'a.**: made', 'ext 7: call new state fill', 'ext *: call new state fill',
+        self.assertEqual(entries, ['a.b: call new state fill', 'a.b: call new', 'a.*: new call(text 3) then(held) made-state', 'a.**: made', 'ext 7: call new state fill', 'ext *: call new state fill',
                                    'persistent: call new state fill', 'buffer: fill', 'torch.*Storage:', '**: call new state fill', 'été.Ärger: new'])
         self.assertEqual(list(Names(entries).entries()), entries)
 
@@ -245,7 +245,8 @@ class Written(ScanCase):
         text = self.add('a.pkl', '--allow', 'ours')
         self.assertTrue(text.startswith(self.OURS.decode()))
         self.assertRegex(text[len(self.OURS):], r'\A\n# Added on \d{4}-\d\d-\d\d, seen first in a\.pkl\n'
-                                                r'numpy\.ndarray:  # once in 1 pickle, first in a\.pkl\n\Z')
+                                                r'numpy\.ndarray:  # once in 1 pickle, first in a\.pkl\n'
+                                                r'# Unused on \d{4}-\d\d-\d\d: zeta\.last, unused\.\*Thing, alpha\.First\n\Z')
         self.assertEqual(self.scan('a.pkl', '--allow', 'ours').returncode, 0)
 
     def test_nothing_new_changes_nothing(self) -> None:
@@ -259,10 +260,23 @@ class Written(ScanCase):
         self.file('ours', self.OURS)
         added = self.add('b.pkl', 'a.pkl')[len(self.OURS):].splitlines()
         self.assertRegex(added[1], r'seen first in 2 places, which the notes name$')
+        self.assertRegex(added.pop(), r'\A# Unused on \d{4}-\d\d-\d\d: zeta\.last, unused\.\*Thing\Z')
         self.assertEqual(added[2:], ['alpha.First: call  # once in 1 pickle, first in b.pkl', 'numpy.ndarray:  # once in 1 pickle, first in a.pkl',
                                      '# posix.system: call  # runs a shell command; once in 1 pickle, first in b.pkl'])
         marked = self.scan('b.pkl', '--brief', '--allow', 'ours').stdout
         self.assertEqual(re.findall(r'import (\S+) ', marked), ['posix.system', 'torch.load'])
+
+    def test_what_is_unused_is_told_once(self) -> None:
+        self.file('ours', self.OURS)
+        self.add('a.pkl')
+        text = self.add('b.pkl')
+        told = [line.partition(': ')[2] for line in text.splitlines() if line.startswith('# Unused on')]
+        self.assertEqual(told, ['zeta.last, unused.*Thing, numpy.ndarray'])
+        self.assertEqual(self.add('b.pkl'), text)
+
+    def test_all_are_used(self) -> None:
+        self.file('ours', b'numpy.ndarray\n# Unused on 2026-01-01: numpy.ndarray\ncollections.*\n')
+        self.assertEqual(self.add('a.pkl'), 'numpy.ndarray\ncollections.*\n')
 
     def test_names_in_quotes(self) -> None:
         self.file('ours', b'a.b\n')
@@ -275,7 +289,8 @@ class Written(ScanCase):
 
     def test_ends_of_lines_stay(self) -> None:
         self.file('ours', b'a.b\r\nc.d')
-        self.assertRegex(self.add('a.pkl'), r'\Aa\.b\r\nc\.d\r\n\r\n# Added [^\n]*\r\ncollections\.OrderedDict:[^\n]*\r\nnumpy\.ndarray:[^\n]*\r\n\Z')
+        self.assertRegex(self.add('a.pkl'), r'\Aa\.b\r\nc\.d\r\n\r\n# Added [^\n]*\r\ncollections\.OrderedDict:[^\n]*\r\nnumpy\.ndarray:[^\n]*\r\n'
+                                              r'# Unused on \S+: a\.b, c\.d\r\n\Z')
 
     def test_a_file_that_is_no_list_stays(self) -> None:
         for content, line in ((b'Dear A,\n', 1), (b'a.b\n\n<html>\n', 3), (b'\x80\x04N.', 1), (b'include nump\n', 1)):
@@ -321,7 +336,7 @@ class Written(ScanCase):
         written.check_list(str(path))
         Path(path).write_bytes(self.OURS + b'numpy.**\n')
         written.write_list(str(path), used)
-        self.assertEqual(path.read_bytes(), self.OURS + b'numpy.**\n')
+        self.assertTrue(path.read_bytes().startswith(self.OURS + b'numpy.**\n# Unused on '))
 
 
 if __name__ == '__main__':

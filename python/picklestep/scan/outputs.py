@@ -19,12 +19,15 @@ from .policy.baseline import IN_BASELINE, Marks
 from .report import Report
 from .results import Result
 from .sarif import Sarif
+from .table import Table, wants_table
 from .written import Used, check_list, write_list
 
 __all__ = ['WRITES', 'Output', 'leave']
 
 # The options that name a file to write.
 WRITES = ('sarif', 'report', 'junit', 'code_quality', 'write_baseline', 'write_allow')
+# With these options a terminal shows lines as they come, and no table.
+_IN_LINES = ('json', 'brief', 'lines', 'full', 'follow')
 _ENDINGS = {'.html': 'page', '.htm': 'page', '.md': 'markdown'}
 
 
@@ -49,7 +52,10 @@ class Output:
         if words.write_allow is not None:
             with naming(words.write_allow):
                 check_list(words.write_allow)
-        self.report = Report(sys.stdout, judges, words.json, words.brief, words.fail_on)
+        if sys.stdout.isatty() and not any(getattr(words, name) for name in _IN_LINES) and wants_table(words.paths):
+            self.report: Report = Table(sys.stdout, judges, words.fail_on)
+        else:
+            self.report = Report(sys.stdout, judges, words.json, words.brief, words.fail_on)
         self.summary = sys.stderr if words.json else sys.stdout
         # What keeps results, and what writes each file at the end.
         self._collectors: List[_Collector] = []

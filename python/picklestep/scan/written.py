@@ -7,7 +7,7 @@ import errno
 import os
 from dataclasses import dataclass, field
 from pathlib import Path
-from typing import Callable, Dict, Iterable, Iterator, List, Sequence, Set
+from typing import Callable, Dict, Iterable, Iterator, List, Sequence, Set, Tuple
 
 from ..saving import open_text, written_whole
 from ..sources import is_opened
@@ -20,6 +20,9 @@ from .through import why_through
 from .wording import count_of, place_of, shown, times
 
 __all__ = ['Used', 'check_list', 'write_list']
+
+# How the comment begins that says which names of a list are unused.
+_UNUSED = '# Unused on'
 
 
 @dataclass
@@ -61,6 +64,10 @@ class Used:
         left._uses = {name: use for name, use in self._uses.items() if not is_there(name, use.member, use.done)}
         return left
 
+    def names(self) -> Iterable[str]:
+        """The names."""
+        return self._uses
+
     def places(self) -> List[str]:
         """Where names were seen first."""
         return sorted({use.first for use in self._uses.values()})
@@ -95,23 +102,50 @@ def check_list(path: str) -> None:
 
 def write_list(path: str, used: Used) -> None:
     """Writes the names into a file. A list that is there stays as it is, and has those behind it that it does not allow yet and that no
-    comment of it has."""
+    comment of it has. A comment at its end says which of its names these files do not import."""
     if not _is_kept(path) and os.path.exists(path):
         with open_text(path) as file:
             file.writelines(f'{line}\n' for line in used.lines())
         return
     before = Path(path).read_bytes() if os.path.exists(path) else b''
-    added = _added(path, before, used)
-    if added or not os.path.exists(path):
+    after = _longer(path, before, used) if before.strip() else before + _joined(used.lines(), '\n')
+    if after != before or not os.path.exists(path):
         with written_whole(Path(path)) as whole:
-            whole.write(before + added)
+            whole.write(after)
 
 
-def _added(path: str, before: bytes, used: Used) -> bytes:
-    """What comes behind a list. Lines end as they do there."""
-    if not before.strip():
-        return _joined(used.lines(), '\n')
+def _longer(path: str, before: bytes, used: Used) -> bytes:
+    """A list with what comes behind it. Lines end as they do there."""
     names = _names_in(path)
+    end = '\r\n' if b'\r\n' in before else '\n'
+    kept, old = _without_unused(before)
+    added = _added(path, kept, names, used, end)
+    unused = ', '.join(_unused(path, kept, names, used))
+    if not added and unused == old:
+        return before
+    if not unused:
+        return kept + added
+    head = b'' if (kept + added).endswith((b'\n', b'\r')) else end.encode()
+    return kept + added + head + _joined([f'{_UNUSED} {datetime.date.today()}: {unused}'], end)
+
+
+def _without_unused(content: bytes) -> Tuple[bytes, str]:
+    """A list without the comment that says which of its names are unused, and what that says."""
+    lines = content.splitlines(keepends=True)
+    said = [line for line in lines if line.startswith(_UNUSED.encode())]
+    names = said[-1].decode('utf-8', 'replace').strip().partition(': ')[2] if said else ''
+    return b''.join(line for line in lines if line not in said), names
+
+
+def _unused(path: str, content: bytes, names: Names, used: Used) -> Iterator[str]:
+    """The names and patterns of a list itself that no used name fits."""
+    fitting = {line for name in used.names() for line in names.lines_of(name)}
+    own = dict.fromkeys(line.name for _, _, line in lines_of(content, path) if line is not None and not line.is_include)
+    return (name for name in own if name not in fitting)
+
+
+def _added(path: str, before: bytes, names: Names, used: Used, end: str) -> bytes:
+    """The lines that a list has not yet."""
     judge = Judge(names)
     struck = {line.name for line in map(read_comment, (text for _, text, _ in lines_of(before, path))) if line is not None}
 
@@ -123,7 +157,6 @@ def _added(path: str, before: bytes, used: Used) -> bytes:
     if not places:
         return b''
     seen = f'in {places[0]}' if len(places) == 1 else f'in {count_of(len(places), "place")}, which the notes name'
-    end = '\r\n' if b'\r\n' in before else '\n'
     head = ('' if before.endswith((b'\n', b'\r')) else end) + end
     return head.encode() + _joined([f'# Added on {datetime.date.today()}, seen first {seen}', *new.lines()], end)
 

@@ -1,0 +1,103 @@
+"""What a terminal shows of a run over several files: a line for each file, the worst first, and then what is marked."""
+
+from __future__ import annotations
+
+import os
+import shutil
+import sys
+from dataclasses import dataclass, field
+from typing import Dict, List, Optional, Sequence, TextIO, Tuple, Union
+
+from .judges import Judges
+from .looks import Judge, Look
+from .report import Report
+from .results import Result
+from .severity import FAILING, rank, worst_of
+from .stores.address import is_server
+from .wording import count_of, place_of
+
+__all__ = ['Table', 'wants_table']
+
+# So many files without a mark have a line, and so many marks of a file are shown.
+_MOST_UNMARKED, _MOST_MARKS = 20, 20
+_NO_MARK = 'no mark'
+_WIDTH = max(map(len, (*FAILING, _NO_MARK)))
+# How a terminal shows each severity: the numbers of ECMA-48's SGR.
+_COLOURS = {'critical': '1;31', 'high': '31', 'medium': '33', 'unread': '36'}
+# A name of a file has at most this part of a line.
+_OF_LINE = 2
+
+
+def wants_table(paths: Sequence[str]) -> bool:
+    """Whether a run over these paths, which a terminal shows, is about several files."""
+    return not any(map(is_server, paths)) and (len(paths) > 1 or paths[0] == '-' or os.path.isdir(paths[0]))
+
+
+def _has_colours() -> bool:
+    """Whether the terminal shows colours, and the user wants them (https://no-color.org)."""
+    return not os.environ.get('NO_COLOR') and os.environ.get('TERM', 'dumb') != 'dumb' and sys.stdout.isatty()
+
+
+@dataclass
+class _Row:
+    """What there is to say of a file: its worst severity, the text of the worst mark, how many marks there are, and the lines of the marks."""
+
+    severity: Optional[str] = None
+    text: str = ''
+    marks: int = 0
+    lines: List[Tuple[str, str]] = field(default_factory=list)
+
+
+class Table(Report):
+    """Keeps what is marked, and shows it at the end."""
+
+    def __init__(self, out: TextIO, judge: Union[Judge, Judges], fail_on: str = FAILING[-1], width: Optional[int] = None,
+                 has_colours: Optional[bool] = None) -> None:
+        super().__init__(out, judge, fail_on=fail_on)
+        self._rows: Dict[str, _Row] = {}
+        self._width = width or shutil.get_terminal_size().columns
+        self._has_colours = _has_colours() if has_colours is None else has_colours
+
+    def write(self, result: Result, looks: List[Look]) -> None:
+        """Keeps what is marked in a file."""
+        row = self._rows.setdefault(result.path, _Row())
+        in_force = sorted((look for look in looks if not look.is_taken), key=lambda look: rank(look.severity))
+        if result.left is not None:
+            row.text = f'skipped: {result.left}'
+        if in_force and rank(in_force[0].severity) < rank(row.severity):
+            row.severity, row.text = worst_of(look.severity for look in in_force), in_force[0].text
+        row.marks += len(in_force)
+        for look in in_force[:max(0, _MOST_MARKS - len(row.lines))]:
+            row.lines.extend((look.severity, f'{place_of(result.path, look.where)}: {line}') for line in look.lines)
+
+    def summary(self) -> List[str]:
+        """The table, what is marked, and the counts over all files."""
+        rows = sorted(self._rows.items(), key=lambda row: (rank(row[1].severity), row[0]))
+        marked = [row for row in rows if row[1].severity is not None]
+        others = rows[len(marked):]
+        wide = min(max((len(place_of(path, ())) for path, _ in (*marked, *others[:_MOST_UNMARKED])), default=0), self._width // _OF_LINE)
+        lines = [self._line(path, row, wide) for path, row in (*marked, *others[:_MOST_UNMARKED])]
+        if len(others) > _MOST_UNMARKED:
+            lines.append(f'{"":{_WIDTH}}  and {count_of(len(others) - _MOST_UNMARKED, "more file")} without a mark')
+        for _, row in marked:
+            lines.extend(('', *self._marks(row)))
+        return [*lines, '', *super().summary()]
+
+    def _line(self, path: str, row: _Row, wide: int) -> str:
+        """The line of a file, as wide as the terminal."""
+        name = place_of(path, ())
+        name = name if len(name) <= wide else f'..{name[2 - wide:]}'
+        more = f' (and {row.marks - 1} more)' if row.marks > 1 else ''
+        room = max(10, self._width - _WIDTH - wide - 4 - len(more))
+        text = row.text if len(row.text) <= room else f'{row.text[:room - 2]}..'
+        return f'{self._coloured(row.severity, f"{row.severity or _NO_MARK:{_WIDTH}}")}  {name:{wide}}  {text}{more}'.rstrip()
+
+    def _marks(self, row: _Row) -> List[str]:
+        """The marks of a file, each with its calls."""
+        lines = [self._coloured(severity, '!') + ' ' + line for severity, line in row.lines]
+        return lines if row.marks <= _MOST_MARKS else [*lines, f'! and {count_of(row.marks - _MOST_MARKS, "more mark")} of this file']
+
+    def _coloured(self, severity: Optional[str], text: str) -> str:
+        if severity is None or not self._has_colours:
+            return text
+        return f'\x1b[{_COLOURS[severity]}m{text}\x1b[0m'
