@@ -139,10 +139,29 @@ def view(path: Path, edit: bool) -> None:
     run.wait()
 
 
+def processor_seconds(words: List[str]) -> float:
+    """What a run of scan took of the processors."""
+    before = os.times()
+    subprocess.run([sys.executable, '-m', 'picklestep', 'scan', '--brief', *words], stdout=subprocess.DEVNULL, check=False)
+    after = os.times()
+    return after.children_user + after.children_system - before.children_user - before.children_system
+
+
+def with_policy(files: List[str], policy: Path) -> str:
+    """What a policy of 200 rules costs, of which the last that is about a file decides: the least of five runs without it and with it, in turns."""
+    rules = ''.join(f'[[rules]]\npaths = ["*/{number}*.pkl", "kept/{number}/**"]\nallow = ["sklearn", "torch"]\n' for number in range(200))
+    policy.write_text('allow = ["sklearn", "torch"]\n' + rules)
+    without, following = (min(times) for times in zip(*(
+        [processor_seconds([*words, *files]) for words in (['--no-policy', '--allow', 'sklearn', '--allow', 'torch'], ['--policy', str(policy)])]
+        for _ in range(5))))
+    return f'{len(files):,} files: {without:.2f} s of a processor without a policy, {following:.2f} s with 200 rules: {following / without:.2f} times'
+
+
 def main(folder: Path) -> None:
     """Makes the files and measures."""
     folder.mkdir()
     make_files(folder / 'many')
+    print('scan', with_policy(sorted(map(str, (folder / 'many').iterdir()))[:FILES // 2], folder / 'picklestep.toml'))
     for jobs in ('4', '4', '1'):
         print(f'scan --jobs {jobs}:', measured(['--jobs', jobs, str(folder / 'many')]))
     make_large(folder / 'large.pt')

@@ -16,7 +16,7 @@ MODULES = [b"os", b"posix", b"a.b", b"commands", b"__builtin__", b"builtins", b"
 MEMBERS = [b"system", b"getoutput", b"unichr", b"eval", b"OrderedDict", b"x.y", b"_reconstructor", b"\xc3\xa9"]
 ODD_TEXTS = [b"\\u006fs", b"o\\x73", b"\xff", b"\xed\xa0\x80", b"a b", b"", b"\\", b"tab\there", b"\\U0001f600"]
 ODD_KEYS = [b" %d", b"%d ", b"+%d", b"%d\r", b"\t%d", b"0%d", b"%d\0", b"%d\0x", b"%d_0", b"-%d", b"%dL", b"0x%d", b""]
-ODD_NUMBERS = [b"I0x10\n", b"I1_0\n", b"L5\n", b"I 7\n", b"F1_0.5\n", b"Fnan\n", b"I01\n", b"I\n", b"Fx\n", b"S'a\n", b"S\"b\"\n", b"Sa\n"]
+ODD_NUMBERS = [b"I\0x\n", b"I0x10\n", b"I1_0\n", b"L5\n", b"I 7\n", b"F1_0.5\n", b"Fnan\n", b"I01\n", b"I\n", b"Fx\n", b"S'a\n", b"S\"b\"\n", b"Sa\n"]
 NO_TUPLES = [b"X\x02\0\0\0ab", b"C\x01a", b"]", b"}", b"\x8f", b"(\x91", b"N", b"K\x07", b"\x96\0\0\0\0\0\0\0\0"]
 FILLS = [b"(e", b"(\x90", b"(u", b"(NNe", b"Na", b"NNs", b"(NNu", b"(NN\x90", b"(NNNu", b"\x98", b"\x98Na", b"\x98(e"]
 EIGHT = b"\x02" + b"\0" * 7
@@ -321,3 +321,31 @@ def mixed(seed: int, count: int) -> Iterator[bytes]:
             if chance.random() < 0.2:
                 parts.append(b"B" + struct.pack("<I", 500) + bytes(500) + b"0")
         yield b"".join(parts) + b"clast\nact\n)R."
+
+
+# What brings something from elsewhere, in all ways.
+FIRST_ACTS = [
+    b"cos\nsystem\n", b"(ios\nsystem\n", b"Vos\nVsystem\n\x93", b"V\\u006fs\nVsystem\n\x93", b"S'os'\nS'system'\n\x93", b"U\x02osU\x06system\x93",
+    b"\x8c\x02os\x94X\x06\0\0\0system\x93", b"T\x02\0\0\0os\x8d\x06\0\0\0\0\0\0\0system\x93", b"\x82\x01", b"\x83\0\x01", b"Ptext\n", b"NQ", b"\x97",
+]
+QUIET: list[Callable[[Maker], None]] = [
+    *[Maker.plain] * 5, *[Maker.container] * 3, *[Maker.fill] * 3, *[Maker.memoize] * 3, *[Maker.recall] * 2, Maker.mark, Maker.cut, Maker.protocol, Maker.anything,
+]
+
+
+def quiet(seed: int, count: int) -> Iterator[bytes]:
+    """Pickles that bring nothing from elsewhere for a while, and some never, in frames of any lengths."""
+    chance = random.Random(f"quiet {seed}")
+    for _ in range(count):
+        odd = chance.choice([0, 0.1, 0.3])
+        maker = Maker(chance, odd)
+        for _ in range(chance.choice([1, 3, 6, 12])):
+            chance.choice(QUIET)(maker)
+        for _ in range(chance.choice([0, 1, 1, 1, 2])):
+            act = chance.choice(FIRST_ACTS) if chance.random() < 0.8 else b"c" + chance.choice(ODD_TEXTS) + b"\nx\n"
+            maker.opcodes.insert(chance.randrange(len(maker.opcodes) + 1), act)
+        if chance.random() < 0.3:
+            maker.opcodes.insert(chance.randrange(len(maker.opcodes) + 1), chance.choice([b"N.", b".", b"\x95" + struct.pack("<Q", 3) + b"NX\x01\0\0\0a00"]))
+        if chance.random() < 0.1:
+            maker.opcodes.insert(chance.randrange(len(maker.opcodes) + 1), _padding(chance))
+        yield b"".join(framed(chance, [*maker.opcodes, b"N."], chance.choice([0.2, 0.6, 0.9])) if chance.random() < 0.8 else maker.opcodes)

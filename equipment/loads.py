@@ -230,10 +230,14 @@ class Loads:
     acts: int = 0
 
     def text(self, case: bytes, options: Sequence[str]) -> str:
+        """What the program says that a case calls."""
+        return self.said(case, ["calls", *options])
+
+    def said(self, case: bytes, words: Sequence[str]) -> str:
         """What the program says of a case."""
         path = self.folder / "case"
         path.write_bytes(case)
-        done = subprocess.run([self.program, "calls", *options, str(path)], capture_output=True, close_fds=False, timeout=60, check=False)
+        done = subprocess.run([self.program, *words, str(path)], capture_output=True, close_fds=False, timeout=60, check=False)
         if done.returncode not in (0, 1) or done.stderr:
             return ""
         return done.stdout.decode("ascii")

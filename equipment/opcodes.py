@@ -40,8 +40,7 @@ NAMED = {
     "equipment/count_calls.py": set(),
     "equipment/real_pickles/answers.py": {"F2", "S3"},
     "python/picklestep/scan/canonical/pickles.py": set(),
-    "python/picklestep/scan/canonical/wide.py": set(),
-    "python/picklestep/scan/stores/walk.py": {"CHECKSUM", "MOST"},
+    "python/picklestep/scan/walk.py": {"CHECKSUM", "FIXED", "MOST"},
     "python/tests/test_answers.py": {"F1", "F2", "F5", "S10", "S2", "S3", "U1"},
 }
 

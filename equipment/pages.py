@@ -238,14 +238,14 @@ def fault_of_example(program: str, example: Example, file: Path) -> str:
     file.parent.mkdir(parents=True, exist_ok=True)
     file.write_bytes(bytes.fromhex(example.pickle))
     # (an example without commands is listed; a pickle that refers to an earlier one needs --many, and only calls is unsure, of one code with
-    # --memo kept)
-    words = {"S3 ..": ["list", "--many"], "U1": ["calls"], "U2": ["calls", "--memo", "kept"]}
+    # --memo kept, or warns)
+    words = {"S3 ..": ["list", "--many"], "U1": ["calls"], "U2": ["calls", "--memo", "kept"], "W1": ["calls"]}
     listed = words.get(example.code if example.code == "S3 .." else example.code[:2], ["list"])
     command = ["debug"] if example.commands else listed
     script = "".join(line + "\n" for line in example.commands).encode()
     done = subprocess.run([program, *command, str(file)], input=script, capture_output=True, timeout=60)
     said = done.stdout.decode("latin-1").splitlines()
-    last = [line for line in said if line.startswith(("refused: ", "fault: ", "unsure: "))] if not example.commands else said[-1:]
+    last = [line for line in said if line.startswith(("refused: ", "fault: ", "unsure: ", "warning: "))] if not example.commands else said[-1:]
     # (a code whose words depend on the pickle is known by its first word)
     wanted = example.code if not re.search(r"\.\.|\b[KO]\b", example.code) else example.code.split()[0] + " "
     if not any(wanted in line for line in last):

@@ -16,7 +16,7 @@ from conversations import REFUSALS, blocks_of, runs_of
 
 HERE = Path(__file__).resolve().parent
 TABLES = ("conversations.txt", "texts.txt", "calls.txt")
-# The words of the command line whose answers are proved, each with a page of help that has its options. (That of `debug` has its words, too.)
+# The words of the command line that the rows ask, each with a page of help that has its options. (That of `debug` has its words, too.)
 WORDS = (*REFUSALS, "debug")
 CODE = re.compile(r"\b[CEFSUVX]\d+\b")
 # Codes that no row meets, since what they refuse is too large for a row.

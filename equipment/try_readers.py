@@ -5,7 +5,11 @@ Each act has to have its line, but for two kinds that docs/LOADERS.md names, whi
 variable PYTHONS names a folder, all in it from 3.8 on (as pyenv has them: FOLDER/VERSION/bin/python3). How many lines are noticed when
 they are taken away is tried too: of a check that sees nothing no one would hear.
 
-    python3 -B try_readers.py PROGRAM SEED COUNT    other cases than the gate has, in all these Pythons
+What a loader does first has to be reached, as `reach` says it: of a loader that was given no more than what this needs. The cases are pickles that
+do nothing for long, in frames of any lengths.
+
+    python3 -B try_readers.py PROGRAM SEED COUNT          other cases than the gate has, in all these Pythons
+    python3 -B try_readers.py PROGRAM SEED COUNT reach    other cases for `reach` alone
 """
 
 from __future__ import annotations
@@ -28,16 +32,24 @@ import load_cases
 from load_readers import CUT_SHORT, SHOW_SOME
 from loads import BUFFERED, HELD, MOST_SHOWN, ROOT, SEED, Loads, matched, old_names, without_line
 from picklestep.answers import Calls
+from picklestep.hints import AT_FRAMES
 from trials.trial import Noted, Trial
 
 COUNT = 600
+REACHES = 5000
+# So many are loaded by one process.
+AT_ONCE = 5000
 FIRST = (3, 8)
-# Where a frame may be crossed or left early: from a file that shows some bytes ahead a loader may then do what no line shows.
-AT_FRAMES = ("F3", "F6", "F7", "F8", "U1", "U2")
 # Of 100 lines that are taken away so many are noticed. (The rest are those of what has no effect that an unpickler notes: nothing is filled in.)
 NOTICED = 98
 LINES = 400
 Acts = Sequence[Sequence[Any]]
+# What a loader has to be given for an act to be its first one.
+GIVEN = {"persistent": ("--persistent-ids",), "buffer": ("--buffers",), "extension": ("--extensions",)}
+# No module has such a sign in its name. (A loader that imports from one raises, and what it did then is not asked.)
+NO_MODULE = re.compile(r"""[\0-\x20\x7f"&'()*,/:-?\[\\\]{|}]""")
+# So many cases in a hundred begin with an act, at least, and so many reach nothing.
+BEGUN, QUIET = 30, 15
 
 
 @dataclass(frozen=True)
@@ -84,6 +96,7 @@ def pythons() -> dict[str, str]:
 def is_known(reader: str, text: str) -> str:
     """The kind of act without a line that the pages name, or an empty text where they name none."""
     answer = Calls(text)
+    # (where a frame may be crossed or left early: from a file that shows some bytes ahead a loader may then do what no line shows)
     is_at_frame = answer.end.code in AT_FRAMES or "unsure: U2 " in text or any(part.heading in (BUFFERED, HELD) for part in answer.parts)
     if reader in SHOW_SOME and is_at_frame:
         return "mixes of frames"
@@ -130,6 +143,54 @@ def try_python(loads: Loads, version: str, python: str, seed: int, count: int, r
     return Noted(why, f": {cases} cases, {tally.loads} loads, {tally.acts} acts; without a line, as the pages say: {known or 'none'}")
 
 
+@dataclass
+class Reached:
+    """Compares what loaders do first with what `reach` says."""
+
+    loads: Loads
+    begun: int = 0
+    nothing: int = 0
+    loaded: int = 0
+    found: list[str] = field(default_factory=list)
+
+    def add(self, case: bytes, done: Sequence[tuple[str, Acts]]) -> None:
+        """Judges what the readers do first with one case."""
+        first = {given for reader, acts in done if reader != CUT_SHORT for given in _given(acts)}
+        self.loaded += len(done)
+        self.begun += bool(first)
+        # (where no loader does anything `reach` may say so, and is to be asked to see that it does)
+        for given in first or {()}:
+            said = self.loads.said(case, ["reach", *given])
+            self.nothing += said.startswith("nothing reached: ")
+            if not said.startswith(("reached at ", "too many ways")) and (first or not said.startswith("nothing reached: ")):
+                readers = ", ".join(reader for reader, acts in done if given in _given(acts))
+                self.found.append(f"{readers}: {said.strip() or 'no answer'}: {case.hex()[:6000]}")
+
+
+def _given(acts: Acts) -> list[tuple[str, ...]]:
+    """What a loader was given that does these; nothing where it does nothing, or imports first from what can be no module."""
+    if not acts:
+        return []
+    what, _, *rest = acts[0]
+    if what == "import" and rest[0] != "extension":
+        return [()] if rest[0] and not NO_MODULE.search(rest[0]) else []
+    return [GIVEN.get("extension" if what == "import" else what, ())]
+
+
+def try_reach(loads: Loads, python: str, seed: int, count: int) -> Noted:
+    """Whether each loader that does something is said to reach it."""
+    loads.folder.mkdir(parents=True, exist_ok=True)
+    reached = Reached(loads)
+    for begin in range(0, count, AT_ONCE):
+        cases = list(load_cases.quiet(seed + begin, min(AT_ONCE, count - begin)))
+        for case, done in zip(cases, loads.done("reach", cases, ["--all"], python)):
+            reached.add(case, done)
+    shown = "; ".join(sorted(reached.found, key=len)[:MOST_SHOWN])
+    why = f"{len(reached.found)} differences, first {shown}" if reached.found else ""
+    why = why or ("" if reached.begun * 100 >= count * BEGUN and reached.nothing * 100 >= count * QUIET else "too few of one kind")
+    return Noted(why, f": {count} cases, {reached.loaded} loads, in {reached.begun} something is reached, {reached.nothing} answers that nothing is")
+
+
 def _without(text: str, offset: int, line: str) -> str:
     """A text without the lines of this opcode that say this."""
     begin = re.compile(rf" *{offset}: ")
@@ -160,7 +221,10 @@ def try_noticed(loads: Loads, real: Sequence[bytes]) -> Noted:
 
 def trials(loads: Loads, pickles: pathlib.Path) -> list[Trial]:
     real = [path.read_bytes() for path in sorted(pickles.glob("*.pickle"))]
-    made = [Trial("a line that is taken away is noticed", functools.partial(try_noticed, loads, real))]
+    made = [
+        Trial("a line that is taken away is noticed", functools.partial(try_noticed, loads, real)),
+        Trial("what loaders do first is reached", functools.partial(try_reach, loads, sys.executable, SEED, REACHES)),
+    ]
     for version, python in pythons().items():
         made.append(Trial(f"all readers of Python {version}", functools.partial(try_python, loads, version, python, SEED, COUNT, real)))
         if python != sys.executable:  # (of that one loads.py tries the names)
@@ -168,17 +232,18 @@ def trials(loads: Loads, pickles: pathlib.Path) -> list[Trial]:
     return made
 
 
-def main(program: str, seed: int, count: int) -> int:
-    """Tries other cases: the status is 1 where an act has no line."""
+def main(program: str, seed: int, count: int, is_reach: bool = False) -> int:
+    """Tries other cases: the status is 1 where an act has no line, or is not reached."""
     real = [path.read_bytes() for path in sorted((ROOT / "crates/real_pickles/data").glob("*.pickle"))]
     is_right = True
     with tempfile.TemporaryDirectory() as folder:
         for version, python in pythons().items():
-            noted = try_python(Loads(program, pathlib.Path(folder)), version, python, seed, count, real)
+            loads = Loads(program, pathlib.Path(folder))
+            noted = try_reach(loads, python, seed, count) if is_reach else try_python(loads, version, python, seed, count, real)
             print(f"{version}{noted.note} {noted.why}", flush=True)
             is_right = is_right and not noted.why
     return 0 if is_right else 1
 
 
 if __name__ == "__main__":
-    sys.exit(main(sys.argv[1], int(sys.argv[2]), int(sys.argv[3])))
+    sys.exit(main(sys.argv[1], int(sys.argv[2]), int(sys.argv[3]), sys.argv[4:] == ["reach"]))

@@ -13,14 +13,14 @@ from importlib import import_module
 from typing import TYPE_CHECKING, Any, List, Optional, Sequence, Tuple, Union, overload
 
 from .errors import NotOpened
-from .opens import BETWEEN, has_zip_behind, holds_others, split
+from .opens import BETWEEN, has_zip_behind, holds_others, is_at_server, may_have_arrays, split
 from .sources import Source, is_opened
 from .wording import shown
 
 if TYPE_CHECKING:
     from .scan.finder import Finding, Found
 
-__all__ = ['Member', 'Members', 'Opened', 'arrays_of', 'at_address', 'ends_early', 'given', 'is_in', 'left_out', 'members', 'opened',
+__all__ = ['Member', 'Members', 'Opened', 'arrays_of', 'ends_early', 'given', 'holes_of', 'is_in', 'left_out', 'members', 'opened', 'opened_in',
            'quoted', 'ranges', 'zip_behind']
 
 # So many addresses are shown, and so many lines of what was not looked at.
@@ -45,15 +45,17 @@ class Opened:
 @dataclass(frozen=True)
 class Member:
     """A pickle in a file: its address, and how many bytes it has. `skip` are those of them that are no opcodes (the numbers of joblib's arrays), as
-    `calls` takes them.
+    `calls` takes them. `kind` is the innermost container that it is in, as `scan` names it: 'zip', 'gzip', 'sqlite'. It is '' where the file is the
+    pickle, or other bytes stand around it.
 
-    >>> Member('model.pt > archive/data.pkl', 495)
-    Member(address='model.pt > archive/data.pkl', size=495, skip=())
+    >>> Member('model.pt > archive/data.pkl', 495, kind='zip')
+    Member(address='model.pt > archive/data.pkl', size=495, skip=(), kind='zip')
     """
 
     address: str
     size: int
     skip: Tuple[Tuple[int, int], ...] = ()
+    kind: str = ''
 
 
 class Members(Sequence[Member]):
@@ -87,26 +89,30 @@ class Members(Sequence[Member]):
 
 
 def members(path: 'Union[str, os.PathLike[str]]') -> Members:
-    """The pickles in a file, or below an address in it: those that `picklestep scan` finds, by its readers and within its limits.
+    """The pickles in a file or on a server, or below an address there: those that `picklestep scan` finds, by its readers and within its limits.
 
-    `calls` and the other functions take each address. A file that is a pickle itself has its own path for one. Raises OSError where the file cannot
-    be read.
+    `calls` and the other functions take each address. A file that is a pickle itself has its own path for one. Raises OSError where the file or the
+    server cannot be read. (The word `members` of the command line is another one: it lists what a zip archive has, whatever that is.)
 
     >>> import pathlib, zipfile
     >>> with zipfile.ZipFile('two.zip', 'w') as archive:
     ...     archive.writestr('a.pkl', b'N.'), archive.writestr('b.pkl', b'K\\x01.')
     (None, None)
-    >>> [member.address for member in members('two.zip')]
-    ['two.zip > a.pkl', 'two.zip > b.pkl']
+    >>> [(member.address, member.size, member.kind) for member in members('two.zip')]
+    [('two.zip > a.pkl', 2, 'zip'), ('two.zip > b.pkl', 3, 'zip')]
     """
     name = os.fsdecode(path)
     file, address = split(name) or (name, '')
-    with open(file, 'rb'):  # (which says why it cannot be read)
-        pass
-    finding = _finder().find(file, address)
+    if is_at_server(file):
+        finding = _finder().find_at_server(file, address)
+        file = finding.name
+    else:
+        with open(file, 'rb'):  # (which says why it cannot be read)
+            pass
+        finding = _finder().find(file, address)
     if finding.error is not None:
         raise OSError(f'cannot read {shown(file)}: {finding.error}')
-    return Members([Member(_address(file, each.name), each.size, each.raw) for each in finding.found], finding.missed)
+    return Members([Member(_address(file, each.name), each.size, each.raw, each.kind) for each in finding.found], finding.missed)
 
 
 def _finder() -> Any:
@@ -119,18 +125,17 @@ def _address(file: str, name: str) -> str:
 
 # --- One pickle ---
 
-def at_address(source: Source) -> Optional[Opened]:
-    """The pickle that a source is the address of. None of any other source."""
-    if not isinstance(source, (str, os.PathLike)):
-        return None
-    name = os.fsdecode(source)
-    return None if split(name) is None else opened(name)
+def opened_in(source: Source) -> Optional[Opened]:
+    """The same of a source of any kind. What is no path is read as it is."""
+    return opened(os.fsdecode(source)) if isinstance(source, (str, os.PathLike)) else None
 
 
 def opened(word: str) -> Optional[Opened]:
     """The pickle at an address; that in a container, where it has one. None where the file is read as it is. Raises NotOpened where no one pickle is
     meant."""
     parts = split(word)
+    if is_at_server(word):
+        return _of_server(*(parts or (word, '')))
     if parts is None and (is_opened(word) or not holds_others(word)):
         return None
     file, address = parts or (word, '')
@@ -140,6 +145,20 @@ def opened(word: str) -> Optional[Opened]:
     if finding.error is not None:
         raise NotOpened(f'cannot read {shown(file)}: {finding.error}')
     return _Choice(file, address, finding).opened()
+
+
+def _of_server(url: str, address: str) -> Opened:
+    """A value of a server, or what is in it. Raises NotOpened. (All of its values are not listed: there may be millions.)"""
+    if not address:
+        server = quoted(_finder().server_name(url))
+        raise NotOpened(f'{server} is a server: give the address of one value, as picklestep scan {server} prints it')
+    finding = _finder().find_at_server(url, address)
+    server = finding.name  # (without a password)
+    if finding.error is not None:
+        raise NotOpened(f'cannot read {shown(server)}: {finding.error}')
+    found = _Choice(server, address, finding).opened()
+    assert found is not None  # (with an address there is one, or NotOpened)
+    return found
 
 
 class _Choice:
@@ -187,6 +206,8 @@ class _Choice:
         return Opened(self.file, _address(self.file, self.address), self.finding.content, (), tuple(lines))
 
     def _where_else(self) -> List[str]:
+        if is_at_server(self.file):
+            return [f'nothing on {shown(self.file)} has the address {self.address!a}', *self._missed()]
         found = _finder().find(self.file)
         lines = [f'nothing in {shown(self.file)} has the address {self.address!a}' + (f': it has {_pickles(len(found.found))}' if found.found else '')]
         return [*lines, *_shown(self.file, found.found), *_missed(list(dict.fromkeys([*self.finding.missed, *found.missed])))]
@@ -245,6 +266,11 @@ def arrays_of(path: str) -> Tuple[Tuple[Tuple[int, int], ...], List[str]]:
     if arrays is None or not arrays.raw:
         return (), []
     return arrays.raw, left_out(path, arrays.raw, arrays.of_objects)
+
+
+def holes_of(path: str) -> Tuple[Tuple[int, int], ...]:
+    """The same bytes of a file that is read as it is, if it may have some. Raises OSError."""
+    return arrays_of(path)[0] if may_have_arrays(path) else ()
 
 
 def left_out(address: str, skip: Sequence[Tuple[int, int]], of_objects: int = 0) -> List[str]:

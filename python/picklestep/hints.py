@@ -5,7 +5,7 @@ from __future__ import annotations
 import re
 from typing import Optional, Set, Tuple
 
-__all__ = ['ARRAY', 'FRAME', 'OF_FRAMES', 'OLD_TORCH', 'WRAPPER', 'Watch', 'is_array_wrapper', 'of_array', 'of_frame']
+__all__ = ['ARRAY', 'AT_FRAMES', 'FRAME', 'IN_FRAMES', 'OF_FRAMES', 'OLD_TORCH', 'PAST_END', 'WRAPPER', 'Watch', 'is_array_wrapper', 'of_array', 'of_frame']
 
 # The lines, with a place for an offset, and for the word that reads on.
 ARRAY = 'a joblib file goes on at {} with an array, which is not read here: `picklestep scan FILE` reads on behind it'
@@ -13,6 +13,12 @@ FRAME = 'what is in that frame is not read: `picklestep {} --unframed FILE` does
 
 # What ends a reading at a frame: as an opcode like others it does not.
 OF_FRAMES = ('F6', 'F7', 'F8')
+# A frame in a frame, and an opcode that crosses the end of one: the reading of raw numbers does not get there.
+IN_FRAMES = ('F6', 'F8')
+# An argument and a frame that end behind the last byte: that of raw numbers does.
+PAST_END = ('F3', 'F7')
+# Where a mix of frames may lead a loader on without a heading.
+AT_FRAMES = (*IN_FRAMES, *PAST_END, 'U1', 'U2')
 # joblib goes on by itself where such an object gets its state: it reads an array, whose numbers are no opcodes.
 _WRAPPER = 'NumpyArrayWrapper'
 WRAPPER = _WRAPPER.encode('ascii')

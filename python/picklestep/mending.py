@@ -14,7 +14,7 @@ from dataclasses import dataclass
 from itertools import islice
 from typing import Dict, List, Optional, Set, Tuple
 
-from .addresses import at_address
+from .addresses import opened_in
 from .answers import Heap
 from .errors import PicklestepError, Refused
 from .hints import OF_FRAMES
@@ -75,7 +75,7 @@ def mended(source: Source, many: bool = False) -> Mended:
     9: STOP added
     9: APPENDS added: 2 objects into list #0
     """
-    opened = at_address(source)
+    opened = opened_in(source)
     content = content_of(source) if opened is None else opened.content
     steps: List[str] = []
     is_cut = False

@@ -1,14 +1,17 @@
-"""Which words are opened: the address of a pickle in a container, as `scan` prints it, and a file that begins like a container.
+"""Which words are opened: the address of a pickle in a container or on a server, as `scan` prints it, a file that begins like a container, and one
+that has arrays between its opcodes.
 
 This imports only what an interpreter has loaded when it starts, since the entrance uses it.
 """
 
 import os
 
-__all__ = ['BEGINS', 'BETWEEN', 'has_zip_behind', 'holds_others', 'is_taken_apart', 'split']
+__all__ = ['BEGINS', 'BETWEEN', 'ENOUGH', 'SERVERS', 'begins_like_one', 'has_zip_behind', 'holds_others', 'is_at_server', 'is_taken_apart', 'may_have_arrays', 'split']
 
 # What stands between the names of an address.
 BETWEEN = ' > '
+# The servers whose values have addresses, as their URLs begin. (`scan` has the table of what reads them.)
+SERVERS = tuple(f'{scheme}://' for scheme in ('redis', 'rediss', 'memcached', 'memcacheds', 'postgresql', 'postgres', 'mysql', 'mariadb'))
 # How files begin that hold others: at which offset, and with which bytes. (`scan` has the table of what it opens, and looks closer. help/start.sh
 # asks the same.)
 BEGINS = (
@@ -19,20 +22,26 @@ BEGINS = (
     *((0, b'\x13\x57\x9a' + bytes([last])) for last in range(0xcd, 0xd2)), *((0, bytes([first]) + b'\x9a\x57\x13') for first in range(0xcd, 0xd2)),
     (12, b'\x61\x15\x06\0'), (12, b'\0\x06\x15\x61'),
 )
-_ENOUGH = max(offset + len(magic) for offset, magic in BEGINS)
+# So many bytes show that.
+ENOUGH = max(offset + len(magic) for offset, magic in BEGINS)
 # The record that closes a zip archive has so many bytes, and then a comment, whose length its last two bytes say.
 _CLOSING, _RECORD, _MOST_OF_COMMENT = b'PK\x05\x06', 22, 0xffff
+# Where a file is searched for the name of joblib's arrays, and where for what torch wrote first before 1.6.
+_BLOCK, _MOST_SEARCHED, _BEGIN_OF_TORCH = 1 << 18, 64 << 20, 32
 
 
 def split(word: str) -> 'tuple[str, str] | None':
-    """The file of an address, and the names behind it: the longest beginning that names a file. None where the word is no address: a file has this
-    name, or none has that of a beginning.
+    """The file of an address, and the names behind it: the longest beginning that names a file, or the URL of a server. None where the word is no
+    address: a file has this name, or none has that of a beginning.
 
-    >>> split('no file > a') is None, split('model.pt') is None
-    (True, True)
+    >>> split('no file > a') is None, split('model.pt') is None, split('redis://host/0 > key')
+    (True, True, ('redis://host/0', 'key'))
     """
     if BETWEEN not in word or os.path.lexists(word):
         return None
+    if is_at_server(word):
+        url, _, address = word.partition(BETWEEN)
+        return url, address
     at = word.rfind(BETWEEN)
     while at > 0:
         if os.path.isfile(word[:at]):
@@ -54,15 +63,52 @@ def holds_others(path: str) -> bool:
         return True
     try:
         with open(path, 'rb', buffering=0) as file:
-            head = file.read(_ENOUGH)
+            head = file.read(ENOUGH)
     except OSError:
         return False  # (whoever opens it says so)
+    return begins_like_one(head)
+
+
+def begins_like_one(head: bytes) -> bool:
+    """Whether bytes begin like a container.
+
+    >>> begins_like_one(b'PK\\x03\\x04'), begins_like_one(b'N.')
+    (True, False)
+    """
     return any(head.startswith(magic, offset) for offset, magic in BEGINS)
+
+
+def is_at_server(word: str) -> bool:
+    """Whether a word begins as the URL of a server whose values are opened, and no file has this name.
+
+    >>> is_at_server('redis://host/0 > key'), is_at_server('Rediss://host'), is_at_server('https://host/model.pt')
+    (True, True, False)
+    """
+    return word.lower().startswith(SERVERS) and not os.path.lexists(word)
 
 
 def is_taken_apart(word: str) -> bool:
     """Whether a word is opened, rather than read as it is."""
-    return split(word) is not None or holds_others(word)
+    return split(word) is not None or is_at_server(word) or holds_others(word)
+
+
+def may_have_arrays(path: str) -> bool:
+    """Whether a file has the name of joblib's arrays near its beginning, or begins as torch wrote before 1.6. (Behind the first array that comes
+    later a hint leads to `scan`.)"""
+    if path.startswith(('/dev/', '/proc/')) or not os.path.isfile(path):
+        return False
+    from .hints import OLD_TORCH, WRAPPER
+    room, kept, left = bytearray(_BLOCK), 0, _MOST_SEARCHED
+    view = memoryview(room)
+    with open(path, 'rb', buffering=0) as file:
+        while left > 0 and (count := file.readinto(view[kept:])):
+            end = kept + count
+            if room.find(WRAPPER, 0, end) >= 0 or left == _MOST_SEARCHED and room.find(OLD_TORCH, 0, _BEGIN_OF_TORCH) >= 0:
+                return True
+            kept = min(len(WRAPPER) - 1, end)
+            room[:kept] = room[end - kept:end]
+            left -= count
+    return False
 
 
 def has_zip_behind(path: str) -> bool:

@@ -13,15 +13,16 @@ from pathlib import Path
 from typing import Dict, Iterator, List, Optional, Sequence, Tuple, Union, overload
 
 from . import library, replies
-from .addresses import at_address
+from .addresses import is_in, opened_in
 from .answers import Calls, Heap, Items, Listing, ShownObjects
 from .arguments import ArgumentValue, encoded
-from .errors import ProgramError, Refused, TimedOut
+from .errors import PicklestepError, ProgramError, Refused, TimedOut
 from .program import Process, check_timeout, run_program
 from .records import Mark, Ran, Ref, Where
 from .saving import written_whole
 from .sources import Input, OwnFile, Source, is_opened, is_word
 from .tasks import AskedOfEdits, calls_of, frames_of, listing_of, modes
+from .wording import shown
 
 __all__ = ['SHIFTS', 'Session']
 
@@ -166,7 +167,9 @@ class Session(contextlib.AbstractContextManager['Session']):
                  timeout: Optional[float] = None, memory: Optional[int] = None) -> None:
         check_timeout(timeout)
         self._limits = (timeout, memory)
-        opened = at_address(source)
+        opened = opened_in(source)
+        # The file that the pickle was opened in, if it was: it is not written over.
+        self._container = '' if opened is None else opened.path
         self._input = Input(source if opened is None else opened.content, own=True)
         self._many, self._unframed = many, unframed
         self._words = ['debug', self._input.path, *modes(many, unframed)]
@@ -456,7 +459,8 @@ class Session(contextlib.AbstractContextManager['Session']):
         return AskedOfEdits(content, self._many, self._unframed, b''.join(self._talk.edits()), self.bytes, *self._limits)
 
     def save(self, path: Union[str, 'os.PathLike[str]']) -> None:
-        """Writes the pickle with the edits that are not undone into a file, which may be the one that was opened.
+        """Writes the pickle with the edits that are not undone into a file, which may be the one that was opened. Raises PicklestepError where that is
+        a container: nothing is written into one, or in its place.
 
         >>> import pathlib, tempfile
         >>> with tempfile.TemporaryDirectory() as folder, Session(b'N.') as session:
@@ -465,6 +469,8 @@ class Session(contextlib.AbstractContextManager['Session']):
         (0, None, b'K\\x05.')
         """
         name = os.path.join(os.getcwd(), os.fsdecode(path))
+        if self._container and is_in(os.fsdecode(path), self._container):
+            raise PicklestepError(f'cannot write {shown(os.fsdecode(path))}: nothing is written into a container')
         if is_word(name) and not is_opened(name, to_write=True):
             self._save(name, [], self._talk.edits())
         else:

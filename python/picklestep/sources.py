@@ -85,6 +85,15 @@ class Input:
         content = self._own.beginning(most + 1)
         return content if len(content) <= most else None
 
+    def beginning(self, most: int) -> bytes:
+        """Its first bytes, up to so many; none of what is read once."""
+        if self._own is not None:
+            return self._own.beginning(most)
+        if not os.path.isfile(self.path):
+            return b''
+        with open(self.path, 'rb', buffering=0) as file:
+            return file.read(most)
+
     def size(self) -> int:
         """How many bytes it has; of what is no file, how many it may have."""
         status = os.stat(self.path)

@@ -8,7 +8,7 @@ from typing import Any, Dict, List, Optional, Tuple, Union
 
 from _compat_pickle import IMPORT_MAPPING, NAME_MAPPING
 
-from .addresses import at_address
+from .addresses import opened_in
 from .changes import changed
 from .errors import NoResult
 from .hints import OF_FRAMES
@@ -187,7 +187,7 @@ def tree(pickle: Source, *, many: bool = False, unframed: bool = False, timeout:
 def values(pickle: Source, many: bool, unframed: bool, timeout: Optional[float], memory: Optional[int]) -> Tuple[Values, Any]:
     """The values of all objects, and what `tree` answers."""
     check_timeout(timeout)
-    opened = at_address(pickle)
+    opened = opened_in(pickle)
     pickle = pickle if opened is None else opened.content
     if timeout is None or not is_fifo(pickle):  # (with a timeout it is the program that waits for the writer of a FIFO)
         pickle = rereadable(pickle)

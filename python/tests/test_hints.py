@@ -83,7 +83,7 @@ class Answers(unittest.TestCase):
 
     def test_whole_pickles_have_none(self) -> None:
         for path in chosen(REAL, 20):
-            answer, written = picklestep.calls(path), picklestep.source(path)
+            answer, written = picklestep.calls(path.read_bytes()), picklestep.source(path.read_bytes())
             self.assertEqual((len(answer.hints), answer.array_at), (int(answer.end.code in ('F6', 'F7', 'F8')), None), path.name)
             self.assertEqual('Running this does the same' in written[0], written.end.is_stopped and not written.kept, path.name)
 

@@ -31,16 +31,17 @@ from unittest import mock
 
 import picklestep
 from examples_of_using import blocks
-from picklestep import answering, scan
+from picklestep import scan
 from picklestep.diff import main as diff
 from picklestep.hints import WRAPPER
 from picklestep.mend import main as mend
-from picklestep.opens import BEGINS, has_zip_behind, holds_others, split
+from picklestep.opens import BEGINS, SERVERS, has_zip_behind, holds_others, may_have_arrays, split
 from picklestep.place import find_program, is_module
 from picklestep.python_source import main as source
 from picklestep.scan.blobs import Limits
 from picklestep.scan.containers import CONTAINERS, STORES
 from picklestep.scan.looking import Options
+from picklestep.scan.stores.address import SERVERS as READ_BY
 from picklestep.shell import main as shell
 from picklestep.view import main as view
 from pickles import LIST, REAL, chosen
@@ -166,6 +167,19 @@ class WordsOfTheProgram(OpenerCase):
             self.assertEqual((run.returncode, run.stdout), (2, ''), way)
             self.assertEqual(run.stderr, "picklestep: 'two.zip > a.pkl' is the address of a pickle, which a word opens: picklestep calls ADDRESS\n")
 
+    def test_gate(self) -> None:
+        """Its list comes before the file that is opened."""
+        self.file('names.txt', b'posix.system\n')
+        self.file('two.zip', zipped(PICKLES))
+        self.file('alone.pkl', HOSTILE)
+        alone = self.start([find_program(), 'gate', 'names.txt', 'alone.pkl'])
+        for way, run in self.runs(['gate', 'names.txt', 'two.zip > a.pkl']):
+            self.assertEqual((run.returncode, run.stdout), (alone.returncode, alone.stdout), run.stderr)
+            self.assertEqual(run.stderr, "picklestep: opened 'two.zip > a.pkl' (25 bytes)\n", way)
+        for way, run in self.runs(['gate', 'names.txt', 'two.zip']):
+            self.assertEqual((run.returncode, run.stdout), (2, ''), way)
+            self.assertIn('with 2 pickles: give the address of one', run.stderr)
+
     def test_debug(self) -> None:
         """It reads standard input, and saves into another file."""
         path, before = self.model('torch_state.pt'), (MODELS / 'torch_state.pt').read_bytes()
@@ -242,6 +256,7 @@ class Plain(OpenerCase):
         for kind in (*CONTAINERS, *STORES):
             if kind.magic:
                 self.assertTrue(any(kind.magic.startswith(magic) or magic.startswith(kind.magic) for offset, magic in BEGINS if not offset), kind.name)
+        self.assertEqual(set(SERVERS), {f'{scheme}://' for scheme in READ_BY})
         for number, (offset, magic) in enumerate(BEGINS):
             self.file(f'begins_{number}', bytes(offset) + magic + b'\x08\0\x01\xff' * 100)
         self.file('shelf.dat', HOSTILE)
@@ -276,6 +291,27 @@ class WordsOfThePackage(OpenerCase):
         status, out, errors = self.say(functools.partial(source, ['two.zip']))
         self.assertEqual((status, out), (2, ''))
         self.assertIn("\n  'two.zip > b.pkl'  # ", errors)
+
+    def test_source_of_what_is_not_all(self) -> None:
+        """The first line does not say that running it does the same, and the last ones say why."""
+        whole = pickle.dumps([1], 4)
+        for name, content, said in (
+                ('kept.pkl', HOSTILE + b'abc', '# 3 bytes after STOP are not read'),
+                ('both.pkl', HARMLESS + zipped(PICKLES), '# a zip archive stands at the end of both.pkl, which some loaders open'),
+                ('a.joblib', HIDDEN, '# a joblib file goes on at')):
+            with self.subTest(name):
+                self.file(name, content)
+                out = self.say(functools.partial(source, [name]))[1]
+                self.assertNotIn('Running this does the same', out)
+                self.assertIn(said, out)
+        self.assertIn('# the bytes begin like a container', picklestep.source(io.BytesIO(zipped(PICKLES))).text)
+        self.assertIn('Running this does the same', picklestep.source(whole).text)
+        # C's unpickler refuses a frame that does not fit.
+        wrong = whole[:3] + (1000).to_bytes(8, 'little') + whole[11:]
+        with self.assertRaises(pickle.UnpicklingError):
+            pickle.loads(wrong)
+        self.assertRegex(picklestep.source(wrong, unframed=True)[0], '^# What the opcodes would do if the lengths of frames counted for nothing')
+        self.assertIn('Running this does the same', picklestep.source(HOSTILE, unframed=True)[0])
 
     def test_diff(self) -> None:
         self.assertEqual(self.say(functools.partial(diff, ['two.zip > a.pkl', 'one.pkl.gz']))[:2], (0, ''))
@@ -318,6 +354,15 @@ class WordsOfThePackage(OpenerCase):
             page = Path(f'{number}.html').read_text(encoding='utf-8')
             self.assertIn(f'<h1>{title}</h1>', page)
             self.assertIn('posix', page)
+            self.assertRegex(page, '<p>.*(opened &#x27;two.zip &gt; a.pkl&#x27; |the one pickle in it is opened, &#x27;one.pkl.gz &gt; ).*</p>')
+        self.file('kept.pkl', HOSTILE + b'N.')
+        self.file('both.pkl', HARMLESS + zipped(PICKLES))
+        for name, said in (('kept.pkl', 'kept: 2 bytes after STOP'), ('both.pkl', 'a zip archive stands at the end of both.pkl')):
+            status, _, errors = self.say(functools.partial(view, [name, '--export', f'{name}.html']))
+            page = Path(f'{name}.html').read_text(encoding='utf-8')
+            self.assertEqual(status, 1)
+            self.assertIn('Not all of the file is in this report:', page)
+            self.assertIn(said, page)
         self.assertEqual(self.say(functools.partial(view, ['two.zip', '--export', 'out.html']))[0], 2)
         self.assertFalse(os.path.exists('out.html'))
 
@@ -338,6 +383,50 @@ class FromPython(OpenerCase):
         self.assertEqual(picklestep.compare(address, HOSTILE), [])
         with picklestep.Session(address) as session:
             self.assertEqual(session.bytes(), HOSTILE)
+
+    def test_paths_of_containers(self) -> None:
+        """The one pickle in it is opened; else the error has the list. Bytes and open files are read as they are."""
+        asks: List[Callable[[str], object]] = [picklestep.calls, picklestep.listing, picklestep.objects, picklestep.form, picklestep.source,
+                                               picklestep.tree, picklestep.gate, picklestep.Session]
+        for name, content in (('a.zip', zipped({'a.pkl': HOSTILE})), ('a.pkl.gz', gzip.compress(HOSTILE)), ('a.z', zlib.compress(HOSTILE))):
+            path = str(self.file(name, content))
+            self.assertEqual(picklestep.calls(path).text, picklestep.calls(HOSTILE).text)
+            self.assertEqual(picklestep.listing(Path(path)).text, picklestep.listing(HOSTILE).text)
+            self.assertEqual(picklestep.objects(path, timeout=60).text, picklestep.objects(HOSTILE).text)
+            self.assertEqual(picklestep.source(path).text, picklestep.source(HOSTILE).text)
+            self.assertEqual(picklestep.gate(path, names=['posix.system']).passes, picklestep.gate(HOSTILE, names=['posix.system']).passes)
+            self.assertEqual(picklestep.compare(path, HOSTILE), [])
+            with picklestep.Session(path) as session:
+                self.assertEqual(session.bytes(), HOSTILE)
+                with self.assertRaisesRegex(picklestep.PicklestepError, 'nothing is written into a container'):
+                    session.save(path)
+            self.assertEqual(Path(path).read_bytes(), content)
+            with open(path, 'rb') as file:
+                self.assertEqual(picklestep.calls(file).text, picklestep.calls(content).text)
+        self.file('two.zip', zipped(PICKLES))
+        self.file('none.zip', zipped({'a.txt': b'Dear all'}))
+        for ask in asks:
+            with self.assertRaisesRegex(picklestep.NotOpened, "^two.zip is a container .zip. with 2 pickles: give the address of one\n  'two.zip > a.pkl'  # 25"):
+                ask('two.zip')
+            with self.assertRaisesRegex(picklestep.NotOpened, '^none.zip is a container .zip., and no pickle is found in it$'):
+                ask('none.zip')
+
+    def test_arrays_of_a_path(self) -> None:
+        """They are left out, as the word does; and where that is not wanted they are not."""
+        path = self.file('a.joblib', HIDDEN)
+        found, = picklestep.members(path)
+        answer = picklestep.calls(path)
+        self.assertEqual((answer.skipped, answer.hints), (found.skip, ()))
+        self.assertIn("import 'builtins' 'eval'", answer.text)
+        self.assertEqual(picklestep.calls(path, skip=[]).text, picklestep.calls(HIDDEN).text)
+        self.assertEqual((picklestep.calls(HIDDEN).skipped, picklestep.calls(path, skip=[(3, 2)]).skipped), ((), ((3, 2),)))
+
+    def test_kinds(self) -> None:
+        made = {'a.pkl': (HOSTILE, ''), 'a.zip': (zipped({'a.pkl': HOSTILE}), 'zip'), 'a.pkl.gz': (gzip.compress(HOSTILE), 'gzip'),
+                'a.tgz': (gzip.compress(tarred({'a': HOSTILE})), 'tar'), 'a.npz': (zipped({'x.npy': array_of_objects(HOSTILE)}), 'npy'),
+                'few.bin': (b'v2:' + HOSTILE, ''), 'in.zip': (zipped({'a.pkl.gz': gzip.compress(HOSTILE)}), 'gzip')}
+        for name, (content, kind) in made.items():
+            self.assertEqual([each.kind for each in picklestep.members(self.file(name, content))], [kind], name)
 
     def test_what_is_not_there(self) -> None:
         self.file('two.zip', zipped(PICKLES))
@@ -430,7 +519,7 @@ class Arrays(OpenerCase):
     def test_names_between_blocks(self) -> None:
         for at in (0, 1, (1 << 18) - 17, (1 << 18) - 16, (1 << 18) - 1, 1 << 18, (1 << 19) - 30, 700_000):
             for name, is_there in ((WRAPPER, True), (WRAPPER[:-1], False)):
-                self.assertEqual(answering._may_have_arrays(str(self.file('a.bin', b'N' * at + name + b'.'))), is_there, at)
+                self.assertEqual(may_have_arrays(str(self.file('a.bin', b'N' * at + name + b'.'))), is_there, at)
 
 
 class Stores(OpenerCase):
@@ -562,7 +651,7 @@ class Hostile(OpenerCase):
 
     def test_archives_that_are_pickles(self) -> None:
         """The one pickle in it is opened, and it is said how its own bytes are read."""
-        self.file('a.tar', tarred({'in/a.pkl': HOSTILE}))
+        self.file('a.tar', tarred({'cposix\nsystem\n(Vid\ntR.': HOSTILE}))  # (a name at which a loader begins)
         self.assertIn((), [each.where for each in scan.look('a.tar').pickles])
         for way, run in self.runs(['calls', 'a.tar']):
             self.assertEqual((run.returncode, run.stdout), (0, picklestep.calls(HOSTILE).text), way)

@@ -70,11 +70,11 @@ import pickletools
 pickletools.opcodes.append(pickletools.OpcodeInfo('NEWER', '\\x9a', None, [], [pickletools.anyobject], 5, 'Is not known.'))
 from picklestep import source
 from picklestep.scan.blobs import BytesBlob
-from picklestep.scan.canonical.wide import reach_of
+from picklestep.scan.reach import reach_of
 from picklestep.shell.shell import Shell
 from picklestep.view.opcodes import opcode_table
 for begin in (b'', b'\\x9a'):
-    print(reach_of(BytesBlob(begin + b'cposix\\nsystem\\n(X\\x02\\0\\0\\0idtR.'))[0] is None)
+    print(reach_of(BytesBlob(begin + b'cposix\\nsystem\\n(X\\x02\\0\\0\\0idtR.')) is None)
 print(source(b'N.').text.splitlines()[-1], *(name in opcode_table() for name in ('NONE', 'NEWER')))
 """
 

@@ -31,9 +31,9 @@ import picklestep.scan
 from picklestep.scan import Judge, Options, look
 from picklestep.scan.blobs import BytesBlob
 from picklestep.scan.canonical.standard import STANDARD_MODULES
-from picklestep.scan.canonical.wide import reach_of
 from picklestep.scan.containers import CONTAINERS, STORES
 from picklestep.scan.names import Names
+from picklestep.scan.reach import leads_of
 from picklestep.scan.results import from_json, to_json
 from scan_support import HARMLESS, HOSTILE, MODELS, ScanCase, names_of, notes_of, places_of
 
@@ -267,7 +267,7 @@ class Containers(ScanCase):
                     content = begin + b''.join(some) + end + b'0' + rest
                     if any('system' in asked_for(kind, content) for kind in (pickle.Unpickler, pickle._Unpickler)):  # type: ignore[attr-defined]
                         gone_over += 1
-                        self.assertIsNotNone(reach_of(BytesBlob(content))[0], content)
+                        self.assertIsNotNone(leads_of(BytesBlob(content)).reach, content)
         self.assertGreater(gone_over, 1500)
 
     def test_long_lines(self) -> None:

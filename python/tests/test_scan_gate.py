@@ -19,7 +19,6 @@ import zlib
 from evasions import LOADERS, framed, short, tries, wrapper
 from picklestep.scan import Limits, Options, Result, look
 from picklestep.scan.allow import SETS, read_names
-from picklestep.scan.canonical import wide
 from scan_support import HARMLESS, HOSTILE, Made, ScanCase, names_of, notes_of, zip_of
 
 # What loads a try: Debian's Python, which has the libraries of Debian; elsewhere that of the tests.
@@ -133,10 +132,11 @@ class Whole(ScanCase):
         result = self.look('model.joblib', content.replace(flags, flags[:-2] + b'?t'))
         self.assertIn('flags of a numpy.dtype that do not fit its fields', notes_of(result))
 
-    def test_more_opcodes_in_numbers_than_are_gone_over_are_told(self) -> None:
-        for raw, told in ((b'N0' * 1000, True), (b'N' * 2000, False), (b'N0' * 30, False)):
+    def test_numbers_that_are_opcodes_are_told_where_they_import(self) -> None:
+        imports = short(b'posix') + short(b'system') + b'\x93'
+        for raw, told in ((b'N0' * 10_000, False), (b'N' * 2000, False), (b'N0' * 10_000 + imports + b'0', True), (b'N0' * 30 + imports, True)):
             content = framed(b'\x80\x04', wrapper(b'u1', len(raw))[2:]) + raw + b'.'
-            with self.subTest(raw[:2]), unittest.mock.patch.object(wide, '_MOST', 100):
+            with self.subTest(raw[-9:]):
                 self.assertEqual(is_told(self.look('model.joblib', content)), told)
 
     def test_another_form_is_told_with_its_place(self) -> None:

@@ -83,6 +83,7 @@ class Examples(StoreCase):
         port = self.redis()
         self.fill(python, 'redis_jobs', f'redis://:{SECRET}@127.0.0.1:{port}/0')
         self.check(' redis://', 1, python, {6379: port}, REDISCLI_AUTH=SECRET)
+        self.check("calls 'redis://", 1, python, {6379: port}, REDISCLI_AUTH=SECRET)
 
     def test_memcached(self) -> None:
         python = python_with('pymemcache')

@@ -547,7 +547,7 @@ class Running(unittest.TestCase):
     def test_export_of_several_pickles(self) -> None:
         self.file.write_bytes(SYSTEM + SYSTEM)
         out = self.folder / 'out.html'
-        self.assertEqual(main([str(self.file), '--export', str(out)]), 0)
+        self.assertEqual(main([str(self.file), '--export', str(out)]), 1)
         self.assertIn(f'6 opcodes, 1 imports, 1 calls. kept: {len(SYSTEM)} bytes after STOP; highest protocol among opcodes = 1.', out.read_text())
         self.assertEqual(main([str(self.file), '--many', '--export', str(out), '--force']), 0)
         self.assertIn('12 opcodes, 2 imports, 2 calls.', out.read_text())

@@ -4,7 +4,9 @@ from __future__ import annotations
 
 import re
 
-__all__ = ['HEAD', 'NAMES_WITHOUT_TAR', 'is_dotted', 'is_pickle_name', 'is_storage_name', 'tar_number', 'tar_sum_fits']
+from .canonical.standard import STANDARD_MODULES
+
+__all__ = ['HEAD', 'NAMES_WITHOUT_TAR', 'is_dotted', 'is_pickle_name', 'is_storage_name', 'may_be_imported', 'tar_number', 'tar_sum_fits']
 
 # The first bytes of a member, which show what it is.
 HEAD = 16_384
@@ -13,6 +15,9 @@ _PICKLE_NAME = re.compile(r'.*\.(pkl|pickle|pck|pcl|pk|p|joblib|pt|pth|ckpt|dill
 # Names of pickles that only Python's, joblib's and dill's loaders are given. (torch.load opens a tar archive.)
 NAMES_WITHOUT_TAR = re.compile(r'.*\.(pkl|pickle|pck|pcl|joblib|dill)', re.IGNORECASE | re.DOTALL)
 _STORAGE_NAME = re.compile(r'(.*/)?(data|constants)/[0-9]+', re.DOTALL)
+
+# No module of Python or of a package has such a sign in its name; headers of tables and lines of code have them.
+_NOT_IN_MODULES = re.compile(r"""[,;:"'()\[\]{}<>|&?*/=]""")
 
 _BLOCK_OF_TAR = 512
 
@@ -69,3 +74,32 @@ def is_dotted(text: bytes) -> bool:
         return all(part.isidentifier() for part in text.decode('utf-8').split('.'))
     except UnicodeDecodeError:
         return False
+
+
+def may_be_imported(module: bytes, name: bytes) -> bool:
+    """Whether something may be imported by these two: the module is printable, without blanks, and has none of the signs of text and code.
+
+    A module is imported before what is in it is looked for, however odd the name of that is. Only where the module is one word (many texts begin
+    so) and none of Python's own, the name has to be printable and without blanks as well.
+
+    >>> may_be_imported(b'lib-dynload._ctypes', b'dlopen'), may_be_imported(b'os.a b', b''), may_be_imported(b'a,b', b'c')
+    (True, True, False)
+    >>> may_be_imported(b'pip.__main__', b'a b'), may_be_imported(b'pip.', b'a b'), may_be_imported(b'\\xe9', b'c')
+    (True, False, True)
+    """
+    if module.partition(b'.')[0].decode('latin-1') in STANDARD_MODULES:
+        return True
+    named = _decoded(module)
+    return _may_be_name(named) and not _NOT_IN_MODULES.search(named) and ('.' in named.strip('.') or _may_be_name(_decoded(name)))
+
+
+def _decoded(text: bytes) -> str:
+    """A text as loaders read it. What is not UTF-8 is Latin-1 to one that was given this `encoding`."""
+    try:
+        return text.decode('utf-8', 'surrogatepass')
+    except UnicodeDecodeError:
+        return text.decode('latin-1')
+
+
+def _may_be_name(named: str) -> bool:
+    return named.isprintable() and ' ' not in named and any(letter.isalnum() or letter == '_' for letter in named)

@@ -15,12 +15,12 @@ from .begins import HEAD, is_pickle_name
 from .blobs import Budget, BytesBlob, LimitMet, Limits
 from .canonical.formed import BEHIND
 from .canonical.kinds import kinds_of
-from .canonical.wide import reach_of
 from .containers import LOADERS, Container
 from .gating import gate_by
 from .looking import Options, look_at_bytes
 from .looks import Judge
 from .names import Names
+from .reach import leads_of
 from .wording import place_of
 
 __all__ = ['check']
@@ -43,7 +43,8 @@ def check(source: Source, *, allow: Iterable[str] = (), names: Iterable[str] = (
     NoList where a line of a list has no meaning, and ValueError for another loader.
 
     Where there is a list, a pickle that is in no container and in the form that picklers write also has to pass `gate`, which says what is proved.
-    For the loader 'pickle' it has to be in that form. Of several pickles each one has to pass by itself.
+    For the loader 'pickle' it has to be in that form. Of several pickles each one has to pass by itself, as a new `Unpickler` loads it. What one
+    `Unpickler` does that loads them all, and keeps its memo, is not covered.
 
     >>> check(b'\\x80\\x02ccollections\\nOrderedDict\\n)R.', names=['collections.OrderedDict'])
     b'\\x80\\x02ccollections\\nOrderedDict\\n)R.'
@@ -62,7 +63,7 @@ def check(source: Source, *, allow: Iterable[str] = (), names: Iterable[str] = (
     lines: List[str] = []
     for look in Judge(allowed).looks(result):
         lines.extend(f'{place_of(name, look.where)}: {line}' for line in look.lines)
-    lines.extend(f'{place_of(name, ())}: {line}' for line in _in_containers(content, kinds, loader))
+    lines.extend(f'{place_of(name, ())}: {line}' for line in _in_containers(content, kinds, loader, options.limits))
     if not kinds and not result.pickles:
         lines.append(f'{place_of(name, ())}: no pickle is found in it')
     if allowed is not None and not kinds and not lines:
@@ -72,7 +73,7 @@ def check(source: Source, *, allow: Iterable[str] = (), names: Iterable[str] = (
     return content
 
 
-def _in_containers(content: bytes, kinds: List[Container], loader: Optional[str]) -> Iterator[str]:
+def _in_containers(content: bytes, kinds: List[Container], loader: Optional[str], limits: Limits) -> Iterator[str]:
     """Why a container is not fit for the loader, or for one that takes its bytes for a pickle."""
     if not kinds:
         return
@@ -80,9 +81,13 @@ def _in_containers(content: bytes, kinds: List[Container], loader: Optional[str]
     # (of what is not opened here it is not known which loaders open it; that it is not is marked)
     if loader is not None and not all(loader in kind.loaders or not kind.opener for kind in kinds):
         yield f'it is {said}, which {loader} does not open'
-    reach, _ = reach_of(BytesBlob(content))
+    try:
+        reach = leads_of(BytesBlob(content), Budget(limits)).reach
+    except LimitMet as limit:
+        yield f'it is {said}: {limit}'
+        return
     if reach is not None:
-        yield f'it is {said}, and as a pickle it leads a loader to {reach.what} at {reach.offset}'
+        yield f'it is {said}, and as a pickle it leads a loader to {reach}'
 
 
 def _in_gate(content: bytes, allowed: Names, loader: Optional[str], limits: Limits) -> Iterator[str]:

@@ -6,7 +6,7 @@ What is at other places of the file is left out, as far as a container says wher
 from __future__ import annotations
 
 from dataclasses import dataclass, replace
-from typing import Iterator, List, Optional, Sequence, Tuple
+from typing import Dict, Iterable, Iterator, List, Optional, Sequence, Tuple
 
 from ..opens import BETWEEN
 from ..sources import LIMIT
@@ -14,14 +14,17 @@ from ..wording import shown
 from .blobs import Blob, Budget, BytesBlob, LimitMet, Limits
 from .canonical import NotCanonical
 from .canonical.layouts import layout_of
-from .containers import Held
+from .containers import PACKED, Held
 from .looking import OF_ARRAYS, Looker, Options, Unpacked, look_by
 from .packed import Unpacking
-from .results import Pickle, Place
+from .results import Note, Pickle, Place
+from .stores.address import Address
 from .stores.dbm_files import has_index
+from .stores.server import Server, Wanted, looked_by
+from .stores.values import Values
 from .wording import place_of
 
-__all__ = ['Arrays', 'Finding', 'Found', 'arrays_in', 'content_at', 'find']
+__all__ = ['Arrays', 'Finding', 'Found', 'arrays_in', 'content_at', 'find', 'find_at_server', 'server_name']
 
 # So many pickles are kept of a file: a database may have millions.
 _MOST = 100_000
@@ -34,7 +37,7 @@ class Found:
     length.
 
     `content` are its bytes, of one that is asked for and of one that is alone. `is_cut` is set where there are more, which a limit keeps from
-    being unpacked.
+    being unpacked. `kind` is the innermost container that it is in.
     """
 
     where: Place
@@ -42,6 +45,7 @@ class Found:
     raw: Tuple[Tuple[int, int], ...] = ()
     content: Optional[bytes] = None
     is_cut: bool = False
+    kind: str = ''
 
     @property
     def name(self) -> str:
@@ -57,13 +61,14 @@ class Found:
 @dataclass(frozen=True)
 class Finding:
     """What is at an address. `kinds` are the containers that it is, `content` its bytes where they are held, `missed` has a line for each thing that
-    was not looked at, and `error` says why the file cannot be read."""
+    was not looked at, `error` says why the file cannot be read, and `name` is that of the file, or the URL of a server without its password."""
 
     found: Tuple[Found, ...]
     kinds: Tuple[str, ...]
     content: Optional[bytes]
     missed: Tuple[str, ...]
     error: Optional[str]
+    name: str
 
 
 def find(path: str, address: str = '', everywhere: bool = False, limits: Optional[Limits] = None) -> Finding:
@@ -71,8 +76,42 @@ def find(path: str, address: str = '', everywhere: bool = False, limits: Optiona
     options = Options(everywhere=everywhere) if limits is None else Options(limits, everywhere=everywhere)
     finder = _Finder(options, path, address)
     result = look_by(finder, path)
-    missed = [f'{place_of(path, note.where)}: {note.text}' for note in result.notes if note.is_marked and finder.wants(note.where)]
-    return Finding(tuple(finder.found()), tuple(finder.held_kinds), finder.content, tuple(missed), result.error)
+    return finder.finding(path, result.notes, result.error)
+
+
+def find_at_server(url: str, address: str = '', limits: Optional[Limits] = None) -> Finding:
+    """The pickles at an address of the values of a server and below it; without one, all of them. A value that has a key of its own is asked for by
+    that; of a database the whole column is read that has the value."""
+    server = Address(url)
+    finder = _Finder(Options() if limits is None else Options(limits), str(server), address, server.split.scheme.lower())
+    result = looked_by(finder, server, lambda connection, values: _look_at_keys(connection, values, finder, address))
+    return finder.finding(str(server), result.notes, result.error)
+
+
+def server_name(url: str) -> str:
+    """The URL of a server without its password."""
+    return str(Address(url))
+
+
+def _look_at_keys(server: Server, values: Values, finder: '_Finder', address: str) -> int:
+    """Looks at the keys of a server that are wanted: by themselves where the address says which they are, else all of them in turn."""
+    count = 0
+    named = server.keys_named(_beginnings(address)) if address else None
+    for keys in server.parts(Wanted()) if named is None else [named]:
+        wanted = server.narrowed(keys, finder.wants)
+        if wanted is not None:
+            count += server.look(values, wanted)
+    return count
+
+
+def _beginnings(address: str) -> List[str]:
+    """The names that an address may begin with, since a key may have the sign between names in it.
+
+    >>> _beginnings('a > b')
+    ['a', 'a > b']
+    """
+    names = address.split(BETWEEN)
+    return [BETWEEN.join(names[:count]) for count in range(1, len(names) + 1)]
 
 
 def content_at(path: str, where: Place, most: int, limits: Optional[Limits] = None) -> Optional[bytes]:
@@ -92,11 +131,14 @@ def _name_of(where: Place) -> str:
 class _Finder(Looker):
     """A looker that keeps the pickles at an address and below it."""
 
-    def __init__(self, options: Options, path: str, address: str) -> None:
+    def __init__(self, options: Options, path: str, address: str, kind: str = '') -> None:
         super().__init__(options)
-        self.held_kinds: List[str] = ['dbm.dumb'] if not address and has_index(path) else []
+        kind = kind or 'dbm.dumb' * has_index(path)
+        self.held_kinds: List[str] = [kind] if kind and not address else []
         self.content: Optional[bytes] = None
         self.wants_value = self._wants_value if address else None
+        # The containers that were opened, by where they are.
+        self._kinds_at: Dict[Place, str] = {(): kind}
         self._address = address
         self._below = address + BETWEEN if address else ''
         # Each with what is known of the pickle, if it is not a plain one: what was only guessed may be taken back.
@@ -109,6 +151,11 @@ class _Finder(Looker):
         """The pickles, in order."""
         known = set(map(id, self.pickles))
         return (found for pickle, found in self._found if pickle is None or id(pickle) in known)
+
+    def finding(self, name: str, notes: Iterable[Note], error: Optional[str]) -> Finding:
+        """What was found, under the name of the file or the server."""
+        missed = [f'{place_of(name, note.where)}: {note.text}' for note in notes if note.is_marked and self.wants(note.where)]
+        return Finding(tuple(self.found()), tuple(self.held_kinds), self.content, tuple(missed), error, name)
 
     # --- What is left out ---
 
@@ -145,7 +192,11 @@ class _Finder(Looker):
     # --- What is kept ---
 
     def _open(self, held: Held) -> bool:
+        before = self._kinds_at.get(held.where, '')
+        self._kinds_at[held.where] = str(held.kind)
         is_one = super()._open(held)
+        if not is_one:
+            self._kinds_at[held.where] = before
         if is_one and self._is_at(held.where) and str(held.kind) not in self.held_kinds:
             self.held_kinds.append(str(held.kind))
         return is_one
@@ -176,6 +227,7 @@ class _Finder(Looker):
         is_at = self._is_at(found.where)
         if len(self._found) >= _MOST or not (is_at or found.name.startswith(self._below)):
             return
+        found = replace(found, kind=self._kind_around(found.where))
         known = [other for other in self._held if other.where == found.where]
         is_alone = not self._count and not found.is_of_arrays
         if found.where and blob.size <= LIMIT and (is_at or is_alone or known):
@@ -187,6 +239,12 @@ class _Finder(Looker):
                 found = whole
         self._count += int(not is_at and not found.is_of_arrays)
         self._found.append((pickle, found))
+
+
+    def _kind_around(self, where: Place) -> str:
+        """The innermost container that has what is at a place. (What a value of a store is packed by is in its name alone.)"""
+        packed = next((each.name for each in PACKED if where[-1:] == (f'({each.name})',)), '')
+        return packed or next((self._kinds_at[where[:count]] for count in range(len(where) - 1, -1, -1) if self._kinds_at.get(where[:count])), '')
 
 
 # --- Arrays between opcodes ---

@@ -22,6 +22,7 @@ from io import FileIO
 from operator import or_
 from typing import Any, BinaryIO, Callable, Iterator, List, Optional, Sequence, Tuple, Union, cast
 
+from ..hints import IN_FRAMES
 from ..sources import LIMIT, is_opened
 from . import stores, zips
 from .begins import HEAD, is_pickle_name, is_storage_name
@@ -29,12 +30,14 @@ from .blobs import CHUNK, Blob, Budget, BytesBlob, FileBlob, JoinedBlob, LimitMe
 from .canonical import Form, NotCanonical, NotKnown, torch
 from .canonical.forms import WRITERS
 from .canonical.kinds import asked_form, begun_form, kinds_of
-from .canonical.layouts import Layout, another_import, layout_of
-from .canonical.wide import may_lead_on, reach_of
+from .canonical.layouts import Layout, layout_of
 from .containers import CONTAINERS, Container, Held
+from .costs import heavy_tuple, many_layers
 from .other_forms import ending, forms_of
+from .other_loaders import another_import
 from .packed import Unpacking
-from .reading import Asked, why_unread
+from .reach import Leads, Reach, leads_of, may_lead_on, reach_of
+from .reading import Asked, Summary, why_unread
 from .results import Note, Pickle, Place, Result
 from .unread import kind_by_end
 from .zarr import has_pickles
@@ -42,8 +45,6 @@ from .zarr import has_pickles
 __all__ = ['OF_ARRAYS', 'Looker', 'Options', 'Reads', 'Unpacked', 'is_unchanged', 'look', 'look_at_bytes', 'look_by']
 
 _URL = re.compile(r'[A-Za-z][A-Za-z0-9+.-]*(::|://)')
-# The program ends at a frame in a frame, and at an opcode that crosses the end of one. Raw numbers do not get there, and CPython goes on.
-_FRAME_FAULTS = ('F6', 'F8')
 # The bytes by which a member is known to be a container: its first ones, and where the record is that closes a zip archive.
 _GLANCE = HEAD + zips.TAIL
 # Kinds that readers find at the end of something else.
@@ -138,7 +139,7 @@ class Looker:
                 opened = kind.look_at_end(self, Held(kind, blob, where, names, depth, spans), head) or opened
         if not opened:
             self._look_at_leaf(blob, head, where, names, depth, is_gap)
-        elif kinds and self._may_be_pickle_too(kinds, blob, names):
+        elif kinds and self._may_be_pickle_too(kinds, blob, where, names):
             self.is_read(blob, head, where, names, depth=depth)
 
     def _kinds(self, blob: Blob, head: bytes, where: Place, names: Tuple[str, ...]) -> List[Container]:
@@ -161,36 +162,51 @@ class Looker:
             self.note_odd(where, f'not in one form: readers take it for {named}: it is looked at as each of them')
         return kinds
 
-    def _may_be_pickle_too(self, kinds: List[Container], blob: Blob, names: Tuple[str, ...]) -> bool:
+    def _may_be_pickle_too(self, kinds: List[Container], blob: Blob, where: Place, names: Tuple[str, ...]) -> bool:
         """Whether a container is opcodes, too, and some loader of pickles comes to an import or a call in them."""
         if all(kind.is_pickles for kind in kinds) and not any(map(is_pickle_name, names)):
             return False  # (its first pickle was looked at as one)
-        return reach_of(blob, self.budget)[0] is not None
+        return self._leads(blob, where).reach is not None
 
     def _look_at_leaf(self, blob: Blob, head: bytes, where: Place, names: Tuple[str, ...], depth: int, is_gap: bool) -> None:
         """Looks at what is no container: a pickle by its name or its first bytes, or where a loader gets somewhere in it; or records."""
         begins = _begins_as_pickle(head, names)
         before = len(self.pickles)
-        if (begins or self.leads_somewhere(blob)) and self.is_read(blob, head, where, names, is_sure=begins, depth=depth):
+        if (begins or self.leads_somewhere(blob, where)) and self.is_read(blob, head, where, names, is_sure=begins, depth=depth):
             stores.look_behind(self, self.pickles[before], blob, where, depth)
         elif not stores.look_further(self, blob, where, depth, is_gap):
             self._count_other(where)
 
-    def leads_somewhere(self, blob: Blob) -> bool:
+    def leads_somewhere(self, blob: Blob, where: Place) -> bool:
         """Whether a loader of pickles comes to an import, to a call or to a STOP in these bytes."""
-        reach, stops = reach_of(blob, self.budget)
-        return reach is not None or stops > 0
+        return bool(self._leads(blob, where))
+
+    def _leads(self, blob: Blob, where: Place) -> Leads:
+        """What loaders come to in these bytes. Where that cannot be said it is noted."""
+        try:
+            return leads_of(blob, self.budget)
+        except PartMet as limit:
+            self.note(where, str(limit), missed=True)
+            return Leads()
+
+    def _reach(self, blob: Blob, where: Place) -> Optional[Reach]:
+        """The same for loaders that have nothing but the bytes."""
+        try:
+            return reach_of(blob, self.budget)
+        except PartMet as limit:
+            self.note(where, str(limit), missed=True)
+            return None
 
     def look_at_numbers(self, blob: Blob, where: Place, names: Tuple[str, ...], depth: int) -> None:
         """Raw numbers of the size that a pickle or a header gives. They are not read, but no loader may get anywhere from their beginning."""
         self.at = where
         head = blob.read(0, HEAD)
         kinds = kinds_of(blob, head, tries=False)
-        reach, _ = reach_of(blob, self.budget, extends=False)
+        reach = self._reach(blob, where)
         if not kinds and reach is None:
             self._count_other(where, 'numbers')
             return
-        found = f'begin as {" or ".join(map(str, kinds))}' if reach is None else f'lead a loader of pickles to {reach.what} at {reach.offset}'
+        found = f'begin as {" or ".join(map(str, kinds))}' if reach is None else f'lead a loader of pickles to {reach}'
         self.note_odd(where, f'raw numbers that {found}: they are looked at as that')
         self.look_at(blob, where, names, depth)
 
@@ -212,6 +228,9 @@ class Looker:
             self.note(where, why)
         if layout_note is not None:
             self.notes.append(layout_note)
+        for cost in (heavy_tuple(opcodes, self.budget), many_layers(opcodes, (found.name for found in pickle.imports), self.budget)):
+            if cost is not None:
+                self.note_odd(where, cost)
         if layout is not None and layout.inner:
             self._look_at_inner(blob, layout, where)
         if depth is not None:
@@ -247,16 +266,24 @@ class Looker:
             self.budget.look(opcodes.size - _GLANCE)
         with Asked(opcodes) as asked:
             answer = asked.summary(self.budget, self.options.lines, offset_of, self.options.full, calls)
-            is_pickle = is_pickle or answer.is_sure or answer.end.is_stopped or answer.end.code in _FRAME_FAULTS
+            is_pickle = is_pickle or answer.is_sure or answer.end.is_stopped or answer.end.code in IN_FRAMES
             if answer.trouble is not None:
                 self.note(where, answer.trouble, missed=True)
                 is_pickle = is_pickle or not answer.is_empty
-            if not is_pickle and reach_of(blob, self.budget)[0] is None:
+            if not is_pickle and not self._is_reached(blob, answer, where):
                 return None
             if answer.end.item is not None:
                 offset = asked.offset_of_item(answer.end.item, self.budget)
                 answer.end = replace(answer.end, offset=offset if offset is None or offset_of is None else offset_of(offset))
         return answer.pickle(where, opcodes.size)
+
+    def _is_reached(self, blob: Blob, answer: Summary, where: Place) -> bool:
+        """Whether a loader may import something in bytes of which the program's answer does not show that they are a pickle. Where no frame comes
+        before that, what it imports is in the answer, and only then."""
+        if answer.names:
+            return True
+        reach = self._reach(blob, where)
+        return reach is not None and reach.is_beyond
 
     def _look_at_inner(self, blob: Blob, layout: Layout, where: Place) -> None:
         """Looks at the pickles within joblib's arrays of objects. Each has a memo of its own, so they are read as pickles in a row."""

@@ -7,7 +7,7 @@ import signal
 from contextlib import closing
 from dataclasses import dataclass
 from functools import lru_cache
-from typing import Callable, Dict, Iterable, List, Optional, Tuple
+from typing import Callable, Dict, Iterable, List, Optional, Set, Tuple
 
 from .. import library
 from ..answers import closing_in
@@ -19,7 +19,7 @@ from ..records import End, Extension, Global, Name, Ref
 from ..replies import IN_FORM
 from ..session import Session
 from ..texts import given_in, headings_in, offset_of_item, with_offset
-from .begins import is_dotted
+from .begins import is_dotted, may_be_imported
 from .blobs import CHUNK, Blob, Budget, FileBlob, Spooled, spooled
 from .canonical.formed import content_of
 from .canonical.items import oddness
@@ -31,6 +31,9 @@ from .results import OF_ARGUMENTS, ODD, Call, Import, Pickle, Place
 from .shapes import Arguments, shapes_of
 
 __all__ = ['Asked', 'Enough', 'Summary', 'calls_in_form', 'calls_words', 'is_odd_name', 'is_plain_name', 'is_worked_out', 'shown_name', 'why_unread']
+
+# The heading of what a loader does that goes on where the lines ended.
+_GOES_ON = 'a loader may go on'
 
 # These lines are about an import.
 _IMPORTS = ('import', 'inst')
@@ -86,13 +89,14 @@ class Summary:
     """What the program says of some bytes, summed up by name while it comes. What only some loaders reach counts as well, and is kept
     with the heading under which it stands.
 
-    `is_sure` says that they import something that can be there, or call something. `trouble` says why the answer is not whole, if it is
-    not.
+    `is_sure` says that they import something that can be there, or call something. `names` are the modules and names that a loader may import,
+    however odd they are (`_` stands for what is worked out). `trouble` says why the answer is not whole, if it is not.
     """
 
     def __init__(self, budget: Budget, keep_lines: bool, offset_of: Optional[Callable[[int], int]] = None) -> None:
         """`offset_of` says where an offset of the program is in the file, where the program got only some of the bytes."""
         self.is_sure = False
+        self.names: Set[Tuple[str, str]] = set()
         self.end = _NOT_KNOWN
         self.trouble: Optional[str] = None
         self._budget = budget
@@ -105,7 +109,10 @@ class Summary:
         self._kept = 0
         self._begun = 0
         self._part = ''
-        self._leads_nowhere = False
+        # Set where loaders that go on under a heading raised at an import that cannot be there.
+        self._is_over = False
+        # Whether all imports so far cannot be there, of which texts have many: then nothing that is called or filled shows a pickle.
+        self._is_doubtful: Optional[bool] = None
         self._kinds = ItemKinds()
         self._calls: Dict[Tuple[str, str, str, Tuple[str, ...]], _Found] = {}
         # The first call of something that is given to it by arguments which are not shown.
@@ -117,6 +124,11 @@ class Summary:
         """Asks the bytes where lines do not show whether what numpy gets fits, or what loaders call."""
         if self._kinds.unsure is not None and (self._kinds.of_numpy or self._kinds.makes_texts or names_methods(blob)):
             self.oddness = oddness(blob, budget, self._kinds.of_numpy)
+
+    @property
+    def is_over(self) -> bool:
+        """Whether loaders raised at an import that cannot be there, or no import can."""
+        return self._is_over or bool(self._is_doubtful)
 
     @property
     def is_empty(self) -> bool:
@@ -185,7 +197,7 @@ class Summary:
         """Goes on with what is under a heading."""
         if not self._part:
             self._take_end(tail)
-            self._leads_nowhere = False
+        self._is_over = self._is_over and heading == _GOES_ON
         self._part = heading
         self._again.clear()
         if self._lines is not None:
@@ -268,7 +280,13 @@ class Summary:
         """Keeps the first line of its kind about a name."""
         text = text_of(match)
         self._keep(text)
-        self.is_sure = self.is_sure or self._shows_pickle(what, known)
+        if what in _IMPORTS:
+            # (a loader of the strict lines may go on: torch has an answer for a name with `Storage` of any module)
+            self._is_over = self._is_over or self._part != '' and known.is_impossible
+            self._is_doubtful = known.is_impossible and self._is_doubtful is not False
+        if not self._is_over:
+            self.is_sure = self.is_sure or (known.can_be_there if what in _IMPORTS else what not in _WEAK and not self._is_doubtful)
+            self.names.update([known.parts] if what in _IMPORTS and known.parts is not None else [])
         found = self._found[what, name, self._part] = _Found(what, known.shown, self._place(offset_of(match)), text, self._part,
                                                            member=known.member)
         return found
@@ -279,13 +297,6 @@ class Summary:
         line = line_of(match) if self._offset_of is None else f'{self._place(offset_of(match)):>5}: {text_of(match)}'
         self._keep(line)
         self._lines.append(line)
-
-    def _shows_pickle(self, what: str, name: '_Known') -> bool:
-        """Whether a line shows that the bytes are a pickle. Loaders that go on raise at an import that cannot be there."""
-        if what == 'import':
-            self._leads_nowhere = self._leads_nowhere or self._part != '' and not name.can_be_there
-            return name.can_be_there and not self._leads_nowhere
-        return what not in _WEAK and not self._leads_nowhere
 
     def _place(self, offset: int) -> int:
         return offset if self._offset_of is None else self._offset_of(offset)
@@ -350,11 +361,14 @@ class _Found:
 
 @dataclass(frozen=True)
 class _Known:
-    """What is known of a name: how it is shown, whether its import shows that the bytes are a pickle, and its member where that has a point."""
+    """What is known of a name: how it is shown, whether its import shows that the bytes are a pickle, its member where that has a point, and its
+    parts where a loader may import something by them. It is impossible where it has parts by which none does."""
 
     shown: str
     can_be_there: bool
     member: str = ''
+    parts: Optional[Tuple[str, str]] = None
+    is_impossible: bool = False
 
 
 def _known(name: Optional[Name]) -> _Known:
@@ -365,7 +379,10 @@ def _known(name: Optional[Name]) -> _Known:
     if not isinstance(name, Global):
         return _Known(shown_name(name), False)
     member = name.name.decode() if isinstance(name.name, bytes) and b'.' in name.name and is_dotted(name.name) else ''
-    return _Known(shown_name(name), not isinstance(name.module, bytes) or is_dotted(name.module), member)
+    module, named = (part if isinstance(part, bytes) else b'_' for part in (name.module, name.name))
+    parts = module.decode('utf-8', 'backslashreplace'), named.decode('utf-8', 'backslashreplace')
+    is_possible = may_be_imported(module, named)
+    return _Known(shown_name(name), is_dotted(module) and is_possible, member, parts if is_possible else None, not is_possible)
 
 
 _NO_NAME = _Known('', False)
@@ -419,13 +436,14 @@ class Asked:
             self._copy.file.close()
 
     def summary(self, budget: Budget, keep_lines: bool = False, offset_of: Optional[Callable[[int], int]] = None, full: bool = False,
-                calls: Optional[bytes] = None) -> Summary:
+                calls: Optional[bytes] = None, is_kept: bool = False) -> Summary:
         """What they import and call, as one pickle or several in a row. What was found before a limit or a failure is kept.
 
-        With `full` arguments are whole. `calls` is what the program says where they are not, if it was asked.
+        With `full` arguments are whole. `calls` is what the program says where they are not, if it was asked. With `is_kept` they are read by
+        one unpickler that keeps its memo.
         """
         summary = Summary(budget, keep_lines, offset_of)
-        words = calls_words(full)
+        words = [*calls_words(full), *(('--memo', 'kept') if is_kept else ())]
         seconds = budget.spend()
         text = self._in_process(words, budget, seconds) if calls is None or full else calls
         if text is None:

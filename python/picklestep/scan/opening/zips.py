@@ -15,10 +15,10 @@ from ..canonical import zips as strict_zips
 from ..canonical.forms import WRITERS
 from ..canonical.layouts import Layout, alone, of_one
 from ..canonical.pickles import read_pickle
-from ..canonical.wide import may_lead_on
 from ..containers import Held, kind_of
 from ..looking import Looker, Reads, Unpacked
 from ..packed import Unpacking
+from ..reach import may_lead_on
 from ..reading import calls_in_form
 from ..results import Place
 
@@ -47,7 +47,7 @@ def look_at_end(looker: Looker, held: Held, head: bytes) -> bool:
     found = len(looker.pickles)
     _look_into_odd(looker, held)
     first = [pickle for pickle in looker.pickles[found:] if pickle.where[:-1] == where and pickle.where[-1].startswith('(bytes 0 to ')]
-    if looker.leads_somewhere(blob) and not any(pickle.end.is_stopped for pickle in first):
+    if looker.leads_somewhere(blob, where) and not any(pickle.end.is_stopped for pickle in first):
         looker.is_read(blob, head, where, held.names, depth=held.depth)
     return True
 

@@ -14,7 +14,7 @@ import re
 from typing import Iterator, Optional, Set, Tuple
 
 from ..blobs import Blob, LimitMet
-from .walk import CHECKSUM, MOST, Walk, walk
+from ..walk import CHECKSUM, MOST, Walk, walk
 
 __all__ = ['BEGINS_PICKLE', 'calls_number', 'candidates', 'ends_in_call', 'may_call_number', 'may_end_text', 'may_have_candidates',
            'may_have_lines']

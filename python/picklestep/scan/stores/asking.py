@@ -17,7 +17,7 @@ from ...program import Process, time_to_wait
 from ...texts import before_headings, lines_with_offsets, lowered
 from ..blobs import Budget, BytesBlob, Limits, spooled
 from ..reading import Asked, Enough, Summary, calls_words
-from .walk import stops_at_end
+from ..walk import stops_at_end
 
 __all__ = ['MOST_BYTES', 'MOST_PICKLES', 'NOTHING', 'answers']
 

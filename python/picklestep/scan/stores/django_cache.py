@@ -14,8 +14,8 @@ from typing import TYPE_CHECKING, Optional
 
 from ..begins import HEAD
 from ..containers import Held
+from ..walk import walk
 from .values import Values
-from .walk import walk
 
 if TYPE_CHECKING:
     from ..looking import Looker

@@ -9,9 +9,9 @@ import re
 from typing import Iterator, List, NamedTuple, Optional, Set, Tuple
 
 from ..blobs import Blob
+from ..walk import MOST, Walk, may_begin, walk
 from .anywhere import calls_number, may_call_number
 from .telling import PREFIX, packed_places, prefixes
-from .walk import MOST, Walk, may_begin, walk
 
 __all__ = ['CUT', 'Early', 'EarlySearch', 'may_be_behind_few', 'may_be_early']
 

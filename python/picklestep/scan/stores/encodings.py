@@ -14,10 +14,10 @@ from typing import Dict, Iterable, Iterator, List, Sequence, Set, Tuple
 
 from ..blobs import LimitMet
 from ..containers import MAY_BE_KNOWN
+from ..walk import may_begin, walk
 from .anywhere import BEGINS_PICKLE
 from .regular import blocks
 from .telling import LEAST, LEAST_RUN, SIGNS, holding, may_hold, runs
-from .walk import may_begin, walk
 
 __all__ = ['UNFINISHED', 'decoded', 'is_word']
 

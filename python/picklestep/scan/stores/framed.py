@@ -10,7 +10,7 @@ from typing import Iterator, Optional, Tuple
 
 from ..blobs import Blob
 from ..containers import kind_of
-from .walk import stops_at_end
+from ..walk import stops_at_end
 
 __all__ = ['Framing', 'framing_of', 'may_be_framed']
 

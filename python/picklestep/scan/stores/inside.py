@@ -7,7 +7,7 @@ from typing import Dict, Iterator, NamedTuple
 
 from ...values import unescaped
 from ..blobs import Blob
-from .walk import length_at
+from ..walk import length_at
 
 __all__ = ['Text', 'bytes_of', 'texts_in']
 

@@ -10,7 +10,7 @@ import socket
 import ssl
 import time
 from contextlib import closing, contextmanager
-from typing import Any, Iterator, List, Optional, Tuple
+from typing import Any, Iterator, List, Optional, Sequence, Tuple
 from urllib.parse import unquote_to_bytes
 
 from .address import Address
@@ -40,6 +40,8 @@ _BYTES_TOGETHER = 16 << 20
 
 class MemcachedServer(Server):
     """A memcached server."""
+
+    has_keys = True
 
     def __init__(self, address: Address) -> None:
         super().__init__(address)
@@ -109,14 +111,23 @@ class MemcachedServer(Server):
         plain = socket.create_connection(self.place, min(self.seconds, _CONNECT_SECONDS))
         return plain if self.tls is None else self.tls.wrap_socket(plain, server_hostname=self.place[0])
 
+    def keys_named(self, names: Sequence[str]) -> Optional[Tuple[Any, ...]]:
+        found = super().keys_named(names)
+        return found if found is None else tuple(filter(_is_asked, found))
+
     def look(self, values: Values, keys: Tuple[Any, ...]) -> int:
-        asked = [key for key in keys if len(key) <= _MOST_OF_KEY and not _NOT_ASKED.search(key)]
+        asked = list(filter(_is_asked, keys))
         for key in set(keys) - set(asked):
             values.looker.note((key_name(key),), 'its key cannot be asked for in the text protocol', missed=True)
         with self._named():
             for key, value in self.client.get_many(asked).items():
                 values.add(value, (key_name(key),))
         return len(keys)
+
+
+def _is_asked(key: bytes) -> bool:
+    """Whether a key can be asked for in the text protocol."""
+    return len(key) <= _MOST_OF_KEY and _NOT_ASKED.search(key) is None
 
 
 def _lines(first: bytes, lines: Any) -> Iterator[bytes]:

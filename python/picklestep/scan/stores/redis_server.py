@@ -8,14 +8,14 @@ from __future__ import annotations
 import os
 import socket
 from contextlib import contextmanager
-from typing import Any, Dict, Iterator, List, Tuple
+from typing import Any, Dict, Iterator, List, Optional, Sequence, Tuple
 
 from ..blobs import Blob
 from ..results import Place
+from ..walk import stops_at_end
 from .address import Address
 from .server import IsSilent, NoServer, Server, Wanted, library
 from .values import Values, key_name
-from .walk import stops_at_end
 
 __all__ = ['SERVER', 'RedisServer']
 
@@ -36,6 +36,8 @@ _KINDS = ('hash', 'list', 'set', 'zset', 'stream')
 
 class RedisServer(Server):
     """A database of a Redis server. The password is that of the URL, or REDISCLI_AUTH."""
+
+    has_keys = True
 
     def __init__(self, address: Address) -> None:
         super().__init__(address)
@@ -78,6 +80,12 @@ class RedisServer(Server):
                 yield tuple(keys[start:start + _TOGETHER])
             if cursor == 0 or left == 0:
                 return
+
+    def keys_named(self, names: Sequence[str]) -> Optional[Tuple[Any, ...]]:
+        found = super().keys_named(names)
+        with self.named():
+            # (what is not there would be an empty text)
+            return found if found is None else tuple(key for key, is_there in zip(found, self._all(found, _ask_for)) if is_there)
 
     def look(self, values: Values, keys: Tuple[Any, ...]) -> int:
         with self.named():
@@ -169,6 +177,11 @@ class RedisServer(Server):
                 place = where + (name.decode('ascii', 'backslashreplace'), key_name(field))
                 values.add(value, place)
                 _look_at_name(values, field, place, 'field')
+
+
+def _ask_for(pipe: Any, key: bytes) -> None:
+    """Asks whether a key is there."""
+    pipe.exists(key)
 
 
 def _look_at_name(values: Values, name: bytes, where: Place, what: str) -> None:

@@ -8,17 +8,17 @@ from __future__ import annotations
 import threading
 from dataclasses import dataclass
 from importlib import import_module
-from typing import TYPE_CHECKING, Any, Callable, Dict, Iterator, Optional, Tuple, Type, Union
+from typing import TYPE_CHECKING, Any, Callable, Dict, Iterator, Optional, Sequence, Tuple, Type, Union
 
 from ..blobs import LimitMet
-from ..results import Note, Result
+from ..results import Note, Place, Result
 from .address import SERVERS, Address
-from .values import Values
+from .values import Values, key_name
 
 if TYPE_CHECKING:
-    from ..looking import Options
+    from ..looking import Looker, Options
 
-__all__ = ['IsSilent', 'NoServer', 'Server', 'Task', 'Wanted', 'ask_again', 'server_of', 'tasks', 'total_of', 'work_on']
+__all__ = ['IsSilent', 'NoServer', 'Server', 'Task', 'Wanted', 'ask_again', 'looked_by', 'server_of', 'tasks', 'total_of', 'work_on']
 
 
 class NoServer(Exception):
@@ -40,8 +40,11 @@ class Wanted:
 class Server:
     """A connection to a server.
 
-    `tasks` lists what there is, in parts. `look` looks at the keys of one part. Both raise NoServer. What was found by then is kept.
+    `parts` lists what there is. `look` looks at the keys of one part. Both raise NoServer. What was found by then is kept. `has_keys` is set where
+    a value is asked for by a key of bytes.
     """
+
+    has_keys = False
 
     def __init__(self, address: Address) -> None:
         self.address = address
@@ -57,6 +60,17 @@ class Server:
     def look(self, values: Values, keys: Tuple[Any, ...]) -> int:
         """Looks at the values of some keys, and answers how many keys there were."""
         raise NotImplementedError
+
+    def keys_named(self, names: Sequence[str]) -> Optional[Tuple[Any, ...]]:
+        """The keys that places begin with these names, if the server is asked for values by their keys and no other key has such a name. (What is
+        written with a backslash may be another byte, and of a long key a place has only the beginning.)"""
+        keys = [name.encode('utf-8', 'surrogateescape') for name in names]
+        is_plain = self.has_keys and all('\\' not in name and key_name(key) == name for name, key in zip(names, keys))
+        return tuple(keys) if is_plain else None
+
+    def narrowed(self, keys: Tuple[Any, ...], wants: Callable[[Place], bool]) -> Optional[Tuple[Any, ...]]:
+        """Those of some keys that are wanted by their places. None where none is."""
+        return tuple(key for key in keys if wants((key_name(key),))) or None
 
 
 @dataclass(frozen=True)
@@ -78,7 +92,11 @@ def looked(address: Address, options: 'Options', work: Callable[[Server, Values]
     """The result of some work on a server."""
     from ..looking import Looker  # (it uses this package)
 
-    looker = Looker(options)
+    return looked_by(Looker(options), address, work)
+
+
+def looked_by(looker: 'Looker', address: Address, work: Callable[[Server, Values], int]) -> Result:
+    """The same by a looker."""
     values = Values(looker)
     keys, error = 0, None
     try:

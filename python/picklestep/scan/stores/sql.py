@@ -9,10 +9,11 @@ import re
 from contextlib import closing, contextmanager, nullcontext, suppress
 from dataclasses import dataclass, replace
 from fnmatch import fnmatchcase
-from typing import Any, ContextManager, Dict, Iterator, List, Optional, Tuple, Type
+from typing import Any, Callable, ContextManager, Dict, Iterator, List, Optional, Tuple, Type
 from weakref import finalize
 
 from ..blobs import Blob
+from ..results import Place
 from .address import Address
 from .server import IsSilent, NoServer, Server, Wanted
 from .values import Values, not_looked_at
@@ -161,6 +162,13 @@ class SqlServer(Server):
         is_asked = asked.get('table') in (None, table.name, table.place, *table.within)
         return replace(table, columns=columns) if is_asked and columns else None
 
+    def narrowed(self, keys: Tuple[Any, ...], wants: Callable[[Place], bool]) -> Optional[Tuple[Any, ...]]:
+        rows, most, notes = keys
+        if rows is None:
+            return keys
+        columns = tuple(column for column in rows.table.columns if wants((_place_of(rows.table, column),)))
+        return (replace(rows, table=replace(rows.table, columns=columns)), most, notes) if columns or notes else None
+
     def look(self, values: Values, keys: Tuple[Any, ...]) -> int:
         rows, most, notes = keys
         for text in notes:
@@ -191,11 +199,16 @@ class SqlServer(Server):
     def _look_at_row(self, values: Values, table: Table, row: Tuple[Any, ...]) -> None:
         place, name = row[0], row[1]
         for column, value, length in zip(table.columns, row[2::2], row[3::2]):
-            where = (f'{table.place}.{column.name}', f'row {_bytes_of(name).decode("utf-8", "backslashreplace")[:200]}')
+            where = (_place_of(table, column), f'row {_bytes_of(name).decode("utf-8", "backslashreplace")[:200]}')
             if value is not None:
                 values.add(_bytes_of(value), where)
             elif length:
                 values.add_blob(_Value(self, self.part_query(table, column), place, int(length)), where)
+
+
+def _place_of(table: Table, column: Column) -> str:
+    """The name of a column, as places have it."""
+    return f'{table.place}.{column.name}'
 
 
 def _matches(table: Table, match: Optional[str]) -> bool:

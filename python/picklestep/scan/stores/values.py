@@ -11,11 +11,13 @@ from typing import TYPE_CHECKING, Callable, Iterator, List, NamedTuple, Optional
 from ..begins import HEAD
 from ..blobs import STEPS, Blob, BytesBlob, JoinedBlob, LimitMet
 from ..canonical.streams import Stream
-from ..canonical.wide import may_lead_on
 from ..containers import MAY_BE_STORE, Container, kind_of, store_of
+from ..costs import heavy_tuple
+from ..reach import leads_of, may_lead_on
 from ..reading import Summary, is_odd_name, is_plain_name
 from ..results import Pickle, Place
 from ..unread import kind_of_long, kind_of_short
+from ..walk import is_opcode, stops_at_end, walk
 from . import anywhere
 from .asking import MOST_BYTES, MOST_PICKLES, NOTHING, answers
 from .early import CUT, Early, EarlySearch, may_be_behind_few
@@ -24,7 +26,6 @@ from .framed import framing_of
 from .inside import Text, bytes_of, texts_in
 from .long_texts import LongText
 from .telling import LEAST, PREFIX, is_json, may_hold, packed_places, prefixes, stands_for_bytes
-from .walk import is_opcode, stops_at_end, walk
 
 if TYPE_CHECKING:
     from ..looking import Looker
@@ -68,6 +69,9 @@ _LAST_PROTOCOL = 5
 _STOP = ord('.')
 
 _MOST_OF_KEY = 200
+
+# So many bytes has a pickle at least that takes tuples out of its memo again and again.
+_LEAST_HEAVY = 100
 
 # How what is imported by a number of copyreg is shown.
 _EXTENSION = 'ext '
@@ -305,19 +309,20 @@ class Values:
             return self._wait(_Waiting(content, where, self.count, guessed, further=depth)) or found
         if found:
             return True
-        if self._may_begin(head, content, guessed) and self._is_read(content, where, guessed):
+        if self._may_begin(content, guessed) and self._is_read(content, where, guessed):
             self.look_inside(BytesBlob(content), where, depth)
             return True
         return self._look_further(content, where, depth)
 
-    @staticmethod
-    def _may_begin(head: bytes, content: bytes, guessed: bool) -> bool:
+    def _may_begin(self, content: bytes, guessed: bool) -> bool:
         """Whether a pickle may begin here that does not end where the bytes do."""
         if not is_opcode(content[0]):
             return False
         way = walk(content, 0)
         has_proto = content[0] == _PROTO and content[1] <= _LAST_PROTOCOL
-        return (way.is_likely if guessed else way.imports or not way.lacks) and (has_proto or may_lead_on(head, len(head) == len(content)))
+        if guessed and not way.is_likely:
+            return False
+        return has_proto and not way.lacks or bool(leads_of(BytesBlob(content), self.looker.budget))
 
     def _is_read(self, content: bytes, where: Place, guessed: bool) -> bool:
         """Asks about bytes that are not a pickle and nothing else."""
@@ -602,6 +607,9 @@ class Values:
             self.looker.note(asked[0].where, _with_others(limit, len(asked) - 1), missed=True)
             return
         for each, answer in zip(asked, found):
+            heavy = heavy_tuple(BytesBlob(each.content), self._outer) if answer is not None and len(each.content) >= _LEAST_HEAVY else None
+            if heavy is not None and not each.guessed:
+                self.looker.note_odd(each.where, heavy)
             if answer is NOTHING:
                 self.looker.take_plain(each.content, each.where)
                 self._found.add(each.value)
