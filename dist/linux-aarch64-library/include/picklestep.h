@@ -33,8 +33,8 @@ enum {
 typedef struct {
     size_t size;    /* its bytes */
     uint8_t status; /* the status of the program: 1 where an opcode or a line is refused, the bytes have a fault, the lines of `calls` end in
-                       `unsure:` or `kept:`, a pickle is not in the form or does not pass a list, or a hole ends behind the last byte, 2 where a
-                       line of a list is no entry, else 0 */
+                       `unsure:`, `kept:` or `warning:`, a pickle is not in the form or does not pass a list, a loader may reach something, or a
+                       hole ends behind the last byte, 2 where a line of a list is no entry, else 0 */
 } picklestep_written;
 
 /* The opcodes of a pickle; with `many`, of several pickles that follow one another (`picklestep list FILE [--many]`). */
@@ -60,6 +60,21 @@ uint8_t picklestep_form(const uint8_t *bytes, size_t length, uint8_t *out, size_
  * (`picklestep gate LIST FILE`). Where a line of the list is no entry, the text says which, and the status is 2. */
 uint8_t picklestep_gate(const uint8_t *list, size_t list_length, const uint8_t *bytes, size_t length, uint8_t *out, size_t room,
                         picklestep_written *written);
+
+/* What a loader was given besides the bytes: the sum of these, or 0, as `pickle.load` with nothing but a file. */
+enum {
+    PICKLESTEP_EXTENSIONS = 1,     /* it knows extension codes (--extensions) */
+    PICKLESTEP_PERSISTENT_IDS = 2, /* it has a persistent_load (--persistent-ids) */
+    PICKLESTEP_BUFFERS = 4         /* it was given buffers (--buffers) */
+};
+
+/* Whether any loader that begins at the first of the bytes reaches something, and by which opcode first, whatever it does with frames
+ * (`picklestep reach FILE`). The bytes need not be a pickle. PICKLESTEP_NO_TASK where `granted` is no such sum. */
+uint8_t picklestep_reach(uint32_t granted, const uint8_t *bytes, size_t length, uint8_t *out, size_t room, picklestep_written *written);
+
+/* The members of the zip archive that the bytes are, in the form in which usual writers write, or the first rule that they break, and where
+ * (`picklestep members FILE`). */
+uint8_t picklestep_members(const uint8_t *bytes, size_t length, uint8_t *out, size_t room, picklestep_written *written);
 
 /* The answers of a conversation: those to all lines of a script, of `script_length` bytes, in a session of a pickle, or with `many` of several
  * (`picklestep debug FILE [--many]`, with the script as its standard input). A conversation that goes on is asked with all lines so far. */
