@@ -188,7 +188,7 @@ class StoreCase(ScanCase):
         if tls:
             self.certify()
             words = [f'--ssl-cert={self.home}/server.pem', f'--ssl-key={self.home}/server.key', '--require-secure-transport=ON']
-        self.server = self.start([program('mariadbd'), '--no-defaults', f'--datadir={self.home}/data', f'--port={port}',
+        self.server = self.start([program('mariadbd'), '--no-defaults', f'--datadir={self.home}/data', f'--tmpdir={self.home}', f'--port={port}',
                                   '--bind-address=127.0.0.1', f'--socket={self.home}/s', '--max-allowed-packet=64M', *words], user)
         self.wait_for_port(port)
         return port

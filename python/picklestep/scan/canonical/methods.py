@@ -6,15 +6,17 @@ import struct
 
 from ..blobs import Blob
 
-__all__ = ['CALLED', 'CALLED_ALONE', 'CALLED_OF_ITEMS', 'names_methods']
+__all__ = ['CALLED', 'CALLED_ALONE', 'CALLED_OF_ITEMS', 'REPLACING', 'names_methods']
 
 # What loaders call under such a name of an object, with what the pickle gives: unpicklers, and `__setstate__` and makers in the sets' libraries.
 CALLED_ALONE = frozenset(('__setstate__', '__new__', '__init__', '__getinitargs__', '_build_f', '_hook_for_profile', '_simple_new', 'from_arrays'))
+# Attributes that decide what all others are, methods too. No pickler gives them by a state.
+REPLACING = frozenset(('__dict__', '__class__'))
 CALLED_OF_ITEMS = frozenset(('append', 'extend', 'add'))
 CALLED = CALLED_OF_ITEMS | {'keys', 'values', 'items', 'pop', 'setdefault'}
 # Such names, each with what picklers write right before it (of lines the sign of a text, or a quote).
 _METHODS = tuple((name, (b'\x8c%c' % len(name), b'U%c' % len(name), b'X' + struct.pack('<I', len(name)), b'V', b"'", b'"'))
-                 for name in map(str.encode, sorted(CALLED_ALONE | CALLED)))
+                 for name in map(str.encode, sorted(CALLED_ALONE | CALLED | REPLACING)))
 _LONGEST_METHOD = 32
 
 

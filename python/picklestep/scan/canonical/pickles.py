@@ -18,7 +18,7 @@ from typing import Any, Callable, Dict, List, NoReturn, Optional, Set, Tuple, Ty
 from ..blobs import CHUNK, STEPS, Blob, Budget, JoinedBlob
 from .formed import require_form
 from .forms import NotCanonical, count_of_shape, wrong
-from .methods import CALLED, CALLED_ALONE, CALLED_OF_ITEMS
+from .methods import CALLED, CALLED_ALONE, CALLED_OF_ITEMS, REPLACING
 
 __all__ = ['Global', 'Hook', 'Made', 'OldText', 'PDict', 'PList', 'Pickle', 'Reader', 'read_pickle']
 
@@ -214,9 +214,12 @@ def _has_odd_key(state: Any) -> bool:
 
 
 def _gives_method(state: Any, of_items: bool = False) -> bool:
-    """Whether a state, or items, have something under a name that loaders call."""
+    """Whether a state, or items, have something under a name that loaders call, or may have: what is in a dictionary that a call made is not
+    kept."""
     if isinstance(state, PDict):
         return state.has_called_item if of_items else state.has_called
+    if state is _DICTIONARY:
+        return not of_items
     return isinstance(state, tuple) and len(state) == 2 and any(_gives_method(each, of_items) for each in state)
 
 
@@ -227,6 +230,8 @@ def _is_method(key: Any, value: Any, is_item: bool = False) -> bool:
         key = key.decode('latin-1')
     if not isinstance(key, str):
         return type(value) is Global and isinstance(key, _Opaque) and key is not _DATA and not is_item
+    if key in REPLACING:
+        return not is_item
     if key in CALLED_ALONE:
         return type(value) is Global or value is _MADE
     return key in (CALLED_OF_ITEMS if is_item else CALLED) and type(value) is Global and value.module not in _BUILTINS
@@ -717,7 +722,7 @@ class Reader:
         if isinstance(target, PDict):
             self._fill(target, items)
             for key, value in zip(items[::2], items[1::2]):
-                if (type(value) is Global or value is _MADE) and _is_method(key, value):
+                if (type(value) is Global or value is _MADE or isinstance(key, (str, OldText))) and _is_method(key, value):
                     target.has_called = True
                     target.has_called_item = target.has_called_item or _is_method(key, value, True)
         elif type(target) is PList:
