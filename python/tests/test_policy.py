@@ -411,6 +411,13 @@ class Lines(ScanCase):
             self.assertGreater(len(lines), 8)
             for line in lines:
                 self.assertEqual(list(schema_faults(schema, json.loads(line))), [], line[:200])
+            python = python_with('jsonschema')
+            if python is not None:
+                code = ('import json, sys, jsonschema\nvalidator = jsonschema.Draft7Validator(json.load(open(sys.argv[1])))\n'
+                        'for line in sys.stdin: validator.validate(json.loads(line))')
+                run = subprocess.run([python, '-c', code, str(SHARE / 'picklestep-scan.schema.json')], input=run.stdout, text=True,
+                                     capture_output=True, check=False)
+                self.assertEqual((run.returncode, run.stderr), (0, ''))
 
 
 if __name__ == '__main__':

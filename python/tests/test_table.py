@@ -59,8 +59,13 @@ class AtATerminal(ScanCase):
     def test_one_file_has_its_lines(self) -> None:
         self.assertEqual(self.shown('files/good.pkl')[0], f'  files/good.pkl: {len(HARMLESS)} bytes')
 
+    def test_in_brief(self) -> None:
+        lines = self.shown('--brief', 'files')
+        self.assertEqual([line.split()[1:2] for line in lines[:4]], [['files/bad.pkl'], ['files/in.zip'], ['files/other.7z'], []])
+        self.assertTrue(lines[4].startswith('4 files, 4 pickles'))
+
     def test_other_options_have_lines(self) -> None:
-        self.assertTrue(self.shown('--brief', 'files')[0].startswith('! files/'))
+        self.assertTrue(self.shown('--full', 'files')[0].startswith('  files/'))
 
 
 if __name__ == '__main__':

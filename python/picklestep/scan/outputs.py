@@ -27,7 +27,7 @@ __all__ = ['WRITES', 'Output', 'leave']
 # The options that name a file to write.
 WRITES = ('sarif', 'report', 'junit', 'code_quality', 'write_baseline', 'write_allow')
 # With these options a terminal shows lines as they come, and no table.
-_IN_LINES = ('json', 'brief', 'lines', 'full', 'follow')
+_IN_LINES = ('json', 'lines', 'full', 'follow')
 _ENDINGS = {'.html': 'page', '.htm': 'page', '.md': 'markdown'}
 
 
@@ -53,7 +53,7 @@ class Output:
             with naming(words.write_allow):
                 check_list(words.write_allow)
         if sys.stdout.isatty() and not any(getattr(words, name) for name in _IN_LINES) and wants_table(words.paths):
-            self.report: Report = Table(sys.stdout, judges, words.fail_on)
+            self.report: Report = Table(sys.stdout, judges, words.fail_on, words.brief)
         else:
             self.report = Report(sys.stdout, judges, words.json, words.brief, words.fail_on)
         self.summary = sys.stderr if words.json else sys.stdout

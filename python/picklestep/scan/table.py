@@ -51,9 +51,9 @@ class _Row:
 class Table(Report):
     """Keeps what is marked, and shows it at the end."""
 
-    def __init__(self, out: TextIO, judge: Union[Judge, Judges], fail_on: str = FAILING[-1], width: Optional[int] = None,
+    def __init__(self, out: TextIO, judge: Union[Judge, Judges], fail_on: str = FAILING[-1], brief: bool = False, width: Optional[int] = None,
                  has_colours: Optional[bool] = None) -> None:
-        super().__init__(out, judge, fail_on=fail_on)
+        super().__init__(out, judge, brief=brief, fail_on=fail_on)
         self._rows: Dict[str, _Row] = {}
         self._width = width or shutil.get_terminal_size().columns
         self._has_colours = _has_colours() if has_colours is None else has_colours
@@ -71,17 +71,17 @@ class Table(Report):
             row.lines.extend((look.severity, f'{place_of(result.path, look.where)}: {line}') for line in look.lines)
 
     def summary(self) -> List[str]:
-        """The table, what is marked, and the counts over all files."""
+        """The table, what is marked, and the counts over all files. In brief there are the lines of marked files alone."""
         rows = sorted(self._rows.items(), key=lambda row: (rank(row[1].severity), row[0]))
         marked = [row for row in rows if row[1].severity is not None]
-        others = rows[len(marked):]
+        others = [] if self.brief else rows[len(marked):]
         wide = min(max((len(place_of(path, ())) for path, _ in (*marked, *others[:_MOST_UNMARKED])), default=0), self._width // _OF_LINE)
         lines = [self._line(path, row, wide) for path, row in (*marked, *others[:_MOST_UNMARKED])]
         if len(others) > _MOST_UNMARKED:
             lines.append(f'{"":{_WIDTH}}  and {count_of(len(others) - _MOST_UNMARKED, "more file")} without a mark')
-        for _, row in marked:
+        for _, row in () if self.brief else marked:
             lines.extend(('', *self._marks(row)))
-        return [*lines, '', *super().summary()]
+        return [*lines, *([''] if lines else ()), *super().summary()]
 
     def _line(self, path: str, row: _Row, wide: int) -> str:
         """The line of a file, as wide as the terminal."""
