@@ -74,6 +74,17 @@ class Reports(ScanCase):
         self.assertIn('models/<b>.pkl', page.text)
         self.assert_quiet(page)
 
+    def test_two_reports(self) -> None:
+        """Each file that is named is written. What a policy takes stands in both, with its reason."""
+        self.file('our.toml', b'[[exceptions]]\npath = "models/bad.pkl"\nnames = ["posix.system"]\nreason = "our own tool"\nowner = "a"\nuntil = 2999-01-31\n')
+        run = self.scan('--brief', '--policy', 'our.toml', '--report', 'a.html', '--report', 'b.md', 'models')
+        self.assertEqual((run.returncode, run.stderr), (1, ''))
+        pages = [(self.folder / name).read_text(encoding='utf-8') for name in ('a.html', 'b.md')]
+        for text in pages:
+            self.assertIn('Marks that the policy takes: 1', text)
+            self.assertRegex(text, r'models/bad\.pkl: import posix\.system .*\[.*our own tool')
+        self.assert_quiet(page_of(pages[0]))
+
     def assert_quiet(self, page: _Page) -> None:
         """It has no script, and asks for nothing."""
         self.assertFalse({tag for tag, _ in page.elements} & {'script', 'img', 'link', 'iframe', 'a', 'object', 'form', 'svg'})

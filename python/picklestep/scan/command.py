@@ -72,7 +72,8 @@ def _parser(fewest: str = '+') -> argparse.ArgumentParser:
     _add_lists(parser)
     _add_policy(parser)
     parser.add_argument('--json', action='store_true', help='print a line of JSON for each file, and the summary on standard error')
-    parser.add_argument('--report', metavar='FILE', help='also write a report for people to FILE, whose name ends in .html or .md')
+    parser.add_argument('--report', metavar='FILE', action='append',
+                        help='also write a report for people to FILE, whose name ends in .html or .md. It may be given again, for another FILE')
     parser.add_argument('--sarif', metavar='FILE', help='also write what is marked to FILE, as SARIF 2.1.0')
     parser.add_argument('--junit', metavar='FILE', help='also write a test for each file to FILE, as JUnit does')
     parser.add_argument('--code-quality', metavar='FILE', help="also write what is marked to FILE, as GitLab's code quality has it")

@@ -8,7 +8,7 @@ import os
 import sys
 from contextlib import ExitStack
 from functools import partial
-from typing import Callable, List, Optional, Protocol, Sequence, Tuple
+from typing import Callable, Dict, List, Optional, Protocol, Sequence, Tuple
 
 from ..errors import PicklestepError
 from ..saving import check_writable, naming, open_text
@@ -28,7 +28,6 @@ __all__ = ['WRITES', 'Output', 'leave']
 WRITES = ('sarif', 'report', 'junit', 'code_quality', 'write_baseline', 'write_allow')
 # With these options a terminal shows lines as they come, and no table.
 _IN_LINES = ('json', 'lines', 'full', 'follow')
-_ENDINGS = {'.html': 'page', '.htm': 'page', '.md': 'markdown'}
 
 
 class _Collector(Protocol):
@@ -44,11 +43,9 @@ class Output:
     def __init__(self, words: argparse.Namespace, judges: Judges, options: Options, policy: str = '') -> None:
         """Raises PicklestepError where a file that is wanted cannot be written, or is no list to add names to: at the end the work would be
         lost."""
-        for option in WRITES:
-            path = getattr(words, option)
-            if path is not None:
-                with naming(path):
-                    check_writable(path)
+        for path in (path for option in WRITES for path in _paths(words, option)):
+            with naming(path):
+                check_writable(path)
         if words.write_allow is not None:
             with naming(words.write_allow):
                 check_list(words.write_allow)
@@ -61,6 +58,7 @@ class Output:
         self._collectors: List[_Collector] = []
         self._files: List[Callable[[], None]] = []
         self._marks: Optional[Marks] = None
+        self._add_taken: Callable[[Result, Sequence[Look]], None] = lambda result, looks: None
         self._open_files(words, options, policy)
         # Whether the reader of standard output has left.
         self.is_left = False
@@ -71,12 +69,13 @@ class Output:
             sarif = Sarif()
             self._collectors.append(sarif)
             self._write_at_end(words.sarif, lambda: json.dumps(sarif.object(), indent=1) + '\n')
-        reports = [(getattr(words, option), maker) for option, maker in _reports(words)]
+        reports = _reports(words)
         if reports:
             # (what makes sources is imported where a report is wanted alone)
             from .reports import About, Findings
             findings, about = Findings(options), About.now(policy)
             self._collectors.append(findings)
+            self._add_taken = findings.add_taken
             for path, maker in reports:
                 self._write_at_end(path, partial(maker, findings, about))
         if words.write_baseline is not None:
@@ -104,6 +103,7 @@ class Output:
         in_force = [look for look in looks if not look.is_taken]
         for collector in self._collectors:
             collector.add(result, in_force)
+        self._add_taken(result, [look for look in looks if look.is_taken])
         if self._marks is not None:  # (a new baseline has what an older one takes)
             self._marks.add(result, [look for look in looks if not look.is_taken or look.remark == IN_BASELINE])
 
@@ -123,19 +123,27 @@ class Output:
             sys.stdout.flush()  # (one of the files may be standard output)
 
 
+def _paths(words: argparse.Namespace, option: str) -> List[str]:
+    """The files that an option names."""
+    value = getattr(words, option)
+    return [] if value is None else value if isinstance(value, list) else [value]
+
+
 def _reports(words: argparse.Namespace) -> List[Tuple[str, Callable[..., str]]]:
-    """The options that want a report, each with what makes it. Raises PicklestepError where the ending of a name says no form."""
-    wanted = [option for option in ('report', 'junit', 'code_quality') if getattr(words, option) is not None]
-    if not wanted:
+    """The files for reports, each with what makes it. Raises PicklestepError where the ending of a name says no form."""
+    if not any(_paths(words, option) for option in ('report', 'junit', 'code_quality')):
         return []
     from .reports.markdown import markdown_report
     from .reports.page import html_report
     from .reports.servers import code_quality, junit
-    makers = {'junit': junit, 'code_quality': code_quality, 'page': html_report, 'markdown': markdown_report}
-    form = _ENDINGS.get(os.path.splitext(words.report or '')[1].lower())
-    if 'report' in wanted and form is None:
-        raise PicklestepError('--report wants a name that ends in .html or .md')
-    return [(option, makers[form if option == 'report' and form else option]) for option in wanted]
+    makers: Dict[str, Callable[..., str]] = {'.html': html_report, '.htm': html_report, '.md': markdown_report}
+    wanted: List[Tuple[str, Callable[..., str]]] = []
+    for path in _paths(words, 'report'):
+        ending = os.path.splitext(path)[1].lower()
+        if ending not in makers:
+            raise PicklestepError('--report wants a name that ends in .html or .md')
+        wanted.append((path, makers[ending]))
+    return [*wanted, *((path, junit) for path in _paths(words, 'junit')), *((path, code_quality) for path in _paths(words, 'code_quality'))]
 
 
 def leave() -> None:

@@ -18,12 +18,14 @@ from ..looks import Look
 from ..other_forms import named_forms
 from ..results import Result
 from ..severity import STEPS, rank, worst_of
-from ..wording import count_of
+from ..wording import count_of, place_of
 
 __all__ = ['About', 'Findings', 'Row']
 
 # So many marks of a file are kept, and so many letters of a text.
 _MOST_LOOKS, _MOST_LETTERS = 20, 2_000
+# So many marks that a policy takes have a line.
+_MOST_TAKEN = 1_000
 # Of so many files, the worst, the source is shown, and of so large a pickle; so much of it; and so long it may take.
 _MOST_SOURCES, _LARGEST, _MOST_SOURCE, _SECONDS, _MEMORY = 50, 1 << 20, 4_000, 10.0, 1 << 29
 
@@ -66,6 +68,8 @@ class Findings:
         self._rows: Dict[str, Row] = {}
         self._options = options
         self.counts: Counter[str] = Counter()
+        # Lines about marks that a policy takes, and how many such marks there are.
+        self.taken: List[str] = []
 
     def add(self, result: Result, looks: Sequence[Look]) -> None:
         """Keeps what is said of a file."""
@@ -77,6 +81,11 @@ class Findings:
         else:
             self._rows[result.path] = _joined(before, row)
         self.counts['pickles'] += len(result.pickles) + result.plain
+
+    def add_taken(self, result: Result, looks: Sequence[Look]) -> None:
+        """Keeps the marks of a file that the policy takes, with what it says of them."""
+        self.counts['taken'] += len(looks)
+        self.taken.extend(f'{place_of(result.path, look.where)}: {_cut(look.lines[0])}' for look in looks[:max(0, _MOST_TAKEN - len(self.taken))])
 
     def rows(self) -> List[Row]:
         """The rows, the worst first."""

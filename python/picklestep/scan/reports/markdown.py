@@ -31,6 +31,8 @@ def markdown_report(findings: Findings, about: About) -> str:
         details = list(_details(row)) if room > 0 else []
         room -= sum(map(len, details))
         lines += details
+    if findings.taken:
+        lines += [f'## Marks that the policy takes: {findings.counts["taken"]}', '', *_block(findings.taken), '']
     return '\n'.join(lines).rstrip('\n') + '\n'
 
 

@@ -42,6 +42,8 @@ def html_report(findings: Findings, about: About) -> str:
             left.append(row)
     if left:
         lines += [f'<p>{len(left):,} more have marks. <code>picklestep scan --brief</code> prints them.</p>\n', *_table(left)]
+    if findings.taken:
+        lines += [f'<h2>Marks that the policy takes: {findings.counts["taken"]}</h2>\n<pre>', *(f'{_text(line)}\n' for line in findings.taken), '</pre>\n']
     lines += ['<h2>Files without marks</h2>\n', '<p>A file without a mark may still do harm.</p>\n', *_table(row for row in rows if row.severity is None),
               '</body>\n</html>\n']
     return ''.join(lines)
