@@ -56,7 +56,7 @@ AT_ONCE = 4
 NEEDS_OTHERS = ("INTERP", "NEEDED")
 LIMITS = (8, 16, 32, 64)  # MiB
 LIMITS_OF_ARM = (48, 64, 96)  # MiB of addresses in the emulator, which puts a stack and the like into the first 40
-MOST_BYTES = 8_000_000
+MOST_BYTES = 9_000_000
 
 
 class Answer(NamedTuple):
@@ -536,7 +536,7 @@ ROWS: list[Row] = [
     ("the sample meets each word, option, opcode and code", lambda machines: fault_of_sample(machines.root)),
     ("further machines: made again, each is the released one", made_again),
     ("further machines: tools of another version are noted", other_tools),
-    ("further machines: dist is under 8 MB", size_of_all),
+    ("further machines: dist is under 9 MB", size_of_all),
     ("x86-64, static: needs no other file", lambda machines: alone(machines, STATIC)),
     ("x86-64, static: the sample in an empty root", in_empty_root),
     ("x86-64, static: the sample on what is like an Alpine", on_alpine),

@@ -18,7 +18,7 @@ HERE = Path(__file__).resolve().parent
 TABLES = ("conversations.txt", "texts.txt", "calls.txt")
 # The words of the command line that the rows ask, each with a page of help that has its options. (That of `debug` has its words, too.)
 WORDS = (*REFUSALS, "debug")
-CODE = re.compile(r"\b[CEFSUVX]\d+\b")
+CODE = re.compile(r"\b[CEFSUVWX]\d+\b")
 # Codes that no row meets, since what they refuse is too large for a row.
 TOO_LARGE = frozenset(("E7", "E8", "X7"))
 
@@ -80,7 +80,7 @@ def named(root: Path) -> set[tuple[str, str]]:
     met = {("", name) for name in (*(opcode.name for opcode in pickletools.opcodes), *codes) if name not in TOO_LARGE}
     pages = {word: (root / f"python/picklestep/help/{word}.txt").read_text("utf-8") for word in WORDS}
     for word, page in pages.items():
-        met |= {(word, option) for option in re.findall(r"(?m)^  (--[a-z]+)", page) if option != "--save"}
+        met |= {(word, option) for option in re.findall(r"(?m)^  (--[a-z-]+)", page) if option != "--save"}
     lines = re.findall(r"(?m)^  ([a-z].*?)(?:   .*)?$", pages["debug"])
     return met | {(f"debug> {name}", "") for line in lines for name in re.findall(r"\b[a-z]+\b", line)}
 
