@@ -15,7 +15,7 @@ from .trial import Trial
 
 COMMAND = "    $ "
 MARGIN = "    "
-COMMANDS = ("README.md", "docs/PICKLES.md", "docs/PROMISE.md", "docs/LOOK.md", "docs/LOADERS.md")
+COMMANDS = ("README.md", "docs/PICKLES.md", "docs/PROMISE.md", "docs/LOOK.md", "docs/LOADERS.md", "docs/ARCHIVES.md")
 PAGES = ("docs/USING.md", "equipment/conversations.txt", "equipment/texts.txt", "equipment/calls.txt")
 BLOCK = re.compile(r"^ *(?:(?:pickles?|unframed)(?: [0-9a-f ]+)?|\$ echo '[0-9a-f ]+' \| xxd -r -p >a\.pickle)$", re.MULTILINE)
 
