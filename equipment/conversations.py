@@ -2,13 +2,13 @@
 
 A conversation on the page is a block of lines, indented or not, that begins with `pickle` and the bytes of a pickle in
 hexadecimal, or with the command that makes `a.pickle` of these (then each command is written as a user types it). After `pickles` they are of several pickles, and every command has the option --many; after `unframed` it has --unframed. Then comes a line of the
-script after `debug> `, then the lines that answer it, and so on. `$ list`, `$ objects`, `$ calls` (with options: `$ calls --first`) or `$ form` comes
-before what that command writes. A last line `saved` has the bytes that the pickle is saved as. The block ends at an empty line, or at the end of the page.
+script after `debug> `, then the lines that answer it, and so on. `$ list`, `$ objects`, `$ calls` (with options: `$ calls --first`) or another word comes
+before what that command writes; the list of `$ gate` stands above it, each line after `allow `. A last line `saved` has the bytes that the pickle is saved as. The block ends at an empty line, or at the end of the page.
 
 It is named by the first sentence of the lines above it, so each has to be on its page once; further blocks below that have a number too.
 
-Each script is run with all records and in windows of 1 and 2. The status has to be 1 just where an answer refuses. What is shown of one
-pickle is also tried with --many, where no byte is after its STOP: the answers are the same then.
+Each script is run with all records and in windows of 1 and 2. The status has to be 1 just where an answer refuses (2 where the list is none). What is
+shown of one pickle is also tried with --many, where no byte is after its STOP: the answers are the same then.
 """
 
 from __future__ import annotations
@@ -32,13 +32,18 @@ WORD = re.compile(r"\$ (?:picklestep (\w+) a\.pickle(?: --save b\.pickle)?((?: [
 OPTIONS: dict[str, list[str]] = {"pickle": [], "pickles": ["--many"], "unframed": ["--unframed"]}
 # the lines with which a command has status 1
 REFUSED = ("refused: ", "fault: ")
+# what stands before the words of a refusal, and what has status 2
+OFFSET = re.compile(r"\d+: ")
+NO_LIST = "not a list: "
 # the words that take no --many
-WITHOUT_MANY = ("reach",)
+WITHOUT_MANY = ("gate", "members", "reach")
 REFUSALS: dict[str, tuple[str, ...]] = {
     "list": REFUSED,
     "objects": REFUSED,
     "calls": (*REFUSED, "kept: ", "unsure: ", "warning: "),
     "form": ("not in form: ",),
+    "gate": ("not in form: ", "not allowed: "),
+    "members": ("not in form: ",),
     "reach": ("reached at ", "too many ways "),
 }
 
@@ -50,6 +55,7 @@ class Block:
     name: str
     options: list[str]
     pickle: bytes
+    allowed: list[str] = field(default_factory=list)
     script: list[str] = field(default_factory=list)
     answers: list[str] = field(default_factory=list)
     written: dict[str, list[str]] = field(default_factory=dict)
@@ -64,6 +70,8 @@ class Block:
         if line.startswith("debug> "):
             self.script.append(line[len("debug> "):])
             self.output = self.answers
+        elif line.startswith("allow "):
+            self.allowed.append(line[len("allow "):])
         elif word is not None:
             self.output = self.output_of(word)
         elif line.startswith("saved ") or self.output is self.dump:
@@ -126,10 +134,27 @@ def runs_of(block: Block) -> Iterator[tuple[list[str], bytes, list[str]]]:
     """What is run of a conversation: words without those of the files, the script, and what is answered. Its pickle is also asked as one of several."""
     for mode in [block.options] if block.options else [[], ["--many"]]:
         for command, answer in block.written.items():
-            yield [*command.split(), *([] if "--" in command else mode)], b"", answer
+            if not mode or takes_many(command):
+                yield [*command.split(), *([] if "--" in command else mode)], b"", answer
         if block.script or block.saved is not None:
             script = "".join(line + "\n" for line in block.script).encode()
             yield from ((["debug", *mode, *options], script, block.answers) for options in WINDOWS)
+
+
+def takes_many(command: str) -> bool:
+    return command.split()[0] not in WITHOUT_MANY
+
+
+def list_of(block: Block) -> bytes:
+    """The list of `gate`."""
+    return "".join(f"{line}\n" for line in block.allowed).encode()
+
+
+def status_of(word: str, answer: list[str]) -> int:
+    """The status of a word that answers so."""
+    if any(line.startswith(NO_LIST) for line in answer):
+        return 2
+    return int(any(OFFSET.sub("", line, count=1).startswith(REFUSALS.get(word, ("refused: ",))) for line in answer))
 
 
 def run(program: str, words: list[str], script: bytes) -> tuple[Done, str]:
@@ -150,15 +175,18 @@ def differs(words: list[str], done: Done, wanted: list[str], status: int) -> str
 
 def fault_of_command(program: str, block: Block, mode: list[str], command: str, file: pathlib.Path) -> str:
     wanted = block.written[command]
-    status = int(any(line.startswith(REFUSALS[command.split()[0]]) for line in wanted))
     words = [*command.split(), *([] if "--" in command else mode)]
+    if words[0] == "gate":
+        listed = file.with_suffix(".list")
+        listed.write_bytes(list_of(block))
+        words.append(str(listed))
     done, why = run(program, [*words, str(file)], b"")
-    return why or differs(words, done, wanted, status)
+    return why or differs(words, done, wanted, status_of(words[0], wanted))
 
 
 def fault_of_script(program: str, block: Block, mode: list[str], file: pathlib.Path, saved: pathlib.Path) -> str:
     script = "".join(line + "\n" for line in block.script).encode()
-    status = int(any(line.startswith("refused: ") for line in block.answers))
+    status = status_of("debug", block.answers)
     for options in WINDOWS:
         saved.unlink(missing_ok=True)
         done, why = run(program, ["debug", *mode, str(file), "--save", str(saved), *options], script)
@@ -174,7 +202,7 @@ def fault_in(program: str, block: Block, mode: list[str], folder: pathlib.Path) 
     file = folder / "shown.pickle"
     file.write_bytes(block.pickle)
     for command in block.written:
-        why = fault_of_command(program, block, mode, command, file)
+        why = fault_of_command(program, block, mode, command, file) if not mode or takes_many(command) else ""
         if why:
             return why
     if block.script or block.saved is not None:
@@ -192,9 +220,9 @@ def keeps_bytes(program: str, block: Block, folder: pathlib.Path) -> bool:
 
 def fault_of(program: str, block: Block, folder: pathlib.Path) -> str:
     """What is wrong with a conversation, or an empty text. The folder gets the pickles."""
-    folder.mkdir(exist_ok=True)
+    folder.mkdir(parents=True, exist_ok=True)
     why = fault_in(program, block, block.options, folder)
-    if not why and not block.options and not set(block.written) & set(WITHOUT_MANY) and not keeps_bytes(program, block, folder):
+    if not why and not block.options and not keeps_bytes(program, block, folder):
         why = fault_in(program, block, ["--many"], folder)
     return why
 

@@ -57,8 +57,8 @@ def shows_state(block: Block) -> bool:
     return {"objects", "stack"} <= {*block.script, *block.written}
 
 
-def shows_reader(block: Block) -> bool:
-    return any(line in ("stack", "memo") or line.startswith("show ") for line in block.script)
+def shows_object(block: Block) -> bool:
+    return any(line.startswith("show ") for line in block.script)
 
 
 def shows_refusal(block: Block) -> bool:
@@ -84,7 +84,7 @@ ROWS = (
     Rows("unit_tests/src/machine/rows.rt", ("SEVERAL",), shows_state, many=True),
     Rows("unit_tests/src/machine.rt", ("REFUSED",), shows_refusal),
     Rows("unit_tests/src/machine.rt", ("REFUSED_OF_SEVERAL",), shows_refusal, many=True),
-    Rows("document_tests/src/texts.rt", ("SHOWN", "STACKS_AND_MEMOS"), shows_reader),
+    Rows("document_tests/src/texts.rt", ("SHOWN",), shows_object),
     Rows("script_tests/src/texts.rt", ("ONE",), writes("list", "objects")),
     Rows("script_tests/src/texts.rt", ("SEVERAL",), writes("list", "objects"), many=True),
     Rows("script_tests/src/texts.rt", ("CALLS",), writes("calls"), many=None),

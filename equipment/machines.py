@@ -68,12 +68,13 @@ class Answer(NamedTuple):
 
 @dataclass(frozen=True)
 class Asked:
-    """A run that is compared: the words before the file, the file, and the script of a conversation, which may save."""
+    """A run that is compared: the words before the file, the file, the script of a conversation, which may save, and the list of `gate`."""
 
     words: tuple[str, ...]
     file: Path
     script: bytes = SCRIPT
     saves: bool = False
+    listed: Path | None = None
 
     @property
     def given(self) -> bytes:
@@ -81,7 +82,12 @@ class Asked:
 
     def command(self, saved: Path) -> list[str]:
         """All words, with the file that is saved to."""
-        return [*self.words, str(self.file), *(["--save", str(saved)] if self.saves else [])]
+        return [*self.words, *map(str, self.files), *(["--save", str(saved)] if self.saves else [])]
+
+    @property
+    def files(self) -> list[Path]:
+        """What it reads."""
+        return [self.file] if self.listed is None else [self.listed, self.file]
 
 
 def taken(file: Path) -> bytes:
@@ -167,9 +173,11 @@ class Machines:
         folder.mkdir(parents=True, exist_ok=True)
         made = []
         for row in rows:
-            file = folder / f"{hashlib.sha256(row.pickle).hexdigest()[:16]}.pickle"
+            file, listed = (folder / f"{hashlib.sha256(content).hexdigest()[:16]}.{kind}" for content, kind in ((row.pickle, "pickle"), (row.allowed, "list")))
             file.write_bytes(row.pickle)
-            made.append(Asked(row.words, file, row.script, saves=row.words[0] == "debug"))
+            if row.words[0] == "gate":
+                listed.write_bytes(row.allowed)
+            made.append(Asked(row.words, file, row.script, row.words[0] == "debug", listed if row.words[0] == "gate" else None))
         return made
 
     def compare(self, asked: Asked, found: Answer) -> str:
@@ -249,7 +257,7 @@ class Machines:
         return self.with_files(Root(self.folder / "roots" / name))
 
     def with_files(self, root: Root) -> Root:
-        root.add(sorted({asked.file for asked in self.sample}))
+        root.add(sorted({file for asked in self.sample for file in asked.files}))
         return root
 
     @functools.cached_property
@@ -534,7 +542,6 @@ def size_of_all(machines: Machines) -> str:
 Row = tuple[str, Callable[[Machines], "str | Noted"]]
 ROWS: list[Row] = [
     ("the sample meets each word, option, opcode and code", lambda machines: fault_of_sample(machines.root)),
-    ("further machines: made again, each is the released one", made_again),
     ("further machines: tools of another version are noted", other_tools),
     ("further machines: dist is under 9 MB", size_of_all),
     ("x86-64, static: needs no other file", lambda machines: alone(machines, STATIC)),
@@ -552,6 +559,11 @@ ROWS: list[Row] = [
     ("the module in Node: the sample in a root with nothing else", in_node_root),
     ("the module in Node: out of memory is an answer", memory_of_module),
 ]
+
+
+def making(machines: Machines) -> list[Trial]:
+    """This takes as long as a group: two programs are proved for it."""
+    return [Trial("further machines: made again, each is the released one", functools.partial(made_again, machines))]
 
 
 def trials(machines: Machines) -> list[Trial]:

@@ -3,10 +3,12 @@
 The wheel carries the released program and the library, or the program that is tried where that is not the released one. Where
 setuptools and wheel are not there, the tests run from the source tree. They run in another interpreter, which starts this file:
 
-    packages.py --names             writes the names of the tests
-    packages.py --run LINES NAME..  runs these tests (a name may be that of a class), or all where none is named; LINES gets for each its
-                                    name, a tab, a note, a tab, and what is wrong or nothing. Before the names, --skip FILE has the
-                                    beginnings of names of tests that are skipped, each with a tab and the reason
+    packages.py --names                  writes the names of the tests
+    packages.py --run LINES NAME..       runs these tests (a name may be that of a class); LINES gets for each its name, a tab, a note, a tab,
+                                         and what is wrong or nothing. Before the names, --skip FILE has the beginnings of names of tests that
+                                         are skipped, each with a tab and the reason
+    packages.py --share LINES FOLDER     runs all tests together with other interpreters that are given the same folder, which is empty at
+                                         first: each takes the next module that no other took
 """
 
 from __future__ import annotations
@@ -18,7 +20,8 @@ import shutil
 import subprocess
 import sys
 import unittest
-from collections.abc import Callable, Iterable, Iterator, Set
+from collections.abc import Iterable, Iterator, Set
+from concurrent.futures import ThreadPoolExecutor
 from dataclasses import dataclass
 from pathlib import Path
 from typing import Any, Dict, List, Optional, TextIO, Tuple
@@ -29,6 +32,9 @@ ROOT = Path(__file__).resolve().parent.parent
 SOURCES = ROOT / 'python'
 RELEASED = ROOT / 'dist' / 'linux-x86_64-static' / 'picklestep'
 LICENCES = ('LICENSE-MIT', 'LICENSE-APACHE', 'THIRD-PARTY')
+# The modules of tests that take longest.
+LONGEST = ('test_entrance', 'test_stores_servers', 'test_stores_files', 'test_scan_reach', 'test_mending', 'test_opener', 'test_policy',
+           'test_shell', 'test_gating', 'test_gate', 'test_scan_hostile', 'test_scan_runs')
 MOST_SECONDS = 600
 # All tests of the package together, on a machine that has much else to do.
 MOST_SECONDS_OF_TESTS = 3600
@@ -86,11 +92,10 @@ def tests_in(suite: Iterable[Any]) -> Iterator[unittest.TestCase]:
 
 
 def run_tests(lines: str, names: List[str], skipped: Optional[Dict[str, str]] = None) -> None:
-    """Runs tests of the package in this interpreter: all of them where none is named, without those whose names begin as the skipped ones."""
+    """Runs tests of the package in this interpreter, without those whose names begin as the skipped ones."""
     suite = _loaded({name.split()[1].split('.')[0] for name in names})
-    if names:
-        wanted = tuple(f'{name}.' for name in names)
-        suite = unittest.TestSuite(test for test in tests_in(suite) if f'python {test.id()}.'.startswith(wanted))
+    wanted = tuple(f'{name}.' for name in names)
+    suite = unittest.TestSuite(test for test in tests_in(suite) if f'python {test.id()}.'.startswith(wanted))
     with open(lines, 'w', encoding='utf-8', errors='backslashreplace') as out, contextlib.redirect_stdout(sys.stderr):
         result = Lines(out)
         if skipped:
@@ -98,11 +103,23 @@ def run_tests(lines: str, names: List[str], skipped: Optional[Dict[str, str]] = 
         suite.run(result)
 
 
+def share_tests(lines: str, taken: str) -> None:
+    """Runs the tests of each module that no other interpreter took. Those that take longest come first."""
+    sys.path.insert(0, str(SOURCES / 'tests'))
+    modules = sorted(path.stem for path in (SOURCES / 'tests').glob('test_*.py'))
+    with open(lines, 'w', encoding='utf-8', errors='backslashreplace') as out, contextlib.redirect_stdout(sys.stderr):
+        result = Lines(out)
+        for module in sorted(modules, key=lambda module: LONGEST.index(module) if module in LONGEST else len(LONGEST)):
+            with contextlib.suppress(FileExistsError):
+                (Path(taken) / module).mkdir()
+                unittest.defaultTestLoader.loadTestsFromName(module).run(result)
+
+
 def _loaded(modules: Set[str]) -> unittest.TestSuite:
-    """The tests of these modules (to read all files takes longer than most tests). All where none is named, or one that is no file of tests:
-    examples have the names of modules of the package, and what cannot be read has that of one of Python."""
+    """The tests of these modules (to read all files takes longer than most tests). All where one is no file of tests: examples have the names
+    of modules of the package, and what cannot be read has that of one of Python."""
     tests = SOURCES / 'tests'
-    if not modules or not all((tests / f'{module}.py').is_file() for module in modules):
+    if not all((tests / f'{module}.py').is_file() for module in modules):
         return unittest.defaultTestLoader.discover(str(tests))
     sys.path.insert(0, str(tests))
     return unittest.defaultTestLoader.loadTestsFromNames(sorted(modules))
@@ -184,13 +201,12 @@ def check_types(folder: Path) -> str:
 
 @dataclass
 class Package:
-    """The group of trials of the package. The tests run in one call of an interpreter, which the wheel is installed into.
-    For `aside` see Group."""
+    """The group of trials of the package. The tests run in interpreters of an environment, which the wheel is installed into."""
 
     program: str
     folder: Path
     name: str = 'python'
-    aside: Optional[Callable[[], None]] = None
+    lanes: int = 2  # how many interpreters share the tests
 
     def names(self) -> List[str]:
         words = [sys.executable, str(Path(__file__).resolve()), '--names']
@@ -215,11 +231,15 @@ class Package:
     def tests(self, interpreter: str, names: List[str], place: str) -> Iterator[Verdict]:
         """Runs tests where the wheel is installed, or from the source tree; without names all, and counts them."""
         environment = {'PYTHONDONTWRITEBYTECODE': '1'} if interpreter else from_sources(self.program)
-        lines = self.folder / 'lines'
-        words = [interpreter or sys.executable, str(Path(__file__).resolve()), '--run', str(lines), *names]
-        why = call(words, self.folder, MOST_SECONDS_OF_TESTS, **environment)
-        tested = lines.read_text(encoding='utf-8').splitlines() if lines.exists() else []
-        for line in tested:
+        files = [self.folder / f'lines{number}' for number in range(1 if names else self.lanes)]
+        start = [interpreter or sys.executable, str(Path(__file__).resolve())]
+        (self.folder / 'taken').mkdir()
+        tasks = [['--run', str(file), *names] if names else ['--share', str(file), str(self.folder / 'taken')] for file in files]
+        with ThreadPoolExecutor(len(tasks)) as pool:
+            faults = pool.map(lambda task: call([*start, *task], self.folder, MOST_SECONDS_OF_TESTS, **environment), tasks)
+        why = next(filter(None, faults), '')
+        tested = [line for file in files if file.exists() for line in file.read_text(encoding='utf-8').splitlines()]
+        for line in sorted(tested, key=_module_of):
             name, note, fault = line.split('\t', 2)
             yield Verdict(name, name + note, fault)
         if why or not tested:
@@ -229,9 +249,15 @@ class Package:
             yield Verdict(self.name, f'{len(tested)} tests of the Python package in {where}, by packages.py', '')
 
 
+def _module_of(line: str) -> str:
+    return line.split()[1].split('.')[0]
+
+
 if __name__ == '__main__':
     if sys.argv[1] == '--names':
         print_names()
+    elif sys.argv[1] == '--share':
+        share_tests(*sys.argv[2:])
     elif sys.argv[3:4] == ['--skip']:
         rows = Path(sys.argv[4]).read_text(encoding='utf-8').splitlines()
         run_tests(sys.argv[2], sys.argv[5:], dict((name, reason) for name, _, reason in (row.partition('\t') for row in rows)))

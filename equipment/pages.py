@@ -395,7 +395,7 @@ BODIES_SINCE = "2026-11-28"
 CHANGE_LOG = "CHANGELOG.md"
 # So it has where what users read about the program changes, from this day on.
 BODIES_OF_TEXTS_SINCE = "2026-11-29"
-TEXTS_FOR_USERS = ("docs/CODES.md", "docs/LOADERS.md", "docs/LOOK.md", "docs/USING.md", "python/picklestep/help/", "share/")
+TEXTS_FOR_USERS = ("docs/CODES.md", "docs/DEBUG.md", "docs/LOADERS.md", "docs/LOOK.md", "docs/USING.md", "python/picklestep/help/", "share/")
 
 
 def wants_body(day: str, counts: str) -> bool:

@@ -1,7 +1,7 @@
 """The sample of the rows: what is asked of a program that is compiled of the same build as the one that gets all rows.
 
-A run of a row is in the sample where it meets something that no run before it met: an option, an opcode or a code of a word of the command line, or
-an option of a word of the debugger.
+A run of a row is in the sample where it meets something that no run before it met: an option, an opcode, a code or another refusal of a word of the
+command line, or its status; or an option of a word of the debugger.
 """
 
 from __future__ import annotations
@@ -12,31 +12,49 @@ from collections.abc import Iterable, Iterator
 from dataclasses import dataclass
 from pathlib import Path
 
-from conversations import REFUSALS, blocks_of, runs_of
+from conversations import REFUSALS, blocks_of, list_of, runs_of, status_of
 
 HERE = Path(__file__).resolve().parent
 TABLES = ("conversations.txt", "texts.txt", "calls.txt")
 # The words of the command line that the rows ask, each with a page of help that has its options. (That of `debug` has its words, too.)
 WORDS = (*REFUSALS, "debug")
 CODE = re.compile(r"\b[CEFSUVWX]\d+\b")
-# Codes that no row meets, since what they refuse is too large for a row.
-TOO_LARGE = frozenset(("E7", "E8", "X7"))
+# A row of the table of docs/CODES.md: what is printed, and by which words. In it N is a number, and .. any text.
+PRINTED = re.compile(r"(?m)^\| (`.*?) \| (`.*?) \|")
+NUMBER_OR_TEXT = re.compile(r"\bN\b|\.\.")
+# Codes and refusals that no row meets, since what they refuse is too large for a row.
+TOO_LARGE = frozenset(("E7", "E8", "X7", "too many ways to read the bytes"))
+
+
+def refusals_of(root: Path) -> set[tuple[str, str]]:
+    """Words of the command line with how a refusal without a code begins that they print, from docs/CODES.md."""
+    found = set()
+    for printed, words in PRINTED.findall((root / "docs/CODES.md").read_text("utf-8")):
+        texts = [NUMBER_OR_TEXT.split(text.removeprefix("N: "))[0].strip() for text in re.findall("`(.*?)`", printed) if not CODE.search(text)]
+        found |= {(word, text) for word in re.findall("`(.*?)`", words) for text in texts if word in WORDS and text not in ("", "refused: M")}
+    return found
+
+
+REFUSED = refusals_of(HERE.parent)
 
 
 @dataclass(frozen=True)
 class RowRun:
-    """A run of a row of the tables: its words without the files, the pickle, the script of a conversation, and what it answers."""
+    """A run of a row of the tables: its words without the files, the pickle, the script of a conversation, what it answers, and the list of `gate`."""
 
     words: tuple[str, ...]
     pickle: bytes
     script: bytes
     answer: str
+    allowed: bytes = b""
 
     def met(self) -> Iterator[tuple[str, str]]:
         """Each word with what it meets."""
         options = ["", *(word for word in self.words if word.startswith("--"))]
-        for each in (*options, *opcodes_of(self.pickle), *CODE.findall(self.answer)):
+        status = f"status {status_of(self.words[0], self.answer.splitlines())}"
+        for each in (*options, status, *opcodes_of(self.pickle), *CODE.findall(self.answer)):
             yield self.words[0], each
+        yield from (pair for pair in REFUSED if pair[0] == self.words[0] and pair[1] in self.answer)
         for line in self.script.decode().splitlines():
             for option in options:
                 yield f"debug> {line.split()[0]}", option
@@ -59,7 +77,7 @@ def rows() -> Iterator[RowRun]:
     for table in TABLES:
         for block in blocks_of((HERE / table).read_text("utf-8")):
             for words, script, answer in runs_of(block):
-                yield RowRun(tuple(words), block.pickle, script, "\n".join(answer))
+                yield RowRun(tuple(words), block.pickle, script, "\n".join(answer), list_of(block) if words[0] == "gate" else b"")
 
 
 def sample_of(runs: Iterable[RowRun]) -> list[RowRun]:
@@ -75,9 +93,12 @@ def sample_of(runs: Iterable[RowRun]) -> list[RowRun]:
 
 
 def named(root: Path) -> set[tuple[str, str]]:
-    """What a sample has to meet: each opcode that Python has, each code of docs/CODES.md, each word of the debugger, and each option of each word."""
+    """What a sample has to meet: each opcode that Python has, each code of docs/CODES.md, each word of the debugger, and each option, status and refusal
+    of each word."""
     codes = re.findall(r"(?m)^- \*\*([A-Z]\d+)\b", (root / "docs/CODES.md").read_text("utf-8"))
     met = {("", name) for name in (*(opcode.name for opcode in pickletools.opcodes), *codes) if name not in TOO_LARGE}
+    met |= {(word, f"status {status}") for word in WORDS for status in (0, 1)}
+    met |= {pair for pair in refusals_of(root) if pair[1] not in TOO_LARGE}
     pages = {word: (root / f"python/picklestep/help/{word}.txt").read_text("utf-8") for word in WORDS}
     for word, page in pages.items():
         met |= {(word, option) for option in re.findall(r"(?m)^  (--[a-z-]+)", page) if option != "--save"}

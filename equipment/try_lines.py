@@ -369,7 +369,7 @@ def run(script: str, program: pathlib.Path, folder: pathlib.Path, pickles: Seque
     """Runs this script, or the other that compares lines, in a process of its own."""
     folder.mkdir(parents=True, exist_ok=True)
     words = [sys.executable, "-B", script, str(program), str(folder), *map(str, pickles)]
-    done = subprocess.run(words, capture_output=True, text=True, check=False, timeout=600)
+    done = subprocess.run(words, capture_output=True, text=True, check=False, timeout=1800)
     if done.returncode != 0:
         return Noted(f"it ended with status {done.returncode}: {done.stderr.strip()[-300:]}", "")
     found = json.loads(done.stdout)

@@ -117,7 +117,7 @@ class Begins:
     def folder(self) -> Path:
         """Files that are named by the number of their row and of what is in them."""
         folder = self.room.folder / "begins"
-        folder.mkdir()
+        folder.mkdir(parents=True)
         for number, kind in enumerate(self.kinds):
             for which, ending in enumerate(() if kind.name in UNPACKED else ENDINGS):
                 (folder / f"{number}-{which}").write_bytes(bytes(kind.offset) + kind.magic + ending)

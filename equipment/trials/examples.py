@@ -16,7 +16,7 @@ from .trial import Trial
 COMMAND = "    $ "
 MARGIN = "    "
 COMMANDS = ("README.md", "docs/PICKLES.md", "docs/PROMISE.md", "docs/LOOK.md", "docs/LOADERS.md", "docs/ARCHIVES.md")
-PAGES = ("docs/USING.md", "equipment/conversations.txt", "equipment/texts.txt", "equipment/calls.txt")
+PAGES = ("docs/USING.md", "docs/DEBUG.md", "equipment/conversations.txt", "equipment/texts.txt", "equipment/calls.txt")
 BLOCK = re.compile(r"^ *(?:(?:pickles?|unframed)(?: [0-9a-f ]+)?|\$ echo '[0-9a-f ]+' \| xxd -r -p >a\.pickle)$", re.MULTILINE)
 
 
@@ -48,7 +48,7 @@ class Commands:
     @functools.cached_property
     def folder(self) -> Path:
         folder = self.room.folder / f"commands of {Path(self.page).name}"
-        folder.mkdir()
+        folder.mkdir(parents=True)
         (folder / "picklestep").symlink_to(self.room.start)
         (folder / "crates").symlink_to(self.room.root / "crates")
         return folder
@@ -80,7 +80,7 @@ def of_pages(room: Room) -> list[Trial]:
     trials = []
     for name in PAGES:
         page = room.root / name
-        found = conversations.trials(str(room.program), page, room.folder / "conversations")
+        found = conversations.trials(str(room.program), page, room.folder)
         wanted = len(BLOCK.findall(page.read_text("utf-8")))
         names = [trial.name for trial in found]
         why = f"{len(found)} of {wanted} were found" if len(found) != wanted or not found else ""

@@ -1,11 +1,13 @@
-"""Whether a pickle passes a list: a list, a pickle and the one line for both, and what is said where a file cannot be read."""
+"""Whether a pickle or an archive passes a list: a list, a file and the one line for both, and what is said where a file cannot be read."""
 
 from __future__ import annotations
 
 import functools
 import pickle
+import zipfile
 from dataclasses import dataclass
 
+from .members import NO_END, zipped
 from .room import Room, run
 from .row import CLOSED, FULL, LITTLE_MEMORY, MISSING, Row, fails, trials_of
 from .trial import Trial
@@ -31,6 +33,10 @@ FILL = "43: not allowed: set 1 in #2\n"
 NEW = "10: not allowed: new 'm' 'C' () as #2\n"
 ENCODE = "46: not allowed: call '_codecs' 'encode' ('abc', 'latin1') as #4\n"
 STATE = "27: not allowed: state #3 to #2\n"
+# `.npy` files before what is behind their headers: the length of a header has two bytes, and from the second version on four.
+ARRAY = b"\x93NUMPY\x01\x00\x06\x00{'a'}\n"
+WIDE_ARRAY = b"\x93NUMPY\x02\x00\x06\x00\x00\x00{'a'}\n"
+MODEL = zipped(("archive/data.pkl", ORDERED), ("archive/data/0", bytes(64)), ("archive/version", b"3\n"))
 
 
 @dataclass(frozen=True)
@@ -107,6 +113,23 @@ CASES = (
     Case("arguments of __new__", b"m.C: call(held)\n", WITH_STATE, NEW),
     Case("arguments of __new__ by its own word", b"m.C: new call(held)\n", WITH_STATE, NEW),
     Case("a state of a shape, of what __new__ made", b"m.C: new then(held)\n", WITH_STATE, STATE),
+    Case("an archive of a pickle, of numbers and of a text", b"collections.OrderedDict: call made-fill\n", MODEL, PASSES),
+    Case("an archive without members", b"", zipped(), PASSES),
+    Case("a member that is not allowed", b"", MODEL, f"'archive/data.pkl': {IMPORT}"),
+    Case("the second member, whose name has a quote", b"", zipped(("a.pkl", b"N."), ("it's", ORDERED)), f"'it\\'s': {IMPORT}"),
+    Case("a member that no pickler writes, in which nothing is reached", b"", zipped(("a.pkl", b"J\x01\0\0\0.")), PASSES),
+    Case("a member that no pickler writes, in which something is", b"", zipped(("a.pkl", b"J\x01\0\0\0" + SYSTEM)), "'a.pkl': not in form: item 0 at 0: a number that has a shorter form\n"),
+    Case("a member that ends too early", b"**", zipped(("a.pkl", ORDERED[:-1])), "'a.pkl': not in form: item 10 at 44: no opcode can be read\n"),
+    Case("a member that is packed", b"**", zipped(("a.pkl", b"N."), method=zipfile.ZIP_DEFLATED), "'a.pkl': packed: it is not looked at\n"),
+    Case("an archive in an archive", b"**", zipped(("a.zip", zipped(("a.pkl", b"N.")))), "'a.zip': an archive itself: it is not looked at\n"),
+    Case("an archive without members in an archive", b"**", zipped(("a.zip", zipped())), "'a.zip': an archive itself: it is not looked at\n"),
+    Case("arrays of numbers", b"", zipped(("a.npy", ARRAY + bytes(16)), ("b.npy", WIDE_ARRAY + bytes(16))), PASSES),
+    Case("an array of objects", b"", zipped(("a.npy", ARRAY + SYSTEM)), "'a.npy': behind its header: 0: not allowed: import 'posix' 'system' as #0\n"),
+    Case("one of the second version", b"", zipped(("a.npy", WIDE_ARRAY + SYSTEM)), "'a.npy': behind its header: 0: not allowed: import 'posix' 'system' as #0\n"),
+    Case("one that the list allows", b"collections.OrderedDict", zipped(("a.npy", ARRAY + ORDERED)), PASSES),
+    Case("bytes behind an archive", b"**", zipped(("a.pkl", b"N.")) + b"\n", f"not in form: 89: {NO_END}\n"),
+    Case("an archive that is a pickle with a persistent id", b"persistent\n", b"PK\x03\x04\n.", f"not in form: 0: {NO_END}\n"),
+    Case("a line that is no entry, and an archive", b"a b\n", MODEL, "not a list: line 1 is no entry\n"),
     Case("a line that is no entry", b"collections.*\n\n# a note\nno name\n", ORDERED, "not a list: line 4 is no entry\n"),
     Case("a word that there is not", b"collections.OrderedDict: cal\n", ORDERED, "not a list: line 1 is no entry\n"),
     Case("two lines that are no entries, and no pickle", b"a.b\n1.b\n:\n", b"", "not a list: line 2 is no entry\n"),

@@ -3,9 +3,10 @@
 from __future__ import annotations
 
 import functools
+import os
 import subprocess
 import sys
-from collections.abc import Iterator, Set
+from collections.abc import Callable, Iterator, Sequence, Set
 from typing import Optional, Protocol
 
 import count_calls
@@ -34,7 +35,9 @@ from . import begins, examples, forms, gate, large, listings, members, memory, o
 from .room import Room, Word
 from .trial import Group, Noted, Trial, Verdict
 
-# Random cases end with what comes first. They run together with the other groups, which take longer.
+# The groups that take longest, in the order in which they begin: python first, and the others when a processor is free.
+DEAREST = ("python", "made", "wheels", "loaders", "machines", "release", "library", "hostile", "lines", "large", "random", "forms", "usage", "readme")
+# Random cases end with what comes first.
 CASES = 1000
 SECONDS = 110
 
@@ -46,7 +49,7 @@ class AnyGroup(Protocol):
     def name(self) -> str: ...
 
     @property
-    def aside(self) -> object: ...
+    def lanes(self) -> int: ...
 
     def names(self) -> list[str]: ...
 
@@ -77,20 +80,30 @@ def line_trials(room: Room) -> list[Trial]:
     return [trial for module, name in tried for trial in module.trials(room.program, room.folder / name, room.pickles)]
 
 
+def processors() -> int:
+    """How many of them this process may use."""
+    return len(os.sched_getaffinity(0))
+
+
+def group(name: str, make: Callable[[Room], Sequence[Trial]], room: Room) -> Group:
+    """A group of trials that need nothing but a room, of which each group has its own."""
+    return Group(name, functools.partial(make, room.of(name)))
+
+
 def of_program(room: Room) -> list[AnyGroup]:
     """What the program does by itself."""
     return [
-        Group("program", functools.partial(program.trials, room)),
-        Group("usage", functools.partial(usage.trials, room)),
-        Group("options", functools.partial(options.trials, room)),
-        Group("readme", functools.partial(examples.of_commands, room)),
-        Group("conversations", functools.partial(examples.of_pages, room)),
+        group("program", program.trials, room),
+        group("usage", usage.trials, room),
+        group("options", options.trials, room),
+        group("readme", examples.of_commands, room),
+        group("conversations", examples.of_pages, room),
         Group("rows", functools.partial(crate_rows.trials, room.root)),
-        Group("begins", functools.partial(begins.trials, room)),
-        Group("forms", functools.partial(forms.trials, room)),
-        Group("gate", functools.partial(gate.trials, room)),
-        Group("reach", functools.partial(reach.trials, room)),
-        Group("members", functools.partial(members.trials, room)),
+        group("begins", begins.trials, room),
+        group("forms", forms.trials, room),
+        group("gate", gate.trials, room),
+        group("reach", reach.trials, room),
+        group("members", members.trials, room),
         Group("opcodes", functools.partial(opcodes.trials, room.root, str(room.program), room.folder / "opcodes")),
         Group("surface", functools.partial(surface.trials, room.root)),
         Group("pages", functools.partial(pages.trials, room.root, str(room.program), room.folder / "pages")),
@@ -102,41 +115,43 @@ def of_pickles(room: Room) -> list[AnyGroup]:
     counts = count_calls.Counts(str(room.program), room.listings)
     inputs = several.Inputs(str(room.program), room.folder / "several")
     return [
-        Group("listings", functools.partial(listings.trials, room)),
-        Group("lines", functools.partial(line_trials, room)),
+        group("listings", listings.trials, room),
+        group("lines", line_trials, room),
         Group("calls", functools.partial(count_calls.trials, counts, room.pickles), counts.closing),
-        Group("there-and-back", functools.partial(listings.there_and_back, room)),
+        group("there-and-back", listings.there_and_back, room),
         Group("several", functools.partial(several.trials, inputs, room.pickles, room.listings), inputs.closing),
-        Group("large", functools.partial(large.trials, room)),
+        group("large", large.trials, room),
     ]
 
 
 def of_surroundings(room: Room) -> list[AnyGroup]:
     """Inputs that lie, devices that break, files in the way, and how the program is released."""
-    library = functools.partial(room.library, "break_devices")
+    breaking = {name: functools.partial(room.of(name).library, "break_devices") for name in ("devices", "saves", "machines")}
     shared = room.root / "dist" / libraries.X86 / "lib/libpicklestep.so"
     cut = hostile.Hostile(str(room.program), str(shared), room.folder / "hostile", room.pickles)
-    broken = devices.Devices(str(room.proved), library, room.folder / "devices")
-    saved = saves.Saves(str(room.proved), library, room.folder / "saves")
+    broken = devices.Devices(str(room.proved), breaking["devices"], room.folder / "devices")
+    saved = saves.Saves(str(room.proved), breaking["saves"], room.folder / "saves")
     released = releases.Releases(room.root, room.program, room.folder / "releases")
-    others = machines.Machines(room.root, room.proved, room.folder / "machines", room.pickles, library)
+    others = machines.Machines(room.root, room.proved, room.folder / "machines", room.pickles, breaking["machines"])
     linked = libraries.Libraries(room.root, room.proved, room.folder / "libraries", room.pickles)
     loaded = loads.Loads(str(room.program), room.folder / "loads")
     return [
-        Group("loaders", functools.partial(loader_trials, loaded, room), loaded.closing, aside=lambda: None),
-        Group("hostile", functools.partial(hostile.trials, cut), cut.closing, aside=hostile.limit_stack),
-        packages.Package(str(room.program), room.folder / "python", aside=lambda: None),
+        Group("loaders", functools.partial(loader_trials, loaded, room), loaded.closing),
+        Group("hostile", functools.partial(hostile.trials, cut), cut.closing, begin=hostile.limit_stack),
+        packages.Package(str(room.program), room.folder / "python"),
         Group("devices", functools.partial(devices.trials, broken), broken.closing),
         Group("saves", functools.partial(saves.trials, saved), saved.closing),
         Group("release", functools.partial(releases.trials, released), released.closing),
-        Group("machines", functools.partial(machines.trials, others), others.closing, aside=lambda: None),
-        Group("library", functools.partial(libraries.trials, linked), linked.closing, aside=lambda: None),
-        Group("wheels", functools.partial(wheels.trials, wheels.Wheels(room.root, room.program, room.folder / "wheels")), aside=lambda: None),
-        Group("random", functools.partial(random_trials, room), aside=lambda: None),
+        Group("machines", functools.partial(machines.trials, others), others.closing),
+        Group("made", functools.partial(machines.making, others)),
+        Group("library", functools.partial(libraries.trials, linked), linked.closing),
+        Group("wheels", functools.partial(wheels.trials, wheels.Wheels(room.root, room.program, room.folder / "wheels"))),
+        group("random", random_trials, room),
     ]
 
 
 def in_order(room: Room) -> list[AnyGroup]:
     """Memory comes last, when nothing else runs."""
-    memory_group = Group("memory", functools.partial(memory.trials, room))
-    return [*of_program(room), *of_pickles(room), *of_surroundings(room), memory_group]
+    own = room.of("memory")
+    of_memory = Group("memory", functools.partial(memory.trials, own), begin=functools.partial(memory.prepare, own), lanes=processors())
+    return [*of_program(room), *of_pickles(room), *of_surroundings(room), of_memory]

@@ -63,7 +63,7 @@ def need_gigabytes(room: Room, count: int) -> None:
     """Raises Skip where less memory or disk is free."""
     with open("/proc/meminfo", encoding="ascii") as file:
         kilobytes = next(int(line.split()[1]) for line in file if line.startswith("MemAvailable:"))
-    if min(kilobytes * 1000, shutil.disk_usage(room.folder).free) < count * 10**9:
+    if min(kilobytes * 1000, shutil.disk_usage(room.files).free) < count * 10**9:
         raise Skip(f"it wants {count} GB of memory and of disk")
 
 

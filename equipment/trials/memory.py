@@ -7,13 +7,17 @@ path that has none.
 from __future__ import annotations
 
 import functools
-from collections.abc import Callable
+import itertools
+import threading
+from collections.abc import Callable, Iterator
 from dataclasses import dataclass, field
+from pathlib import Path
 
 from .room import Room, Run, Word, beginning
 from .samples import HOSTILE_CALLS, MEMBERS, NOT_ALLOWED, PAIR_LISTING, PAIR_OBJECTS, REACHED, TWICE_OBJECTS
 from .trial import Noted, Trial
 
+LIBRARY = "refuse_memory"
 MOST = 10_000
 NO_MEMORY = "picklestep: out of memory\n"
 TEST_ENDS = "test result: ok"
@@ -52,6 +56,7 @@ COMMANDS = (
     Command("the calls of a pickle", ("calls", "hostile.pickle"), HOSTILE_CALLS, is_part),
     Command("the objects of two pickles", ("objects", "--many", "twice.pickle"), TWICE_OBJECTS, is_nothing),
     Command("what a list does not allow", ("gate", "names.list", "hostile.pickle"), NOT_ALLOWED, is_nothing, status=1),
+    Command("what a list says of an archive", ("gate", "names.list", "two.zip"), "passes\n", is_nothing),
     Command("what is reached", ("reach", "hostile.pickle"), REACHED, is_nothing, status=1),
     Command("the members of an archive", ("members", "two.zip"), MEMBERS, is_nothing),
     Command(
@@ -106,10 +111,16 @@ class Memory:
     room: Room
     tried: dict[str, Noted] = field(default_factory=dict)
     said: set[str] = field(default_factory=set)
+    locks: dict[str, threading.Lock] = field(default_factory=lambda: {command.name: threading.Lock() for command in COMMANDS})
+    numbers: Iterator[int] = field(default_factory=itertools.count)
+
+    def new_file(self) -> Path:
+        """A path of its own for what a run says."""
+        return self.room.folder / f"said{next(self.numbers)}"
 
     def observe(self, settings: dict[str, str], *words: Word) -> Run:
         """Runs a command under the library with these settings."""
-        library = self.room.library("refuse_memory")
+        library = self.room.library(LIBRARY)
         given = [f"{name}={value}" for name, value in settings.items()]
         return self.room.observe("env", *given, f"LD_PRELOAD=../{library.name}", *words)
 
@@ -127,7 +138,7 @@ class Memory:
 
     def in_turn(self, command: Command) -> Noted:
         """Runs a command with its first request refused, with its second, and so on, until a run has none of that number."""
-        mark = self.room.folder / "refused"
+        mark = self.new_file()
         why = ""
         for number in range(1, MOST + 1):
             mark.unlink(missing_ok=True)
@@ -142,12 +153,12 @@ class Memory:
             why = "there was no end of allocations"
         if not why and number == 1:
             why = "no allocation was refused"
-        self.room.requests += number - 1
         return Noted(why, f", with {number - 1} allocations refused in turn")
 
     def tried_once(self, command: Command) -> Noted:
-        if command.name not in self.tried:
-            self.tried[command.name] = self.in_turn(command)
+        with self.locks[command.name]:
+            if command.name not in self.tried:
+                self.tried[command.name] = self.in_turn(command)
         return self.tried[command.name]
 
     def line_is_written(self) -> str:
@@ -157,8 +168,7 @@ class Memory:
 
     def each(self, last_line: str, is_behind: bool, *words: Word) -> Noted:
         """Runs a command, and at each of its requests a copy in which this one is refused. All end well, and with this line."""
-        report = self.room.folder / "each"
-        report.unlink(missing_ok=True)
+        report = self.new_file()
         settings = {"FAIL_EACH": f"../{report.name}", "LAST_LINE": last_line, "FAIL_BEHIND": str(int(is_behind))}
         found = self.observe(settings, *words)
         lines = report.read_text("utf-8").splitlines() if report.exists() else []
@@ -170,7 +180,6 @@ class Memory:
             why = f"status {found.status}, with errors that begin: {beginning(found.errors)}"
         elif refused == 0 or wrong != 0:
             why = f"{refused} refused, {wrong} wrong, first: {''.join(lines[:1])}"
-        self.room.requests += refused
         return Noted(why, f", with {refused} requests refused in turn")
 
     def of_test(self, crate: str, test: str, is_behind: bool) -> Noted:
@@ -182,7 +191,7 @@ class Memory:
         return self.each("as noted", True, runs, "memory", self.room.pickles / f"{pickle}.pickle")
 
     def requests_of(self, crate: str, test: str) -> int:
-        count = self.room.folder / "requests"
+        count = self.new_file()
         count.write_bytes(b"")
         found = self.observe({"REQUESTS": f"../{count.name}"}, self.room.built(crate, f"{crate}_tests"), test)
         if found.status != 0 or found.output.splitlines()[-1:] != [TEST_ENDS.encode()]:
@@ -195,6 +204,12 @@ class Memory:
         if first == 0 or first != second:
             why = f"{tests[0]} asks {first} times for memory, and {tests[1]} {second} times"
         return Noted(why, f", by {first} requests")
+
+
+def prepare(room: Room) -> None:
+    """Makes what the trials share, before they run side by side."""
+    room.library(LIBRARY)
+    assert room.files.is_dir()
 
 
 def trials(room: Room) -> list[Trial]:

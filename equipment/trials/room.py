@@ -2,6 +2,7 @@
 
 from __future__ import annotations
 
+import dataclasses
 import functools
 import itertools
 import os
@@ -87,18 +88,21 @@ def run(words: Sequence[Word], at: Path, given: Optional[bytes] = None, seconds:
 @dataclass
 class Room:
     """`program` is the binary that users start, and `proved` the one that the proofs built, which loads a library before it. `start` is the script
-    that users start, except that it does not choose a program but starts this one."""
+    that users start, except that it does not choose a program but starts this one. `folder` is for files, and is made when it is first needed."""
 
     root: Path
     program: Path
     proved: Path
     folder: Path
-    requests: int = 0
+
+    def of(self, group: str) -> Room:
+        """The same with a folder of its own, for a group that runs beside others."""
+        return dataclasses.replace(self, folder=self.folder / group)
 
     @functools.cached_property
     def start(self) -> Path:
         made = self.folder / "start" / "picklestep"
-        made.parent.mkdir()
+        made.parent.mkdir(parents=True)
         text = (self.root / "picklestep").read_text("utf-8")
         for place, words in (
             ("root=$(CDPATH='' cd -- \"${here%/*}/\" && pwd -P)", f"root={shlex.quote(str(self.root))}"),
@@ -140,6 +144,7 @@ class Room:
         made = self.folder / f"{name}.so"
         if made.exists():
             return made
+        self.folder.mkdir(parents=True, exist_ok=True)
         words: list[Word] = ["cc", "-shared", "-fPIC", "-o", made, self.equipment / f"{name}.c"]
         done = run(words, self.folder)
         if done.status != 0:

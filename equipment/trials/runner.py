@@ -6,12 +6,12 @@ import multiprocessing
 import os
 import re
 import time
-from collections.abc import Iterator, Sequence, Set
-from multiprocessing.connection import Connection
+from collections.abc import Iterable, Sequence, Set
+from multiprocessing.connection import wait
 from pathlib import Path
-from typing import Optional
+from typing import Optional, Union
 
-from .groups import AnyGroup, in_order
+from .groups import DEAREST, AnyGroup, in_order, processors
 from .room import Room
 from .trial import Report, Verdict
 
@@ -37,37 +37,45 @@ def broken(group: AnyGroup, fault: Exception) -> Verdict:
     return Verdict(group.name, group.name, f"{type(fault).__name__}: {fault}"[:600])
 
 
-class Aside:
-    """A group that runs in a process of its own, together with the others."""
+class Running:
+    """A group that runs in a process of its own, beside others. `verdicts` has those that were not taken from it yet."""
 
     def __init__(self, group: AnyGroup, wanted: Optional[Set[str]]) -> None:
         context = multiprocessing.get_context("fork")
-        self.group = group
-        self.receiver, sender = context.Pipe(duplex=False)
-        self.process = context.Process(target=self.send, args=(sender, wanted))
+        self.group, self.wanted = group, wanted
+        self.verdicts: list[Verdict] = []
+        self.seconds: Optional[float] = None
+        self.receiver, self.sender = context.Pipe(duplex=False)
+        self.process = context.Process(target=self._run)
         self.process.start()
-        sender.close()
+        self.sender.close()
 
-    def send(self, sender: Connection, wanted: Optional[Set[str]]) -> None:
-        if callable(self.group.aside):
-            self.group.aside()
-        found: list[Verdict] = []
+    def _run(self) -> None:
+        self.receiver.close()
         try:
-            for verdict in self.group.verdicts(wanted):
-                found.append(verdict)
+            for verdict in self.group.verdicts(self.wanted):
+                self.sender.send(verdict)
         except Exception as fault:
-            found.append(broken(self.group, fault))
-        sender.send((found, processor_seconds()))
+            self.sender.send(broken(self.group, fault))
+        self.sender.send(processor_seconds())
 
-    def verdicts(self, costs: Costs) -> Iterator[Verdict]:
+    def receive(self) -> None:
+        """Takes what the process sent next: a verdict, or at the end what it used. Waits for it."""
         try:
-            found, costs[self.group.name] = self.receiver.recv()
-            yield from found
+            sent: Union[Verdict, float] = self.receiver.recv()
         except EOFError:
             self.process.join()
-            why = f"its process ended with status {self.process.exitcode}"
-            yield Verdict(self.group.name, self.group.name, why)
-        self.process.join()
+            sent, self.seconds = Verdict(self.group.name, self.group.name, f"its process ended with status {self.process.exitcode}"), 0.0
+        if isinstance(sent, Verdict):
+            self.verdicts.append(sent)
+        else:
+            self.seconds = sent
+            self.process.join()
+
+    def report(self, report: Report) -> None:
+        for verdict in self.verdicts:
+            report.take(verdict)
+        self.verdicts = []
 
 
 def choose(room: Room, names: Sequence[str]) -> Chosen:
@@ -90,20 +98,40 @@ def choose(room: Room, names: Sequence[str]) -> Chosen:
 
 
 def run_groups(chosen: Chosen, report: Report) -> Costs:
-    """Runs groups one after another, but those that run aside, which begin at once. Returns what each took of the processors."""
-    asides = {group.name: Aside(group, wanted) for group, wanted in chosen if group.aside is not None}
-    costs: Costs = {}
-    for group, wanted in chosen:
-        is_aside, before = group.name in asides, processor_seconds()
-        found = asides[group.name].verdicts(costs) if is_aside else group.verdicts(wanted)
-        try:
-            for verdict in found:
-                report.take(verdict)
-        except Exception as fault:  # (the next group still runs)
-            report.take(broken(group, fault))
-        if not is_aside:
-            costs[group.name] = processor_seconds() - before
-    return costs
+    """Runs groups, and returns what each took of the processors."""
+    costs = run_beside([pair for pair in chosen if pair[0].name != MEMORY], report)
+    # Nothing else runs during these trials, so that none of them runs out of memory by chance.
+    return costs | run_beside([pair for pair in chosen if pair[0].name == MEMORY], report)
+
+
+def run_beside(chosen: Chosen, report: Report) -> Costs:
+    """Runs groups, each in a process of its own, as many at once as there are processors, and the dearest first. What they say is printed in the
+    order in which they were chosen."""
+    waiting, running = sorted(chosen, key=place_among_dearest), dict[str, Running]()
+    for group, _ in chosen:
+        while group.name not in running or running[group.name].seconds is None:
+            while waiting and sum(each.group.lanes for each in running.values() if each.seconds is None) < processors():
+                begun = Running(*waiting.pop(0))
+                running[begun.group.name] = begun
+            receive(running.values())
+            if group.name in running:
+                running[group.name].report(report)
+        running[group.name].report(report)
+    return {name: each.seconds or 0 for name, each in running.items()}
+
+
+def receive(running: Iterable[Running]) -> None:
+    """Takes what the groups that have not ended sent. Waits for it."""
+    left = [each for each in running if each.seconds is None]
+    ready = wait([each.receiver for each in left])
+    for each in left:
+        if each.receiver in ready:
+            each.receive()
+
+
+def place_among_dearest(pair: tuple[AnyGroup, Optional[Set[str]]]) -> int:
+    name = pair[0].name
+    return DEAREST.index(name) if name in DEAREST else len(DEAREST)
 
 
 def print_costs(costs: Costs) -> None:
@@ -141,7 +169,7 @@ def count_proofs(report: Report, log: Path, status: int) -> None:
 def run_all(room: Room, log: Path, status: int, seconds: int, lacks: Path) -> int:
     """Runs all groups, if the proofs passed, and prints what the whole took. `lacks` says what could not be installed. Returns the status."""
     report = Report(is_whole=True)
-    begin = tried = time.monotonic()
+    begin = time.monotonic()
     count_proofs(report, log, status)
     if report.failed:
         report.take(Verdict("", "the program", "it is not tried, since rt ci failed"))
@@ -149,15 +177,8 @@ def run_all(room: Room, log: Path, status: int, seconds: int, lacks: Path) -> in
         report.take(Verdict("", "the program", "rt ci built none"))
     else:
         report.take(Verdict("", "what the trials need is installed", "; ".join(lacks.read_text("utf-8", "replace").splitlines())))
-        chosen = choose(room, [])
-        costs = run_groups([pair for pair in chosen if pair[0].name != MEMORY], report)
-        tried = time.monotonic()
-        # Nothing else runs during these trials, so that none of them runs out of memory by chance.
-        costs |= run_groups([pair for pair in chosen if pair[0].name == MEMORY], report)
-        print_costs(costs)
-    print(f"memory: {room.requests} requests refused")
-    of_memory = time.monotonic() - tried if tried > begin else 0
-    print(f"time: rt ci {seconds} s, program {tried - begin:.0f} s, memory {of_memory:.0f} s")
+        print_costs(run_groups(choose(room, []), report))
+    print(f"time: rt ci {seconds} s, trials {time.monotonic() - begin:.0f} s")
     return report.close()
 
 

@@ -4,6 +4,7 @@ from __future__ import annotations
 
 import shlex
 from collections.abc import Callable, Iterator, Sequence, Set
+from concurrent.futures import ThreadPoolExecutor
 from dataclasses import dataclass, field
 from typing import Optional, Union
 
@@ -60,28 +61,30 @@ def judge(trial: Trial) -> Verdict:
 class Group:
     """Trials under one name. They are made only when they are needed, since some read many files.
 
-    `closing` says at the end how much was tried, and is printed as one more trial. A group with `aside`
-    runs in a process of its own together with the others; `aside` is called there first.
+    `closing` says at the end how much was tried, and is printed as one more trial. A group runs in a
+    process of its own; `begin` is called there first. `lanes` is how many processors it uses most of the time: so many of its trials
+    run at once.
     """
 
     name: str
     make: Callable[[], Sequence[Trial]]
     closing: Optional[Callable[[], str]] = None
-    aside: Optional[Callable[[], None]] = None
+    begin: Optional[Callable[[], None]] = None
+    lanes: int = 1
 
     def names(self) -> list[str]:
         return [trial.name for trial in self.make()]
 
     def verdicts(self, wanted: Optional[Set[str]]) -> Iterator[Verdict]:
         """Runs the trials of these names, or the whole group. A group that tries nothing has failed."""
-        count = 0
-        for trial in self.make():
-            if wanted is None or trial.name in wanted:
-                count += 1
-                yield judge(trial)
-        if wanted is None and (self.closing is not None or count == 0):
+        if self.begin is not None:
+            self.begin()
+        chosen = [trial for trial in self.make() if wanted is None or trial.name in wanted]
+        with ThreadPoolExecutor(self.lanes) as pool:
+            yield from pool.map(judge, chosen) if self.lanes > 1 else map(judge, chosen)
+        if wanted is None and (self.closing is not None or not chosen):
             text = self.closing() if self.closing is not None else self.name
-            yield Verdict(self.name, text, "" if count else "nothing was tried")
+            yield Verdict(self.name, text, "" if chosen else "nothing was tried")
 
 
 @dataclass

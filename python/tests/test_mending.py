@@ -118,13 +118,14 @@ class Cuts(unittest.TestCase):
             self.assertEqual(found, [text for text in reaches(data) if not text.startswith(_FILLS)][:len(found)])
 
     def test_loaded_is_what_was_built(self) -> None:
-        """Real pickles, fifty of them cut at every place, the others at some, are loaded with harmless stand-ins. (`cut_pickles.py` tries every cut
-        of all, which takes ten minutes of a processor.)"""
+        """Real pickles, fifty of them cut at every third place, the others at some, are loaded with harmless stand-ins. (`cut_pickles.py` tries
+        every cut of all, which takes ten minutes of a processor.)"""
         found = cut_pickles.whole_pickles()
         self.assertGreater(len(found), 100)
-        whole = sorted((name for name in found if len(found[name]) > _SHORT), key=lambda name: len(found[name]))[:50]
-        cuts = [(name, cut) for name, data in found.items() for cut in (range(len(data)) if name in whole else cuts_of(name, len(data)))]
-        self.assertGreater(len(cuts), 5000)
+        short = sorted((name for name in found if len(found[name]) > _SHORT), key=lambda name: len(found[name]))[:50]
+        cuts = [(name, cut) for first, name in enumerate(short) for cut in range(first % 3, len(found[name]), 3)]
+        cuts += [(name, cut) for name, data in found.items() if name not in short for cut in cuts_of(name, len(data))]
+        self.assertGreater(len(cuts), 3000)
         cuts = chosen(cuts, 15)
         with ThreadPoolExecutor(os.cpu_count()) as workers:
             faults = workers.map(lambda each: cut_pickles.fault_of(found[each[0]][:each[1]]), cuts)

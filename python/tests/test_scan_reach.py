@@ -53,7 +53,7 @@ class Settled(unittest.TestCase):
         chosen = random.Random(75)
         starts = [b'X', b'B', b'T', b'\x8b', b'I', b'S', b'V', b'p', b'c', b'i', b'\x95', b'N', b'\x8d', b'P', b'(', b'K', b'J', b'G']
         read = 0
-        for number in range(3000):
+        for number in range(1000):
             size = chosen.choice([3, 20, 60, 200])
             counted = b''.join(chosen.choice(starts) + struct.pack('<Q', chosen.randrange(size))[:chosen.choice([1, 4, 8])] for _ in range(chosen.randrange(6)))
             content = (counted + chosen.choice([b'', b'cos\nx\n', b'\n', HOSTILE]) + bytes(chosen.choices(b'N0(.1\n\0\xffcXI', k=size)))[:size]
@@ -62,7 +62,7 @@ class Settled(unittest.TestCase):
                 first = reach_of(BytesBlob(content))
             self.assertEqual(whole is None, first is None, content)
             read += whole is not None
-        self.assertGreater(read, 100)
+        self.assertGreater(read, 50)
 
     def test_raw_numbers_are_not_read_whole(self) -> None:
         """What ends soon is asked about in this process, whatever its size is."""

@@ -1,7 +1,6 @@
 //! What documents show before edits and after them.
 
 mod cost;
-mod hostile;
 mod memory;
 mod nest;
 mod rows;
@@ -9,7 +8,6 @@ mod shown;
 mod worked;
 
 use crate::document::cost::edit_many;
-use crate::document::hostile::{CUTS, LENGTHS, end_of, first_wrong_byte, first_wrong_cut};
 use crate::document::memory::edit_with_little;
 use crate::document::nest::put_and_back;
 use crate::document::rows::{
@@ -250,26 +248,6 @@ fn large_input(rt: HostRuntime) -> Result<(), Fail> {
         assert_eq!(rt; document.total(), LARGE as u64);
     }
     Ok(())
-}
-
-/// Worked pickles, cut at each of their bytes.
-#[test]
-fn cut_short(rt: HostRuntime) {
-    for (k, cuts) in CUTS.iter().enumerate() {
-        assert_eq!(rt; first_wrong_cut(rt.alloc(), cuts), Ok(None), "row {k}");
-    }
-}
-
-#[test]
-fn one_byte_alone(rt: HostRuntime) {
-    assert_eq!(rt; first_wrong_byte(rt.alloc()), Ok(None));
-}
-
-#[test]
-fn largest_lengths(rt: HostRuntime) {
-    for (k, (bytes, end)) in LENGTHS.iter().enumerate() {
-        assert_eq!(rt; end_of(rt.alloc(), bytes), Ok((0, end.end())), "row {k}");
-    }
 }
 
 /// Run with each request for memory refused in turn.

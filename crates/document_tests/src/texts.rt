@@ -1,9 +1,6 @@
-//! Texts of machines, to sinks that fail and where requests for memory are refused; and large texts. What the others are is judged from
+//! Texts of machines where requests for memory are refused, and large texts. What the others are is judged from
 //! outside, by the rows of equipment/conversations.txt.
 
-mod devices;
-
-use crate::texts::devices::{Text, every_break, text_of};
 use pickle_doc::{DocFault, Document};
 use pickle_machine::Machine;
 use pickle_show::{TextStop, write_show};
@@ -18,9 +15,6 @@ const CALL: &[u8] = b"cos\ngetcwd\n)R.";
 
 const ORDERED: &[u8] = b"ccollections\nOrderedDict\n)R(K\x01K\x02u.";
 
-/// A memo entry that is not there.
-const NO_ENTRY: &[u8] = b"K\x01q\x00K\x02q\x00h\x07.";
-
 /// Objects that are shown after this many opcodes.
 const SHOWN: [(&[u8], usize, u32); 5] = [
     (BY_MEMO, 6, 0),
@@ -29,20 +23,6 @@ const SHOWN: [(&[u8], usize, u32); 5] = [
     (b"(K\x01K\x02tq\x010}q\x00h\x01K\x03s(h\x01h\x00u.", 15, 3),
     (b"N2\x86.", 3, 1),
     (ORDERED, 7, 2),
-];
-
-/// The stack and the memo after this many opcodes.
-const STACKS_AND_MEMOS: [(&[u8], usize, Text); 10] = [
-    (BY_MEMO, 5, Text::Stack),
-    (BY_MEMO, 6, Text::Stack),
-    (b"]2a.", 2, Text::Stack),
-    (b"]2a.", 3, Text::Stack),
-    (b"N(N(NN.", 6, Text::Stack),
-    (b"((.", 2, Text::Stack),
-    (b"N.", 0, Text::Stack),
-    (b"Nq\x05N\x94.", 4, Text::Memo),
-    (NO_ENTRY, 3, Text::Memo),
-    (b"N.", 1, Text::Memo),
 ];
 
 /// The machine after this many opcodes of a pickle, or nothing where memory is refused.
@@ -89,22 +69,6 @@ fn deep_object(rt: HostRuntime) -> Result<(), Fail> {
     Ok(())
 }
 
-/// Every text goes to sinks that fail at each of their calls in turn: each takes a beginning and is not called again.
-#[test]
-fn failing_sinks(rt: HostRuntime) -> Result<(), Fail> {
-    for (bytes, count, id) in &SHOWN {
-        let machine = machine_of(rt.alloc(), bytes, *count)?;
-        let found = every_break(rt.alloc(), &machine, Text::Show(*id))?;
-        assert!(rt; found > 0, "object of {bytes:?}");
-    }
-    for (bytes, count, text) in &STACKS_AND_MEMOS {
-        let machine = machine_of(rt.alloc(), bytes, *count)?;
-        let found = every_break(rt.alloc(), &machine, *text)?;
-        assert!(rt; found > 0, "stack or memo of {bytes:?}");
-    }
-    Ok(())
-}
-
 /// A machine after this many opcodes, where one request for memory may be refused.
 fn insist_on_running(alloc: Global, bytes: &[u8], count: usize) -> Result<Machine, DocFault> {
     match try_machine(alloc, bytes, count) {
@@ -123,11 +87,18 @@ fn is_answer(taken: &[u8], text: &[u8], answer: Result<(), TextStop>) -> bool {
     }
 }
 
+/// What an object shows, with a good sink and ample memory.
+fn text_of(alloc: Global, machine: &Machine, id: u32) -> Result<Vec<u8>, TextStop> {
+    let mut page = paper(alloc)?;
+    write_show(alloc, machine, id, &mut page)?;
+    Ok(taken(page)?)
+}
+
 /// What an object shows, where one request for memory may be refused, and asked for again then.
 fn show_with_little(alloc: Global, machine: &Machine, id: u32) -> Result<bool, Fail> {
-    let text = match text_of(alloc, machine, Text::Show(id)) {
+    let text = match text_of(alloc, machine, id) {
         Ok(text) => text,
-        Err(_) => text_of(alloc, machine, Text::Show(id))?,
+        Err(_) => text_of(alloc, machine, id)?,
     };
     let mut page = insist_on_paper(alloc)?;
     let answer = write_show(alloc, machine, id, &mut page);

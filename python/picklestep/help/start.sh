@@ -23,8 +23,12 @@ holds_others() {
     [ -f "$1" ] || return 1
     bash_version=${BASH_VERSION-}
     if [ "${bash_version%%.*}" -ge 4 ] 2>/dev/null; then
-        # shellcheck disable=SC3045
-        LC_ALL=C IFS='' read -r -N 262 begin <"$1"
+        begin='' left=262
+        while [ "$left" -gt 0 ]; do # (a read ends at a NUL byte: one that went on behind it would read all of a file of zeros)
+            # shellcheck disable=SC3045
+            LC_ALL=C IFS='' read -r -d '' -n "$left" part || left=0
+            begin=$begin$part left=$((left - ${#part} - 1))
+        done <"$1"
     else
         begin=$(head -c 262 <"$1")
     fi
