@@ -17,7 +17,7 @@ from typing import Iterator, List, Optional, Tuple
 
 from .errors import PicklestepError, reason
 from .hints import Watch
-from .opens import has_zip_behind, is_taken_apart, may_have_arrays
+from .opens import has_zip_behind, is_archive, is_taken_apart, may_have_arrays
 from .place import NOT_FOR_NODE, find_program, program_words
 from .wording import shown
 
@@ -93,7 +93,7 @@ class _Given:
 def _given(words: List[str], held: contextlib.ExitStack) -> _Given:
     """What the program is given: the file, or the bytes that are opened in it, for as long as they are held. Raises NotOpened."""
     at = _place_of_file(words)
-    if at is None or words[0] == 'members':  # (this looks at a container itself)
+    if at is None or words[0] == 'members' or words[0] == 'gate' and is_archive(words[at]):  # (these look at an archive themselves)
         return _Given(words)
     if is_taken_apart(words[at]):
         given = _opened(words, at, held)

@@ -6,7 +6,7 @@ This imports only what an interpreter has loaded when it starts, since the entra
 
 import os
 
-__all__ = ['BEGINS', 'BETWEEN', 'ENOUGH', 'SERVERS', 'begins_like_one', 'has_zip_behind', 'holds_others', 'is_at_server', 'is_taken_apart', 'may_have_arrays', 'split']
+__all__ = ['BEGINS', 'BETWEEN', 'ENOUGH', 'SERVERS', 'begins_like_one', 'has_zip_behind', 'holds_others', 'is_archive', 'is_at_server', 'is_taken_apart', 'may_have_arrays', 'split']
 
 # What stands between the names of an address.
 BETWEEN = ' > '
@@ -22,6 +22,8 @@ BEGINS = (
     *((0, b'\x13\x57\x9a' + bytes([last])) for last in range(0xcd, 0xd2)), *((0, bytes([first]) + b'\x9a\x57\x13') for first in range(0xcd, 0xd2)),
     (12, b'\x61\x15\x06\0'), (12, b'\0\x06\x15\x61'),
 )
+# How those of them begin that `gate` looks at itself.
+_ARCHIVES = (b'PK\x03\x04', b'PK\x05\x06')
 # So many bytes show that.
 ENOUGH = max(offset + len(magic) for offset, magic in BEGINS)
 # The record that closes a zip archive has so many bytes, and then a comment, whose length its last two bytes say.
@@ -61,12 +63,24 @@ def holds_others(path: str) -> bool:
         return False
     if path.endswith('.dat') and os.path.isfile(path[:-4] + '.dir'):
         return True
+    return begins_like_one(_head(path))
+
+
+def is_archive(path: str) -> bool:
+    """Whether a file begins as a zip archive does, so that `gate` judges its members.
+
+    >>> is_archive('no file')
+    False
+    """
+    return os.path.isfile(path) and not path.startswith(('/dev/', '/proc/')) and _head(path).startswith(_ARCHIVES)
+
+
+def _head(path: str) -> bytes:
     try:
         with open(path, 'rb', buffering=0) as file:
-            head = file.read(ENOUGH)
+            return file.read(ENOUGH)
     except OSError:
-        return False  # (whoever opens it says so)
-    return begins_like_one(head)
+        return b''  # (whoever opens it says so)
 
 
 def begins_like_one(head: bytes) -> bool:

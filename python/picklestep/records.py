@@ -65,10 +65,12 @@ class OtherForm:
 
 @dataclass(frozen=True, **_SLOTS)
 class GateAnswer:
-    """What `gate` says of a pickle. It is true where the pickle passes.
+    """What `gate` says of a pickle, or of a zip archive. It is true where it passes.
 
     `line` is the program's line. `kind` is 'passes', 'not allowed' (no list allows something that it does, or what it gives to a
-    call), 'other form' (no pickler writes it so) or 'ended' (it does not come to its STOP). `reason` says what that is, and `offset` where.
+    call), 'other form' (no pickler writes it so) or 'ended' (it does not come to its STOP); or of a member of an archive 'packed' or 'an archive',
+    which are not looked at. `reason` says what that is, and `offset` where: in the member, if `member` names one, which is the first that does not
+    pass; or in what is behind the header of an `.npy` member, if `is_behind_header`.
 
     >>> import picklestep
     >>> bool(picklestep.gate(b'N.')), picklestep.gate(b'J\\x01\\0\\0\\0.').kind
@@ -80,6 +82,8 @@ class GateAnswer:
     kind: str
     reason: str = ''
     offset: Optional[int] = None
+    member: Optional[str] = None
+    is_behind_header: bool = False
 
     def __bool__(self) -> bool:
         return self.passes

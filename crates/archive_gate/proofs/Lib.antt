@@ -1,2 +1,4 @@
 -- Lemmas.
+pub mod Deciding
+pub mod Nothing
 pub mod Passing

@@ -1,16 +1,15 @@
 -- Members that pass, one after another.
-use Rattle.std.proofs.Common.{◌≡◌, ℕ, zero, suc, ◌+◌, ◌<◌, ◌≤◌, Bool, true, List, [], ◌∷◌, ◌++◌, length, take, drop, get_or, map, refl, sym, ap, subst, ◌∙◌, arith, length-append}
-use Rattle.std.specs.Prelude.{All}
+use Rattle.std.proofs.Common.{◌≡◌, ℕ, zero, suc, ◌+◌, ◌<◌, ◌≤◌, Bool, true, List, [], ◌∷◌, ◌++◌, length, take, drop, get_or, map, sym, ap, subst, ◌∙◌, arith, length-append}
+use Rattle.std.specs.Prelude.{All, Result, Ok, Err, Option, Some, None, IfOk, MatchOption}
 use Rattle.std.proofs.lemmas.List.{drop_more, take_more, take-append-drop, length-take-le}
 use Rattle.pickle_doc.specs.Document.{size_limit}
 use Rattle.pickle_allow.specs.declared.list.Entry.{Entry as Allowed}
 use Rattle.zip_archive.specs.Entry.{Entry, front_of}
 use Rattle.zip_archive.specs.Archive.{Counts, fronts, IsZip}
-use Rattle.zip_archive.specs.Reader.{Member, member_of, ByDirectoryAgrees}
+use Rattle.zip_archive.specs.Reader.{member_of, ByDirectoryAgrees}
 use Rattle.archive_gate.specs.declared.fault.Fault.{Fault}
 use Rattle.archive_gate.specs.declared.fault.Fault.TheVariants as fault
-use Rattle.pickle_gate.specs.declared.verdict.Verdict.{Verdict}
-use Rattle.archive_gate.specs.Members.{is_stored, Gives, IsRefusedAs, MemberPasses, AllPass, HasFault, IsFailing, AreSmall, EachMemberPasses}
+use Rattle.archive_gate.specs.Members.{is_stored, BytesPass, MemberPasses, AllPass, BytesFail, HasFault, IsFailing, AreSmall, EachMemberPasses}
 
 -- ---- one more
 
@@ -39,13 +38,19 @@ fails_here list es i d f below a has = record {
 stored_so : (e : Entry) (b : Bool) → b ≡ is_stored e → b ≡ true → is_stored e ≡ true
 stored_so e b said holds = sym said ∙ holds
 
-pub is_passing : (list : List Allowed) (e : Entry) (content : List ℕ) (b : Bool) → content ≡ e.content → b ≡ is_stored e → b ≡ true → Gives list content
-    → MemberPasses list (member_of e)
-is_passing list e content b same said holds gives = record { stored = stored_so e b said holds; gives = subst (Gives list) same gives }
+fault_so : (list : List Allowed) (e : Entry) (f : Fault) → BytesFail list e.content f → HasFault list e f
+fault_so list e fault.Packed found = absurd found
+fault_so list e fault.Archive found = found
+fault_so list e (fault.Refused v) found = found
+fault_so list e (fault.Behind v) found = found
 
-pub is_fault : (list : List Allowed) (e : Entry) (content : List ℕ) (b : Bool) (v : Verdict) → content ≡ e.content → b ≡ is_stored e → b ≡ true → IsRefusedAs list content v
-    → HasFault list e (fault.Refused v)
-is_fault list e content b v same said holds found = (stored_so e b said holds, subst (λ (x : List ℕ). IsRefusedAs list x v) same found)
+-- what is said of its bytes is said of a member that is stored
+pub of_bytes : {E : Type 0} (list : List Allowed) (e : Entry) (content : List ℕ) (b : Bool) (r : Result (Option Fault) E) → content ≡ e.content → b ≡ is_stored e → b ≡ true
+    → IfOk r (λ o. MatchOption o (BytesPass list content) (λ f. BytesFail list content f))
+    → IfOk r (λ o. MatchOption o (MemberPasses list (member_of e)) (λ f. HasFault list e f))
+of_bytes list e content b (Ok None) same said holds passes = record { stored = stored_so e b said holds; bytes = subst (BytesPass list) same passes }
+of_bytes list e content b (Ok (Some f)) same said holds found = fault_so list e f (subst (λ (x : List ℕ). BytesFail list x f) same found)
+of_bytes list e content b (Err x) same said holds found = tt
 
 -- ---- sizes
 

@@ -1,6 +1,8 @@
 -- Which members of an archive pass a list.
--- Source: own.
-use Rattle.std.specs.Prelude.{◌≡◌, ◌≢◌, ◌⊎◌, ◌≤◌, ℕ, ◌-◌, ◌==◌, Bool, true, false, List, [], ◌∷◌, ◌++◌, length, All, ⊤}
+-- Source: own. How an archive begins: APPNOTE 6.3.10, 4.3.7 (local file header) and 4.3.16 (end record). How an `.npy` file begins: numpy's
+-- lib/format.py, `read_magic` and `_read_array_header`; behind the header `read_array` reads raw numbers, or loads a pickle.
+use Rattle.std.specs.Prelude.{◌≡◌, ◌≢◌, ◌⊎◌, ◌≤◌, ℕ, ◌+◌, ◌-◌, ◌*◌, ◌==◌, ◌||◌, eqb, if◌then◌else◌, Bool, true, false, List, [], ◌∷◌, ◌++◌, length, drop, get_or, All, ⊤}
+use Rattle.std.specs.List.{starts_with}
 use Rattle.pickle_doc.specs.Document.{size_limit}
 use Rattle.pickle_allow.specs.declared.list.Entry.{Entry as Allowed}
 use Rattle.pickle_gate.specs.Gate.{Passes}
@@ -24,6 +26,22 @@ use Rattle.archive_gate.specs.declared.fault.Failing.{Failing}
 abbrev pub alone : Granted
 alone = record { extensions = false; persistent = false; buffers = false }
 
+-- the header of a member is at the front, or the end of an archive without members
+abbrev pub begins_as_archive : List ℕ → Bool
+begins_as_archive bytes = starts_with eqb bytes (80 ∷ 75 ∷ 3 ∷ 4 ∷ []) || starts_with eqb bytes (80 ∷ 75 ∷ 5 ∷ 6 ∷ [])
+
+-- an `.npy` file begins so: six bytes, two of the version, and the length of the header, in two bytes in version 1, and else in four
+abbrev pub begins_as_array : List ℕ → Bool
+begins_as_array bytes = starts_with eqb bytes (147 ∷ 78 ∷ 85 ∷ 77 ∷ 80 ∷ 89 ∷ [])
+
+abbrev pub header_size : List ℕ → ℕ
+header_size bytes =
+    if get_or bytes 6 0 == 1 then 10 + (get_or bytes 8 0 + 256 * get_or bytes 9 0)
+    else 12 + (get_or bytes 8 0 + 256 * get_or bytes 9 0 + (65536 * get_or bytes 10 0 + 16777216 * get_or bytes 11 0))
+
+abbrev pub behind_header : List ℕ → List ℕ
+behind_header bytes = drop (header_size bytes) bytes
+
 -- the bytes are a pickle that passes, or no loader that begins at the first of them and was given nothing else reaches anything
 abbrev pub Gives : List Allowed → List ℕ → Type 0
 Gives list bytes = Passes list bytes ⊎ NothingFrom alone bytes first_spot
@@ -31,10 +49,16 @@ Gives list bytes = Passes list bytes ⊎ NothingFrom alone bytes first_spot
 abbrev pub is_stored : Entry → Bool
 is_stored e = (member_of e).method == 0
 
+-- they are no archive themselves; and of an array this holds of what is behind its header, too
+pub record BytesPass (list : List Allowed) (bytes : List ℕ) : Type 0 where
+  pub apart : begins_as_archive bytes ≡ false
+  pub gives : Gives list bytes
+  pub array : begins_as_array bytes ≡ true → Gives list (behind_header bytes)
+
 -- a member that a reader gives: it needs no unpacking
 pub record MemberPasses (list : List Allowed) (m : Member) : Type 0 where
   pub stored : m.method == 0 ≡ true
-  pub gives : Gives list m.content
+  pub bytes : BytesPass list m.content
 
 abbrev pub AllPass : List Allowed → List Entry → Type 0
 AllPass list [] = ⊤
@@ -53,9 +77,16 @@ pub record IsRefusedAs (list : List Allowed) (bytes : List ℕ) (v : Verdict) : 
   pub reach : IsReach alone bytes found
   pub reaches : (offset : ℕ) (settled : Bool) → found ≢ answer.Nothing offset settled
 
+-- of bytes that need no unpacking
+abbrev pub BytesFail : List Allowed → List ℕ → Fault → Type 0
+BytesFail list bytes fault.Packed = ⊥
+BytesFail list bytes fault.Archive = begins_as_archive bytes ≡ true
+BytesFail list bytes (fault.Refused v) = IsRefusedAs list bytes v
+BytesFail list bytes (fault.Behind v) = (begins_as_array bytes ≡ true) × IsRefusedAs list (behind_header bytes) v
+
 abbrev pub HasFault : List Allowed → Entry → Fault → Type 0
 HasFault list e fault.Packed = is_stored e ≡ false
-HasFault list e (fault.Refused v) = (is_stored e ≡ true) × IsRefusedAs list e.content v
+HasFault list e f = BytesFail list e.content f
 
 pub record IsFailing (list : List Allowed) (es : List Entry) (f : Failing) : Type 0 where
   pub before : List Entry

@@ -7,8 +7,12 @@ use pickle_gate::Verdict;
 pub enum Fault {
     /// It is packed: what it unpacks to is not looked at.
     Packed,
+    /// It is an archive itself, which is not looked at.
+    Archive,
     /// It is no pickle that passes, and a loader may reach something in it.
     Refused(Verdict),
+    /// It begins as an `.npy` file does, and this is so of what is behind its header.
+    Behind(Verdict),
 }
 
 /// The first member that does not pass.

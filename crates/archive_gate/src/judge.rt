@@ -1,11 +1,12 @@
 //! What is said of one member.
 
-ghost use Rattle.std.specs.Prelude.{◌≡◌, ◌≤◌, length, IfOk, MatchOption};
+ghost use Rattle.std.specs.Prelude.{◌≡◌, ◌≤◌, true, length, IfOk, MatchOption};
 ghost use Rattle.pickle_doc.specs.Document.{size_limit};
-ghost use Rattle.archive_gate.specs.Members.{alone, is_stored, Gives, MemberPasses, IsRefusal, IsRefusedAs, HasFault};
+ghost use Rattle.archive_gate.specs.Members.{alone, begins_as_array, behind_header, is_stored, Gives, BytesPass, MemberPasses, IsRefusal, IsRefusedAs, BytesFail, HasFault};
 ghost use Rattle.pickle_gate.specs.Gate.{Passes};
 ghost use Rattle.zip_archive.specs.Reader.{member_of};
 
+use crate::begins::{begins_as_archive, begins_as_array, behind_header};
 use crate::fault::Fault;
 use pickle_allow::Entry;
 use pickle_gate::{Verdict, gate};
@@ -60,6 +61,40 @@ fn refused_by_gate(
     }
 }
 
+/// The verdict of the gate about what is behind the header of an `.npy` file that bytes begin as, unless it passes or no loader reaches anything in it.
+fn refused_behind(
+    alloc: Global,
+    list: &[Entry<'_>],
+    bytes: &[u8],
+) -> Result<Option<Verdict>, AllocError>
+    requires { length bytes.now ≤ size_limit }
+    ensures { IfOk result (λ o. MatchOption o (begins_as_array bytes.now ≡ true → Gives list.now (behind_header bytes.now))
+        (λ v. (begins_as_array bytes.now ≡ true) × IsRefusedAs list.now (behind_header bytes.now) v)) }
+{
+    if begins_as_array(bytes) {
+        refused(alloc, list, behind_header(bytes))
+    } else {
+        Ok(None)
+    }
+}
+
+/// Why the bytes of a stored member do not pass, if they do not.
+fn fault_in(alloc: Global, list: &[Entry<'_>], bytes: &[u8]) -> Result<Option<Fault>, AllocError>
+    requires { length bytes.now ≤ size_limit }
+    ensures { IfOk result (λ o. MatchOption o (BytesPass list.now bytes.now) (λ f. BytesFail list.now bytes.now f)) }
+{
+    if begins_as_archive(bytes) {
+        return Ok(Some(Fault::Archive));
+    }
+    if let Some(verdict) = refused(alloc, list, bytes)? {
+        return Ok(Some(Fault::Refused(verdict)));
+    }
+    match refused_behind(alloc, list, bytes)? {
+        None => Ok(None),
+        Some(verdict) => Ok(Some(Fault::Behind(verdict))),
+    }
+}
+
 /// Why a member does not pass, if it does not.
 pub(crate) fn fault_of(
     alloc: Global,
@@ -72,8 +107,5 @@ pub(crate) fn fault_of(
     if !is_stored(entry) {
         return Ok(Some(Fault::Packed));
     }
-    match refused(alloc, list, entry.content())? {
-        None => Ok(None),
-        Some(verdict) => Ok(Some(Fault::Refused(verdict))),
-    }
+    fault_in(alloc, list, entry.content())
 }

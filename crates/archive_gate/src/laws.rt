@@ -2,6 +2,7 @@
 
 ghost use Rattle.zip_archive.specs.Reader.{told_by_locator, told_before};
 ghost use Rattle.archive_gate.specs.Members.{EachMemberPasses};
+ghost use Rattle.archive_gate.specs.File.{NothingInArchives, NoneFails};
 
 /// Each member that a reader by the directory finds in an archive that passes, passes: one that goes where the locator tells, as miniz.
 pub fn by_locator_passes()
@@ -11,4 +12,14 @@ pub fn by_locator_passes()
 /// And one that looks before the locator, as zipfile.
 pub fn by_place_passes()
     ensures { EachMemberPasses told_before }
+{}
+
+/// Bytes that begin as an archive give nothing to a loader that takes them for a pickle.
+pub fn nothing_in_archives()
+    ensures { NothingInArchives }
+{}
+
+/// In an archive that passes no member fails, unless there are too many ways to read one.
+pub fn none_fails()
+    ensures { NoneFails }
 {}

@@ -1,2 +1,4 @@
 -- Lemmas.
+pub mod GateLaws
+pub mod GateTexts
 pub mod MembersTexts

@@ -1,6 +1,14 @@
-//! What is said of the members of a zip archive.
+//! What is said of the members of a zip archive, and whether a file passes a list that may be one.
 #![tactic(auto)]
 
+mod gate;
+mod judged;
+mod judging;
+mod laws;
 mod members;
 
+pub use gate::{write_file, write_gate};
+pub use judged::Judged;
+pub use judging::judge;
+pub use laws::{zero_means_passing, zero_where_file_passes};
 pub use members::write_members;

@@ -72,7 +72,7 @@ fn refusal_words() -> &'static str
 
 /// Writes the first rule that bytes break, and where.
 #[tactic(auto, using(pickle_io::proofs::Devices::text_steps), unfolding(crate::specs::MembersText::refusal_line))]
-fn write_refusal<S: Page>(refusal: Refusal, page: &mut S) -> Result<(), Failed>
+pub(crate) fn write_refusal<S: Page>(refusal: Refusal, page: &mut S) -> Result<(), Failed>
     ensures { Writes (S.told page.old) (S.told page.new) result (refusal_line refusal) }
 {
     write_all(page, refusal_words().as_bytes())?;

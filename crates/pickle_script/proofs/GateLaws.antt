@@ -3,14 +3,12 @@ use Rattle.std.proofs.Common.{◌≡◌, ℕ, ◌≤◌, ◌<◌, ◌^◌, List,
 use Rattle.pickle_doc.specs.Document.{AreBytes, size_limit}
 use Rattle.pickle_show.specs.Output.{Output}
 use Rattle.pickle_allow.specs.declared.list.Entry.{Entry}
-use Rattle.pickle_allow.specs.declared.listing.Listing.{Listing}
-use Rattle.pickle_allow.specs.declared.listing.Listing.TheVariants as listing
 use Rattle.pickle_gate.specs.declared.verdict.Verdict.{Verdict}
 use Rattle.pickle_gate.specs.declared.verdict.Verdict.TheVariants as verdict
 use Rattle.pickle_gate.specs.Gate.{Passes}
 use Rattle.pickle_gate.specs.Verdict.{verdict_of}
 use Rattle.pickle_gate.proofs.Verdicts.{verdicts_are_true, one_verdict}
-use Rattle.pickle_script.specs.GateText.{verdict_status, IsVerdictText, IsListedText, PassesListed, ZeroWherePassing, ZeroMeansPassing}
+use Rattle.pickle_script.specs.GateText.{verdict_status, IsVerdictText, ZeroWherePassing}
 
 status_passes : (v : Verdict) → verdict_status v ≡ 0 → verdict.Passes ≡ v
 status_passes verdict.Passes e = refl
@@ -33,10 +31,3 @@ passing_zero list bytes o small few t p =
 
 pub zero_where_passing : ZeroWherePassing
 zero_where_passing list bytes o small few t = (zero_passes list bytes o few t, passing_zero list bytes o small few t)
-
-listed_passes : (l : Listing) (bytes : List ℕ) (o : Output) → length bytes ≤ size_limit → IsListedText l bytes o → o.status ≡ 0 → PassesListed l bytes
-listed_passes (listing.Entries list) bytes o few t z = zero_passes list.items bytes o few t z
-listed_passes (listing.Wrong n) bytes o few t z = let bad : 2 ≡ 0 = sym (ap (λ (x : Output). x.status) t) ∙ z in absurd cc
-
-pub zero_means_passing : ZeroMeansPassing
-zero_means_passing list bytes o small few t z = (t.0, t.1, listed_passes t.0 bytes o few t.2 z)

@@ -1,18 +1,14 @@
--- The text of whether a pickle passes a list, and what is answered where it was to be written.
+-- The text of whether a pickle passes by the entries of a list, and what is left where a text was to be written.
 -- Source: own.
-use Rattle.std.specs.Prelude.{◌≡◌, ◌≤◌, ◌<◌, ◌↔◌, ℕ, false, List, [], length, drop, codes, decimal, Result, Err, IfOk, IfErr}
+use Rattle.std.specs.Prelude.{◌≡◌, ◌≤◌, ◌↔◌, ℕ, false, List, [], length, drop, codes, decimal}
 use Rattle.pickle_io.specs.Text.{◌⧺◌}
 use Rattle.pickle_io.specs.Device.{Told, Wrote, Broke}
 use Rattle.pickle_doc.specs.Document.{Contents, ReadsAs, AreBytes, size_limit}
 use Rattle.pickle_show.specs.declared.end.Ending.{Ending}
 use Rattle.pickle_show.specs.declared.end.Ending.TheVariants as ending
-use Rattle.pickle_show.specs.Column.{newline}
 use Rattle.pickle_show.specs.Output.{Output}
 use Rattle.pickle_show.specs.Report.{closing_line}
 use Rattle.pickle_allow.specs.declared.list.Entry.{Entry}
-use Rattle.pickle_allow.specs.declared.listing.Listing.{Listing}
-use Rattle.pickle_allow.specs.declared.listing.Listing.TheVariants as listing
-use Rattle.pickle_allow.specs.Grammar.{IsListing}
 use Rattle.pickle_gate.specs.declared.verdict.Verdict.{Verdict}
 use Rattle.pickle_gate.specs.declared.verdict.Verdict.TheVariants as verdict
 use Rattle.pickle_gate.specs.Gate.{Passes}
@@ -68,27 +64,6 @@ gate_output list d = verdict_output d (verdict_of list d)
 abbrev pub IsVerdictText : List Entry → List ℕ → Output → Type 0
 IsVerdictText list bytes o = (d : Contents) × ReadsAs false bytes d × (o ≡ gate_output list d)
 
--- ---- a list
-
-unfoldable pub no_list_words : List ℕ
-no_list_words = codes "not a list: line "
-
-unfoldable pub no_entry_words : List ℕ
-no_entry_words = codes " is no entry"
-
--- the first line of a list that is no entry
-unfoldable pub no_list_line : ℕ → List ℕ
-no_list_line n = no_list_words ⧺ decimal n ⧺ no_entry_words ⧺ newline
-
--- by what a list is read as: where it is none nothing is said of the pickle, and the status is that of no answer
-abbrev pub IsListedText : Listing → List ℕ → Output → Type 0
-IsListedText (listing.Entries list) bytes o = IsVerdictText list.items bytes o
-IsListedText (listing.Wrong n) bytes o = o ≡ record { text = no_list_line n; status = 2 }
-
--- of a list as it is written, and the bytes of a pickle
-abbrev pub IsGateText : List ℕ → List ℕ → Output → Type 0
-IsGateText list bytes o = (l : Listing) × IsListing list l × IsListedText l bytes o
-
 -- ---- the answer
 
 -- all of a text was written, which `Is` means, and this is its status
@@ -106,27 +81,9 @@ StopsGate Is old new stop.Write = BrokeText Is old new
 StopsGate Is old new stop.TooLarge = new ≡ old
 StopsGate Is old new stop.Memory = new ≡ old
 
--- what is answered where the text of the gate was to be written to a sink, of which `told` says what it reports
-pub record AnswersGate (list bytes : List ℕ) {S : Type 0} (told : S → Told) (old new : S) (answer : Result ℕ Stop) : Type 0 where
-  pub whole : IfOk answer (WroteText (IsGateText list bytes) (told old) (told new))
-  pub stopped : IfErr answer (StopsGate (IsGateText list bytes) (told old) (told new))
-  -- too many bytes of the pickle, and only those, are refused before anything is written
-  pub too_large : (answer ≡ Err stop.TooLarge) ↔ (size_limit < length bytes)
-  pub untouched : answer ≡ Err stop.TooLarge → new ≡ old
-
 -- ---- laws
 
 -- by the entries of a list the status is 0 exactly where the bytes pass
 abbrev pub ZeroWherePassing : Type 0
 ZeroWherePassing = (list : List Entry) (bytes : List ℕ) (o : Output) → AreBytes bytes → length bytes ≤ size_limit → IsVerdictText list bytes o
     → (o.status ≡ 0) ↔ Passes list bytes
-
--- a text is a list, and the bytes pass by its entries
-abbrev pub PassesListed : Listing → List ℕ → Type 0
-PassesListed (listing.Entries list) bytes = Passes list.items bytes
-PassesListed (listing.Wrong n) bytes = ⊥
-
--- where the status is 0 they do
-abbrev pub ZeroMeansPassing : Type 0
-ZeroMeansPassing = (list bytes : List ℕ) (o : Output) → AreBytes bytes → length bytes ≤ size_limit → IsGateText list bytes o → o.status ≡ 0
-    → (l : Listing) × IsListing list l × PassesListed l bytes

@@ -1,6 +1,6 @@
 //! Laws of the definitions. These functions do nothing: what they ensure holds of all bytes.
 
-ghost use Rattle.pickle_script.specs.GateText.{ZeroWherePassing, ZeroMeansPassing};
+ghost use Rattle.pickle_script.specs.GateText.{ZeroWherePassing};
 ghost use Rattle.pickle_script.specs.Script.{OneCut};
 
 /// Each byte string is cut into lines, and in one way.
@@ -11,9 +11,4 @@ pub fn one_cut()
 /// The status of the gate's text is 0 exactly where the bytes pass by the entries of the list.
 pub fn zero_where_passing()
     ensures { ZeroWherePassing }
-{}
-
-/// Where it is 0, the list is one, and the bytes pass by its entries.
-pub fn zero_means_passing()
-    ensures { ZeroMeansPassing }
 {}

@@ -15,9 +15,9 @@ pub use conversation::{
     write_reply, write_where,
 };
 pub use given_holes::{first_unfit, holes_of};
-pub use laws::{one_cut, zero_means_passing, zero_where_passing};
+pub use laws::{one_cut, zero_where_passing};
 pub use stop::{Stop, line_of};
 pub use texts::{
-    Text, calls_of_file, list, list_many, objects, objects_many, write_gate, write_session_text,
-    write_text,
+    Text, calls_of_file, line_for, list, list_many, objects, objects_many, verdict_status,
+    write_session_text, write_text, write_verdict,
 };

@@ -17,7 +17,8 @@ use Rattle.pickle_script.specs.declared.texts.written.Text.{Text}
 use Rattle.pickle_script.specs.declared.texts.written.Text.TheVariants as text
 use Rattle.pickle_script.specs.FormText.{form_output}
 use Rattle.pickle_script.specs.Output.{AnswersText, AnswersCalls, IsCallsOfFile, StopsText}
-use Rattle.pickle_script.specs.GateText.{IsGateText, AnswersGate, StopsGate}
+use Rattle.pickle_script.specs.GateText.{StopsGate}
+use Rattle.archive_script.specs.GateText.{IsGateText, AnswersGate}
 use Rattle.archive_script.specs.MembersText.{IsMembersText, AnswersMembers}
 use Rattle.pickle_session.specs.Allowed.{SessionState}
 use Rattle.pickle_script.specs.Conversation.{AppendsBeyond, BrokeBeyond, BrokeSince, StopsReading, StopsWriting}

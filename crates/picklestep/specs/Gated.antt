@@ -3,7 +3,7 @@
 use Rattle.std.specs.Prelude.{◌≡◌, ◌⊎◌, ℕ, List, Result, IsErrAnd}
 use Rattle.std.specs.String.{string_bytes}
 use Rattle.pickle_io.specs.Device.{Told}
-use Rattle.pickle_script.specs.GateText.{IsGateText}
+use Rattle.archive_script.specs.GateText.{IsGateText}
 use Rattle.pickle_script.specs.declared.stop.Stop.{Stop}
 use Rattle.picklestep.specs.declared.task.GivenFile.{GivenFile}
 use Rattle.picklestep.specs.Device.{TookText, NoneWithoutMemory}

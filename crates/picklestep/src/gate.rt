@@ -9,8 +9,9 @@ ghost use Rattle.picklestep.specs.Gated.{TookGate, GatesFile};
 use crate::files::{Files, read_file};
 use crate::output::write_out;
 use crate::task::GivenFile;
+use archive_script::write_gate;
 use pickle_io::{Buffered, Sink};
-use pickle_script::{Stop, write_gate};
+use pickle_script::Stop;
 use std::alloc::Global;
 
 /// Writes whether the pickle that the bytes are passes the list, hands all of it on, and answers the status.

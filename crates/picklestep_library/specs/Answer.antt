@@ -11,7 +11,8 @@ use Rattle.pickle_show.specs.declared.naming.Detail.{Detail}
 use Rattle.pickle_show.specs.Manner.{manner}
 use Rattle.pickle_further.specs.declared.way.Pickles.{Pickles}
 use Rattle.pickle_script.specs.Output.{CompletesText, CompletesFile}
-use Rattle.pickle_script.specs.GateText.{IsGateText, WroteText}
+use Rattle.pickle_script.specs.GateText.{WroteText}
+use Rattle.archive_script.specs.GateText.{IsGateText}
 use Rattle.archive_script.specs.MembersText.{IsMembersText}
 use Rattle.pickle_script.specs.Conversation.{Finishes}
 use Rattle.pickle_script.specs.ReplyText.{syntax_line}

@@ -6,9 +6,10 @@ ghost use Rattle.pickle_script.specs.declared.stop.Stop.TheVariants as stops;
 ghost use Rattle.picklestep_library.specs.Answer.{IsGateOf, Fills};
 
 use crate::fill::{ROOM, Written, number_of, put};
+use archive_script::write_gate;
 use pickle_doc::LIMIT;
 use pickle_io::{Buffered, Sink, ToWrite};
-use pickle_script::{Stop, write_gate};
+use pickle_script::Stop;
 use std::alloc::Global;
 
 /// The text of whether an input passes a list, and its status.

@@ -1,0 +1,173 @@
+//! The text of whether a file passes a list.
+
+ghost use Rattle.std.specs.Prelude.{◌≡◌, ◌≤◌, length};
+ghost use Rattle.pickle_io.specs.Device.{Writes};
+ghost use Rattle.pickle_doc.specs.Document.{size_limit};
+ghost use Rattle.pickle_script.specs.GateText.{verdict_text};
+ghost use Rattle.archive_script.specs.GateText.{packed_words, archive_words, behind_words, behind_text, named, fault_text, judged_text, judged_output, IsFileText, no_list_words, no_entry_words, no_list_line, Says, AnswersGate};
+
+use crate::judged::Judged;
+use crate::judging::judge;
+use crate::members::write_refusal;
+use archive_gate::Fault;
+use pickle_allow::{Entry, Listing, read_list};
+use pickle_doc::LIMIT;
+use pickle_gate::Verdict;
+use pickle_io::{Failed, Page, write_all, write_decimal, write_quoted};
+use pickle_script::{Stop, verdict_status, write_verdict};
+use std::alloc::Global;
+
+/// The status where a list is none: nothing is said of the file.
+const NO_ANSWER: u8 = 2;
+
+/// Words of a line.
+#[tactic(auto, unfolding(crate::specs::GateText::packed_words))]
+fn packed_words() -> &'static str
+    ensures { result.now ≡ packed_words }
+{
+    "packed: it is not looked at\n"
+}
+
+/// Words of a line.
+#[tactic(auto, unfolding(crate::specs::GateText::archive_words))]
+fn archive_words() -> &'static str
+    ensures { result.now ≡ archive_words }
+{
+    "an archive itself: it is not looked at\n"
+}
+
+/// Words of a line.
+#[tactic(auto, unfolding(crate::specs::GateText::behind_words))]
+fn behind_words() -> &'static str
+    ensures { result.now ≡ behind_words }
+{
+    "behind its header: "
+}
+
+/// Writes what is said of what is behind the header of an array.
+#[tactic(auto, using(pickle_io::proofs::Devices::text_steps), unfolding(crate::specs::GateText::behind_text))]
+fn write_behind<S: Page>(verdict: Verdict, line: &[u8], page: &mut S) -> Result<(), Failed>
+    ensures { Writes (S.told page.old) (S.told page.new) result (behind_text (verdict_text line.now verdict)) }
+{
+    write_all(page, behind_words().as_bytes())?;
+    write_verdict(verdict, line, page)
+}
+
+/// Writes why a member does not pass.
+fn write_fault<S: Page>(fault: Fault, line: &[u8], page: &mut S) -> Result<(), Failed>
+    ensures { Writes (S.told page.old) (S.told page.new) result (fault_text line.now fault) }
+{
+    match fault {
+        Fault::Packed => write_all(page, packed_words().as_bytes()),
+        Fault::Archive => write_all(page, archive_words().as_bytes()),
+        Fault::Refused(verdict) => write_verdict(verdict, line, page),
+        Fault::Behind(verdict) => write_behind(verdict, line, page),
+    }
+}
+
+/// Writes the same with the name of the member in front.
+#[tactic(auto, using(pickle_io::proofs::Devices::text_steps), unfolding(crate::specs::GateText::named))]
+fn write_failing<S: Page>(
+    name: &[u8],
+    fault: Fault,
+    line: &[u8],
+    page: &mut S,
+) -> Result<(), Failed>
+    ensures { Writes (S.told page.old) (S.told page.new) result (named name.now (fault_text line.now fault)) }
+{
+    write_quoted(name, page)?;
+    write_all(page, b": ")?;
+    write_fault(fault, line, page)
+}
+
+/// Writes what is said of a file.
+fn write_judged<S: Page>(judged: &Judged<'_>, page: &mut S) -> Result<(), Failed>
+    ensures { Writes (S.told page.old) (S.told page.new) result (judged_text judged.now) }
+{
+    match judged {
+        Judged::Pickle(verdict, line) => write_verdict(*verdict, line.as_slice(), page),
+        Judged::Archive => write_all(page, b"passes\n"),
+        Judged::NoArchive(refusal) => write_refusal(*refusal, page),
+        Judged::Member(name, fault, line) => write_failing(*name, *fault, line.as_slice(), page),
+    }
+}
+
+/// The status of it: 0 where the file passes, else 1.
+fn judged_status(judged: &Judged<'_>) -> u8
+    ensures { result ≡ (judged_output judged.now).status }
+{
+    match judged {
+        Judged::Pickle(verdict, _) => verdict_status(*verdict),
+        Judged::Archive => 0,
+        Judged::NoArchive(_) => 1,
+        Judged::Member(_, _, _) => 1,
+    }
+}
+
+/// Writes whether a file passes by these entries, else the first place at which it does not, and why. Answers the status: 0 where it passes, else 1.
+/// There are to be no more bytes than the limit. The stops are those of `write_gate`.
+pub fn write_file<S: Page>(
+    alloc: Global,
+    list: &[Entry<'_>],
+    bytes: &[u8],
+    page: &mut S,
+) -> Result<u8, Stop>
+    requires { length bytes.now ≤ size_limit }
+    ensures { Says (IsFileText list.now bytes.now) (S.told page.old) (S.told page.new) result }
+{
+    let judged = judge(alloc, list, bytes)?;
+    write_judged(&judged, page)?;
+    Ok(judged_status(&judged))
+}
+
+/// Words of a line.
+#[tactic(auto, unfolding(crate::specs::GateText::no_list_words))]
+fn no_list_words() -> &'static str
+    ensures { result.now ≡ no_list_words }
+{
+    "not a list: line "
+}
+
+/// Words of a line.
+#[tactic(auto, unfolding(crate::specs::GateText::no_entry_words))]
+fn no_entry_words() -> &'static str
+    ensures { result.now ≡ no_entry_words }
+{
+    " is no entry"
+}
+
+/// Writes that a line of a list is no entry.
+#[tactic(auto, using(pickle_io::proofs::Devices::text_steps), unfolding(crate::specs::GateText::no_list_line))]
+fn write_no_list<S: Page>(line: usize, page: &mut S) -> Result<(), Failed>
+    ensures { Writes (S.told page.old) (S.told page.new) result (no_list_line line) }
+{
+    write_all(page, no_list_words().as_bytes())?;
+    write_decimal(line as u64, page)?;
+    write_all(page, no_entry_words().as_bytes())?;
+    write_all(page, b"\n")
+}
+
+/// Writes whether the file that the bytes are passes by this list, as `write_file` does. Answers the status: 0 where it passes, 1 where it does not,
+/// and 2 where a line of the list is no entry: nothing is said of the file then.
+///
+/// `Stop::TooLarge` where there are more bytes than the limit, and `Stop::Memory` where memory runs out: nothing was written then. `Stop::Write`
+/// where the sink fails: what was written then is a beginning of the text. The sink is to be flushed as in `write_text`.
+pub fn write_gate<S: Page>(
+    alloc: Global,
+    list: &[u8],
+    bytes: &[u8],
+    page: &mut S,
+) -> Result<u8, Stop>
+    ensures { AnswersGate list.now bytes.now S.told page.old page.new result }
+{
+    if bytes.len() > LIMIT {
+        return Err(Stop::TooLarge);
+    }
+    match read_list(alloc, list)? {
+        Listing::Entries(entries) => write_file(alloc, entries.as_slice(), bytes, page),
+        Listing::Wrong(line) => {
+            write_no_list(line, page)?;
+            Ok(NO_ANSWER)
+        }
+    }
+}

@@ -1,0 +1,93 @@
+//! Whether a file passes a list: a pickle, or an archive of members that pass.
+
+ghost use Rattle.std.specs.Prelude.{◌≡◌, ◌≤◌, length, IfOk};
+ghost use Rattle.pickle_doc.specs.Document.{size_limit};
+ghost use Rattle.pickle_script.specs.GateText.{IsVerdictText};
+ghost use Rattle.archive_gate.specs.Members.{AreSmall};
+ghost use Rattle.archive_script.specs.GateText.{judged_output, IsLineIn, IsMembersVerdict, IsArchiveText, IsFileText};
+
+use crate::judged::Judged;
+use archive_gate::{Fault, begins_as_archive, behind_header, first_failing};
+use pickle_allow::Entry;
+use pickle_gate::gate;
+use pickle_script::line_for;
+use std::alloc::{AllocError, Global};
+use zip_archive::{EntryRef, read_zip};
+
+/// What is said of a pickle.
+fn judge_pickle<'a>(
+    alloc: Global,
+    list: &[Entry<'_>],
+    bytes: &'a [u8],
+) -> Result<Judged<'a>, AllocError>
+    requires { length bytes.now ≤ size_limit }
+    ensures { IfOk result (λ j. IsVerdictText list.now bytes.now (judged_output j)) }
+{
+    let verdict = gate(alloc, list, bytes)?;
+    let line = line_for(alloc, bytes, verdict)?;
+    Ok(Judged::Pickle(verdict, line))
+}
+
+/// The line of `calls` for the item of a member that is not allowed.
+fn line_in(alloc: Global, entry: &EntryRef<'_>, fault: Fault) -> Result<Vec<u8>, AllocError>
+    requires { length entry.now.content ≤ size_limit }
+    ensures { IfOk result (λ line. IsLineIn entry.now fault line.items) }
+{
+    match fault {
+        Fault::Packed => Ok(Vec::new(alloc)),
+        Fault::Archive => Ok(Vec::new(alloc)),
+        Fault::Refused(verdict) => line_for(alloc, entry.content(), verdict),
+        Fault::Behind(verdict) => line_for(alloc, behind_header(entry.content()), verdict),
+    }
+}
+
+/// What is said of the members of an archive.
+fn judge_members<'a>(
+    alloc: Global,
+    list: &[Entry<'_>],
+    entries: &[EntryRef<'a>],
+) -> Result<Judged<'a>, AllocError>
+    requires { AreSmall entries.now }
+    ensures { IfOk result (λ j. IsMembersVerdict list.now entries.now (judged_output j)) }
+{
+    match first_failing(alloc, list, entries)? {
+        None => Ok(Judged::Archive),
+        Some(failing) => {
+            let entry = &entries[failing.place];
+            let line = line_in(alloc, entry, failing.fault)?;
+            Ok(Judged::Member(entry.name(), failing.fault, line))
+        }
+    }
+}
+
+/// What is said of bytes that begin as an archive does.
+fn judge_archive<'a>(
+    alloc: Global,
+    list: &[Entry<'_>],
+    bytes: &'a [u8],
+) -> Result<Judged<'a>, AllocError>
+    requires { length bytes.now ≤ size_limit }
+    ensures { IfOk result (λ j. IsArchiveText list.now bytes.now (judged_output j)) }
+{
+    match read_zip(alloc, bytes)? {
+        Ok(entries) => judge_members(alloc, list, entries.as_slice()),
+        Err(refusal) => Ok(Judged::NoArchive(refusal)),
+    }
+}
+
+/// What is said of a file by these entries: of bytes that begin as a zip archive does, whether each member passes, and of other bytes, whether
+/// they are one pickle that passes. There are to be no more bytes than the limit. It fails only where memory runs out.
+pub fn judge<'a>(
+    alloc: Global,
+    list: &[Entry<'_>],
+    bytes: &'a [u8],
+) -> Result<Judged<'a>, AllocError>
+    requires { length bytes.now ≤ size_limit }
+    ensures { IfOk result (λ j. IsFileText list.now bytes.now (judged_output j)) }
+{
+    if begins_as_archive(bytes) {
+        judge_archive(alloc, list, bytes)
+    } else {
+        judge_pickle(alloc, list, bytes)
+    }
+}
