@@ -11,15 +11,15 @@ What is public is imported when it is first used: the entrance starts faster, an
 
 __version__ = '1.0.0'
 
-__all__ = ['Answer', 'Argument', 'Brief', 'Briefs', 'Call', 'Calls', 'Change', 'Difference', 'End', 'Extension', 'GateAnswer', 'Global', 'Heap', 'Item',
-           'Items', 'Listing', 'Mark', 'Member', 'Members', 'Name', 'NoResult', 'NotAllowed', 'NotOpened', 'Object', 'Objects', 'Opcode', 'OtherForm',
-           'OutOfMemory', 'Part', 'PicklestepError', 'PlainValue', 'ProgramError', 'PythonSource', 'Ran', 'Reach', 'ReachAnswer', 'Reached', 'Ref',
+__all__ = ['Answer', 'Argument', 'Brief', 'Briefs', 'Call', 'Calls', 'Change', 'Difference', 'End', 'Extension', 'FoundPickle', 'FoundPickles',
+           'GateAnswer', 'Global', 'Heap', 'Item', 'Items', 'Listing', 'Mark', 'Name', 'NoResult', 'NotAllowed', 'NotOpened', 'Object', 'Objects', 'Opcode',
+           'OtherForm', 'OutOfMemory', 'Part', 'PicklestepError', 'PlainValue', 'ProgramError', 'PythonSource', 'Ran', 'Reach', 'ReachAnswer', 'Reached', 'Ref',
            'Refused', 'Session', 'Shown', 'ShownObjects', 'TimedOut', 'TooLarge', 'Value', 'Where', 'calls', 'check', 'compare', 'form', 'gate',
-           'listing', 'members', 'objects', 'reach', 'source', 'tree']
+           'listing', 'objects', 'pickles_in', 'reach', 'source', 'tree']
 
 TYPE_CHECKING = False  # (`typing` would be an import)
 if TYPE_CHECKING:
-    from .addresses import Member, Members, members
+    from .addresses import FoundPickle, FoundPickles, pickles_in
     from .answers import Answer, Calls, Heap, Items, Listing, Objects, Part, Reached, ShownObjects
     from .comparing import Difference, compare
     from .errors import NoResult, NotAllowed, NotOpened, OutOfMemory, PicklestepError, ProgramError, Refused, TimedOut, TooLarge
@@ -38,9 +38,17 @@ _MODULES = ('addresses', 'answers', 'comparing', 'errors', 'python_source', 'rec
             'values')
 
 
+def check_python() -> None:
+    """Raises ImportError in a Python that is too old. (The proved program's own words work with one.)"""
+    from sys import version_info
+    if version_info < (3, 9):
+        raise ImportError('picklestep needs Python 3.9 or later')
+
+
 def __getattr__(name: str) -> object:
     """What is public, from the module that has it."""
     if name in __all__:
+        check_python()
         from importlib import import_module
         for module in _MODULES:
             found = vars(import_module(f'{__name__}.{module}'))

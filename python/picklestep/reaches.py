@@ -215,11 +215,11 @@ REACHES = LineReader(REACH, lambda match: reach_of(match[0]))
 LineKey = Tuple[str, Optional[str]]
 
 
-def reached_lines(text: str, start: int, end: int, each: bool = False, is_alone: Callable[[str], bool] = lambda quoted: False) -> Iterator[Tuple[LineKey, int, Match[str]]]:
+def reached_lines(text: str, start: int, end: int, each: bool = False) -> Iterator[Tuple[LineKey, int, Match[str]]]:
     """The lines in a part of a text, each with its key and the match of its beginning: a pickle may have a hundred thousand lines and few names.
 
     The number says how many lines of that key are counted by it, which come one after another (and have offsets of as many digits). With `each`
-    every line comes by itself, and so do those whose name `is_alone`.
+    every line comes by itself.
 
     >>> [found[:2] for found in reached_lines("0: new 'a' 'b' () as #2\\n9: new 'a' 'b' (#2) as #4\\n12: state #4 to #2\\n", 0, 70)]
     [(('new', "'a' 'b'"), 2), (('state', None), 1)]
@@ -237,7 +237,7 @@ def reached_lines(text: str, start: int, end: int, each: bool = False, is_alone:
         if found is not None:
             match, count = found, 1
             key = match[2], match[3]
-            if not each and key[1] is not None and key[0] in _IN_ROWS and not is_alone(key[1]):
+            if not each and key[1] is not None and key[0] in _IN_ROWS:
                 said, at = f': {key[0]} {key[1]} ', match.start(2) - 2
                 end_of_said = at + len(said)
     if count:

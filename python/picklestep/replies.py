@@ -2,13 +2,15 @@
 
 from __future__ import annotations
 
+import os
 import re
+from dataclasses import replace
 from typing import Dict, List, Optional, Tuple, Union
 
 from .records import GateAnswer, Mark, OtherForm, Ran, ReachAnswer, Ref, Where
-from .texts import LinesError, end_of
+from .texts import LinesError, end_of, unquoted
 
-__all__ = ['IN_FORM', 'WHERE_BEGINS', 'complaint_of', 'edit_in', 'entry_of', 'gate_answer', 'is_mark', 'last_words', 'memo_of', 'number_in_word',
+__all__ = ['IN_FORM', 'WHERE_BEGINS', 'complaint_of', 'edit_in', 'entry_of', 'gate_answer', 'is_mark', 'last_words', 'line_refused', 'memo_of', 'number_in_word',
            'opcode_refused_in', 'other_form', 'place_in', 'ran_of', 'reach_answer', 'refused_in', 'stack_of', 'stored_under', 'where_of', 'words_of']
 
 _REFUSED = 'refused: '
@@ -25,6 +27,17 @@ IN_FORM = b'in form\n'
 # What `gate` answers where the pickle passes, and what of something that no list allows.
 _PASSES = 'passes'
 _NOT_ALLOWED = re.compile(r'([0-9]+): not allowed: (.*)')
+# What it answers of a zip archive: of bytes that are none, and of a member, whose name is in front.
+_NO_ARCHIVE = re.compile(r'not in form: ([0-9]+): (.*)')
+_MEMBER = re.compile(r"('(?:[^'\\]|\\.)*'): (.*\n)")
+_UNSEEN = re.compile(r'(?:(packed)|(an archive) itself): (.*)')
+_BEHIND = 'behind its header: '
+_NO_LIST = re.compile(rb'not a list: line ([0-9]+) is no entry\n')
+# What it answers of a zip archive: of bytes that are none, and of a member, whose name is in front.
+_NO_ARCHIVE = re.compile(r'not in form: ([0-9]+): (.*)')
+_MEMBER = re.compile(r"('(?:[^'\\]|\\.)*'): (.*\n)")
+_UNSEEN = re.compile(r'(?:(packed)|(an archive) itself): (.*)')
+_BEHIND = 'behind its header: '
 _ENDED = re.compile(r'(?:refused|fault|unsure|kept): (.*?(?: at ([0-9]+))?)')
 # What `reach` answers where something is reached, and where nothing is; and where there are more ways than it goes.
 _REACHED = re.compile(r'reached at ([0-9]+): (.*)\n')
@@ -184,6 +197,16 @@ def other_form(text: str) -> Optional[OtherForm]:
     return OtherForm(int(match[1]), int(match[2]), match[3])
 
 
+def line_refused(text: bytes) -> Optional[int]:
+    """The line of a list, from 1, that is no entry of one, where `gate` answers that.
+
+    >>> line_refused(b'not a list: line 3 is no entry\\n'), line_refused(b'passes\\n')
+    (3, None)
+    """
+    match = _NO_LIST.fullmatch(text)
+    return None if match is None else int(match[1])
+
+
 def gate_answer(text: str) -> GateAnswer:
     """What the answer of `gate` says.
 
@@ -191,8 +214,22 @@ def gate_answer(text: str) -> GateAnswer:
     "import 'posix' 'system' as #0"
     >>> gate_answer('refused: S2 stack underflow\\n').kind
     'ended'
+    >>> answer = gate_answer("'data.pkl': 0: not allowed: import 'posix' 'system' as #0\\n")
+    >>> answer.member, answer.kind, answer.offset
+    ('data.pkl', 'not allowed', 0)
     """
+    of_member = _MEMBER.fullmatch(text)
+    if of_member is not None:
+        is_behind = of_member[2].startswith(_BEHIND)
+        said = gate_answer(of_member[2][len(_BEHIND) if is_behind else 0:])
+        return replace(said, line=text[:-1], member=os.fsdecode(unquoted(of_member[1])), is_behind_header=is_behind)
     line = text[:-1]
+    unseen = _UNSEEN.fullmatch(line)
+    if unseen is not None:
+        return GateAnswer(False, line, unseen[1] or unseen[2], unseen[3])
+    other_archive = _NO_ARCHIVE.fullmatch(line)
+    if other_archive is not None:
+        return GateAnswer(False, line, 'other form', other_archive[2], int(other_archive[1]))
     if line == _PASSES and text.endswith('\n'):
         return GateAnswer(True, line, 'passes')
     if _OTHER_FORM.fullmatch(text):

@@ -9,6 +9,7 @@ import subprocess
 import sys
 import tempfile
 import unittest
+import unittest.mock
 from pathlib import Path
 from typing import Dict, List, Set
 
@@ -18,7 +19,7 @@ from pickles import ROOT, chosen
 from scan_support import HARMLESS, HOSTILE, PYTHON, ScanCase, environment
 
 PACKAGE = Path(picklestep.__file__).resolve().parent
-WORDS = ('list', 'objects', 'calls', 'form', 'gate', 'reach', 'members', 'debug', 'scan', 'view', 'shell', 'source', 'diff', 'mend')
+WORDS = ('list', 'objects', 'calls', 'form', 'gate', 'reach', 'members', 'debug', 'scan', 'view', 'shell', 'dap', 'source', 'diff', 'mend')
 # A file for each module of the standard library says in this file that it was imported.
 MARK = "open(__file__.rpartition('/')[0] + '/imported', 'a').write(__name__ + '\\n')\nraise ImportError('this folder is not searched')\n"
 
@@ -66,7 +67,8 @@ class Words(EntranceCase):
         for name in ('-a.pkl', '--no-known', '-'):
             self.file(name, HOSTILE)
         self.file('b.pkl', HARMLESS)
-        for way, entrance in chosen(ways().items(), 1):
+        # (the other ways read words as the first does)
+        for way, entrance in chosen(((way, entrance) for way, entrance in ways().items() if way in ('-m', 'clone')), 1):
             for words in (['scan', '--brief', '--', 'b.pkl', '-a.pkl'], ['scan', '--brief', '--', '-a.pkl', '--no-known'],
                           ['--', '--no-known'], ['--no-known'], ['-a.pkl', 'b.pkl', '--brief'], ['scan', '--', '-'],
                           ['scan', '--write-allow', 'used', 'b.pkl', '--', '-a.pkl'], ['diff', '--', '-a.pkl', 'b.pkl'],
@@ -82,8 +84,9 @@ class Words(EntranceCase):
         self.assertEqual(sorted(path.name for path in self.folder.iterdir()), sorted(['-', '--no-known', '-a.pkl', 'b.pkl', 'used']))
 
     def test_help(self) -> None:
-        for entrance in chosen(ways().values(), 1):
-            for words in (['--help'], ['-h'], ['help'], ['help', 'help'], ['calls', '-h'], *([word, '--help'] for word in WORDS)):
+        for way, entrance in chosen(ways().items(), 1):
+            pages = WORDS if way == '-m' else ('scan', 'calls')
+            for words in (['--help'], ['-h'], ['help'], ['help', 'help'], ['calls', '-h'], *([word, '--help'] for word in pages)):
                 run = self.start([*entrance, *words])
                 self.assertEqual((run.returncode, run.stderr), (0, ''), words)
                 if words[-1] == '--help' and len(words) > 1:
@@ -125,6 +128,11 @@ class Words(EntranceCase):
             words = [sys.executable, '-I', '-B', str(folder / 'picklestep' / 'entrance.py'), '--version']
             run = subprocess.run(words, env={**os.environ, 'PICKLESTEP_PROGRAM': find_program()}, capture_output=True, text=True, timeout=60)
             self.assertEqual(run.stdout.partition('\n')[0], f'picklestep {picklestep.__version__}{of}', run.stderr)
+
+    def test_an_older_python(self) -> None:
+        """The package says what it needs. (The proved program's own words work with an older one.)"""
+        with unittest.mock.patch('sys.version_info', (3, 8, 18)), self.assertRaisesRegex(ImportError, 'needs Python 3.9 or later'):
+            picklestep.check_python()
 
     def test_what_is_no_word(self) -> None:
         for entrance in ways().values():

@@ -6,6 +6,7 @@ import collections
 import fractions
 import io
 import itertools
+import json
 import pickle
 import random
 import struct
@@ -17,20 +18,22 @@ import unittest
 import unittest.mock
 import zipfile
 from pathlib import Path
-from typing import Any, Iterator, List, Sequence, Tuple
+from typing import Any, Dict, Iterator, List, Sequence, Tuple
 
 import picklestep
 import test_shapes
+from evasions import framed, short, wrapper
 from picklestep import library
 from picklestep.records import GateAnswer
 from picklestep.replies import gate_answer
-from picklestep.scan import Options, checking, look_at_bytes
-from picklestep.scan.blobs import Limits
+from picklestep.scan import Judge, passing
+from picklestep.scan.allow import read_lines
+from picklestep.scan.blobs import Blob, Budget, PartMet
 from picklestep.scan.names import Names, NoList
 from picklestep.texts import LinesError
 from pickles import real_pickles
 from real_files import KEPT
-from scan_support import HARMLESS, HOSTILE, MODELS, ScanCase, environment
+from scan_support import HARMLESS, HOSTILE, MODELS, ScanCase, environment, looks_at
 from test_sets import LIBRARIES, SCRIPT, set_for, write_files
 
 ORDERED = pickle.dumps(collections.OrderedDict(a=1), 4)
@@ -63,6 +66,14 @@ GIVEN: Tuple[Tuple[object, str], ...] = (
     (False, 'bool'), (None, 'none any'), ([], 'held any'), ([1], 'held'), ((), 'held'), ((1, 2), 'held any'), ({}, 'held'), (collections.OrderedDict, f'class any {NAME}'),
     (fractions.Fraction, 'class fractions.Fraction any'), (range(5), 'any held'), (collections.OrderedDict(), 'held any'))
 WORDS = ('text', 'short', 'fraction', 'bytes', 'number', 'small', 'bool', 'none', 'held', 'class', 'any', "'a'", "'latin1'", '0', '3', '-5', NAME, 'fractions.Fraction')
+
+
+def archive(members: Dict[str, bytes], method: int = zipfile.ZIP_STORED) -> bytes:
+    out = io.BytesIO()
+    with zipfile.ZipFile(out, 'w', method) as made:
+        for name, content in members.items():
+            made.writestr(name, content)
+    return out.getvalue()
 
 
 def encoding(name: str) -> bytes:
@@ -141,24 +152,19 @@ class Answers(unittest.TestCase):
             with self.subTest(line):
                 self.assertEqual(bool(picklestep.gate(content, allow=['plain'], names=[line])), passes)
 
-    def test_shapes_are_those_of_scan(self) -> None:
-        """Random shapes take the same random arguments in the program and in `scan`, which holds lines of `calls` against patterns."""
-        chance, taken = random.Random(77), 0
+    def test_what_shapes_take(self) -> None:
+        """Random arguments, by words that take them and by others beside these."""
+        chance = random.Random(77)
         for _ in range(300):
             given = [chance.choice(GIVEN) for _ in range(chance.choice((0, 1, 1, 2, 3)))]
-            words = [chance.choice((*kinds.split(), *kinds.split(), chance.choice(WORDS))) for _, kinds in given]
-            shape = ' '.join(word if chance.random() < 0.8 else f'{word}|{chance.choice(WORDS)}' for word in words[chance.random() < 0.1:])
+            words = [chance.choice(kinds.split()) for _, kinds in given]
+            shape = ' '.join(word if chance.random() < 0.8 else f'{word}|{chance.choice(WORDS)}' for word in words)
             protocol = chance.choice((0, 1, 2, 3, 4, 4))
             content = pickle.dumps(Called(collections.Counter, tuple(value for value, _ in given)), protocol)
-            lines = [f'collections.Counter: call({shape})', '**: state fill', 'builtins.range: call', f'{NAME}: call', '_codecs.encode: call', 'builtins.bytes: call']
-            names = Names(lines)
-            result = look_at_bytes('a.pkl', content, Options(Limits(shapes=names.with_shapes())))
-            calls = [done for each in result.pickles for done in each.calls if done.name == 'collections.Counter']
-            self.assertTrue(calls)
-            answer = picklestep.gate(content, names=lines)
-            self.assertEqual(answer.passes, all(names.allows_done(done.what, done.name, done.fits) for done in calls), (shape, given, protocol, answer.line))
-            taken += answer.passes
-        self.assertGreater(taken, 150)
+            lines = ['**: state fill', 'builtins.range: call', f'{NAME}: call', '_codecs.encode: call', 'builtins.bytes: call']
+            passes = [bool(picklestep.gate(content, names=[*lines, f'collections.Counter: call({each})'])) for each in (shape, f'{shape} none', 'none ' * 4)]
+            made = any(isinstance(value, (range, collections.OrderedDict)) or isinstance(value, bytes) and protocol < 3 for value, _ in given)
+            self.assertEqual(passes, [passes[0] if made else True, False, False], (shape, given, protocol))
 
     def test_names_in_quotes_allow_nothing(self) -> None:
         content = b'\x80\x02cos \nx\nq\x00.'
@@ -203,8 +209,47 @@ class Answers(unittest.TestCase):
         self.assertEqual(picklestep.gate(content, names=[f'{NAME}: call made']).kind, 'not allowed')
 
     def test_a_list_that_the_program_does_not_take(self) -> None:
-        with unittest.mock.patch('picklestep.scan.gating.Names.entries', return_value=iter(['no entry'])), self.assertRaises(picklestep.ProgramError):
+        with unittest.mock.patch('picklestep.scan.gating.Names.entries', return_value=['no entry']), self.assertRaises(picklestep.ProgramError):
             picklestep.gate(b'N.', names=[NAME])
+
+
+class Archives(ScanCase):
+    """What the gate says of zip archives."""
+
+    def test_each_member_is_looked_at(self) -> None:
+        path = self.file('a.zip', archive({'a.pkl': ORDERED, 'b': bytes(8), 'it\'s/\xe9': HOSTILE}))
+        answer = picklestep.gate(path, names=[NAME])
+        self.assertEqual((answer.passes, answer.kind, answer.member, answer.offset), (False, 'not allowed', 'it\'s/\xe9', 0))
+        self.assertEqual(answer.line, f"'it\\'s/\\xc3\\xa9': {picklestep.gate(HOSTILE, names=[NAME]).line}")
+        self.assertTrue(picklestep.gate(path, names=[NAME, 'posix.system']))
+        self.assertEqual(picklestep.gate(path.read_bytes(), names=[NAME]), answer)
+        self.assertEqual(picklestep.gate(path, names=[NAME], timeout=60), answer)
+        self.assertTrue(picklestep.gate(f'{path} > a.pkl', names=[NAME]))
+
+    def test_what_does_not_pass(self) -> None:
+        deep = archive({'a.zip': archive({'a.pkl': b'N.'})})
+        for content, kind, member, offset, reason in (
+            (archive({'a': b'N.'}, zipfile.ZIP_DEFLATED), 'packed', 'a', None, 'it is not looked at'),
+            (deep, 'an archive', 'a.zip', None, 'it is not looked at'),
+            (archive({'a': b'N.'}) + b'\n', 'other form', None, 81, 'no end record without a comment at the very end'),
+            (archive({'a': b'J\x01\0\0\0' + HOSTILE}), 'other form', 'a', 0, 'a number that has a shorter form'),
+        ):
+            answer = picklestep.gate(content, names=['**'])
+            self.assertEqual((answer.passes, answer.kind, answer.member, answer.offset, answer.reason), (False, kind, member, offset, reason))
+
+    def test_arrays(self) -> None:
+        """numpy loads a pickle behind the header of an array of objects."""
+        try:
+            import numpy
+        except ImportError:
+            self.skipTest('numpy is not there')
+        for values, passes in ((numpy.arange(9.0), True), (numpy.zeros((3, 3)), True), (numpy.array([Called(print, (1,))]), False)):
+            path = self.folder / 'a.npz'
+            numpy.savez(path, a=values)
+            answer = picklestep.gate(path, allow=['numpy'])
+            self.assertEqual((answer.passes, answer.member), (passes, None if passes else 'a.npy'), answer.line)
+            numpy.savez_compressed(path, a=values)
+            self.assertEqual(picklestep.gate(path, allow=['numpy']).kind, 'packed')
 
 
 class TheWord(ScanCase):
@@ -228,16 +273,19 @@ class Checked(ScanCase):
         return list(caught.exception.lines)
 
     def test_it_passes_only_what_the_gate_does(self) -> None:
-        answer = GateAnswer(False, '7: not allowed: something', 'not allowed', 'something', 7)
+        answer = GateAnswer(False, '7: not allowed: state #3 to #2', 'not allowed', 'state #3 to #2', 7)
         for loader in (None, 'pickle', 'torch', 'joblib', 'numpy', 'pandas'):
             self.assertEqual(picklestep.check(ORDERED, names=[NAME], loader=loader), ORDERED)
-            with unittest.mock.patch.object(checking, 'gate_by', return_value=answer):
-                self.assertEqual(self.refused(ORDERED, names=[NAME], loader=loader), ['pickle: gate: 7: not allowed: something'])
-        with unittest.mock.patch.object(checking, 'gate_by', side_effect=picklestep.TimedOut('no answer within 3 seconds')):
-            self.assertEqual(self.refused(ORDERED, names=[NAME]), ['pickle: gate: no answer within 3 seconds'])
+            with unittest.mock.patch.object(passing, '_ask', return_value=answer):
+                self.assertEqual(self.refused(ORDERED, names=[NAME], loader=loader), [f'pickle: state {NAME}, first at 7: state #3 to #2'])
+            with unittest.mock.patch.object(passing, '_refused', return_value=iter(())), unittest.mock.patch.object(passing, '_ask', return_value=answer):
+                self.assertEqual(self.refused(ORDERED, names=[NAME], loader=loader), ['pickle: gate, first at 0: 7: not allowed: state #3 to #2'])
+        for error, said in ((PartMet('it takes too long'), 'it takes too long'), (picklestep.ProgramError('no answer'), 'no answer')):
+            with unittest.mock.patch.object(passing, '_ask', side_effect=error):
+                self.assertEqual(self.refused(ORDERED, names=[NAME]), [f'pickle: whether it passes a list is not known: {said}'])
 
     def test_without_a_list_nothing_is_asked(self) -> None:
-        with unittest.mock.patch.object(checking, 'gate_by', side_effect=AssertionError):
+        with unittest.mock.patch.object(passing, '_ask', side_effect=AssertionError):
             self.assertEqual(picklestep.check(ORDERED), ORDERED)
 
     def test_what_a_call_made(self) -> None:
@@ -248,26 +296,29 @@ class Checked(ScanCase):
         row = ORDERED * 3
         for loader in (None, 'pickle'):
             self.assertEqual(picklestep.check(row, names=[NAME], loader=loader), row)
-        answers = iter([GateAnswer(True, 'passes', 'passes'), GateAnswer(False, '7: not allowed: x', 'not allowed', 'x', 7), GateAnswer(True, 'passes', 'passes')])
-        with unittest.mock.patch.object(checking, 'gate_by', side_effect=lambda *_: next(answers)):
-            self.assertEqual(self.refused(row, names=[NAME]), [f'pickle: gate, of the pickle at {len(ORDERED)}: 7: not allowed: x'])
+        self.assertEqual(self.refused(row, names=[f'{NAME}: call made']), [f'pickle: made-fill {NAME} 3 times, first at 50: set 1 in #4'])
+        other = pickle.dumps(collections.OrderedDict(), 4)
+        self.assertEqual(self.refused(other * 2 + ORDERED + other, names=[f'{NAME}: call made']), [f'pickle: made-fill {NAME} once, first at {2 * len(other) + 50}: set 1 in #14'])
+        self.assertEqual(self.refused(other * 2 + HOSTILE + ORDERED, names=[NAME])[0], f'pickle: import posix.system once, first at {2 * len(other)}: not allowed: runs a shell command')
 
     def test_a_long_row(self) -> None:
         large = pickle.dumps([collections.OrderedDict(a=number) for number in range(9000)])
         row = ORDERED + large + ORDERED * 50 + large
         asked: List[bytes] = []
 
-        def passed(allowed: object, content: bytes, *_: object) -> GateAnswer:
-            asked.append(content)
-            return GateAnswer(True, 'passes', 'passes')
-        with unittest.mock.patch.object(checking, 'gate_by', side_effect=passed):
+        ask = passing._ask
+
+        def asking(entries: bytes, blob: Blob, budget: Budget) -> GateAnswer:
+            asked.append(blob.read(0, blob.size))
+            return ask(entries, blob, budget)
+        with unittest.mock.patch.object(passing, '_ask', side_effect=asking):
             picklestep.check(row, names=[NAME])
-        self.assertEqual(asked, [ORDERED, large, *[ORDERED] * 50, large])
+        self.assertEqual(asked, [row, ORDERED, large, *[ORDERED] * 50, large])
 
     def test_what_other_loaders_give_meaning_to(self) -> None:
         """A persistent id: `pickle.loads` raises there, and others load it."""
         content = b'\x80\x02K\x07Q.'
-        self.assertEqual(self.refused(content, names=[NAME], loader='pickle'), ['pickle: gate: 4: not allowed: persistent int 7 as #1'])
+        self.assertEqual(self.refused(content, names=[NAME], loader='pickle'), ['pickle: persistent id once, first at 4: persistent int 7 as #1'])
         for words in ({'names': [NAME], 'loader': 'torch'}, {'names': [NAME]}, {'names': ['persistent'], 'loader': 'pickle'}):
             self.assertEqual(picklestep.check(content, **words), content)  # type: ignore[arg-type]
 
@@ -275,13 +326,70 @@ class Checked(ScanCase):
         """An array of joblib: what `joblib.load` reads is no single pickle."""
         content = self.kept('joblib', 'array.joblib')
         self.assertEqual(picklestep.check(content, allow=['joblib'], loader='joblib'), content)
-        self.assertIn('not in form', self.refused(content, allow=['joblib'], loader='pickle')[-1])
+        self.assertIn('not in the form that picklers write', self.refused(content, allow=['joblib'], loader='pickle')[-1])
 
     def kept(self, library_name: str, file: str) -> bytes:
         return dict(kept_files(library_name))[file]
 
     def test_what_is_refused_is_said_once(self) -> None:
         self.assertEqual(len(self.refused(HARMLESS, names=['a.b'])), 1)
+
+
+class Scanned(ScanCase):
+    """`scan --allow` asks the gate about each pickle."""
+
+    MADE = f'{NAME}: call made'
+
+    def texts(self, path: Path, *lines: str) -> List[str]:
+        return [each.text for each in looks_at(Judge(Names(lines)), path)]
+
+    def test_a_value_of_a_store(self) -> None:
+        path = self.table_with(ORDERED)
+        self.assertEqual(self.texts(path, NAME), [])
+        self.assertEqual(self.texts(path, self.MADE), [f'made-fill {NAME} once, first at 50: set 1 in #4'])
+
+    def test_opcodes_around_arrays_have_the_places_of_the_file(self) -> None:
+        array = wrapper(b'u1', 5)[2:]
+        content = framed(b'\x80\x04', b'](' + array) + b'.\x80\x04N.' + framed(b'', short(b'collections') + short(b'OrderedDict') + b'\x93)RNNse.')
+        names = read_lines(['joblib'])
+        path = self.file('model.joblib', content)
+        self.assertEqual(self.texts(path, *names), [])
+        place = content.rindex(b'se.')
+        more = [line for line in names if not line.startswith(NAME)]
+        self.assertEqual([text.partition(':')[0] for text in self.texts(path, *more, self.MADE)], [f'made-fill {NAME} once, first at {place}'])
+        with self.assertRaisesRegex(picklestep.NotAllowed, 'bytes of arrays stand between its opcodes'):
+            picklestep.check(path, allow=['joblib'], loader='pickle')
+
+    def test_an_instance_of_python_2_goes_by_its_class(self) -> None:
+        path = self.file('a.pkl', b'(iapp\nJob\np0\n(dp1\nb.')
+        self.assertIsNone(picklestep.form(path))
+        self.assertFalse(picklestep.gate(path, names=['**']))
+        for line, is_marked in (('app.Job', False), ('app.Job: call', False), ('app.Job: call(text)', True), ('app.Job: new', True), ('app.Job: call made', True)):
+            self.assertEqual(bool(self.texts(path, line)), is_marked, line)
+        with self.assertRaisesRegex(picklestep.NotAllowed, 'no list lets it pass'):
+            picklestep.check(path, names=['app.Job'])
+
+    def test_each_place_is_told(self) -> None:
+        """Beside imports a place for each name and use, up to twenty."""
+        content = b'\x80\x02(' + b''.join(b'capp\nJob%d\n)R' % number for number in range(30)) + b't.'
+        path = self.file('a.pkl', content)
+        self.assertEqual([text.partition(':')[0] for text in self.texts(path, 'app.*:')][:2],
+                         ['call app.Job0 once, first at 14', 'call app.Job1 once, first at 26'])
+        self.assertEqual([len(self.texts(path, line)) for line in ('app.*:', 'app.*: call', 'app.Job1: call')], [20, 0, 29])
+
+    def test_a_list_that_lacks_very_many_names(self) -> None:
+        path = self.file('a.pkl', b'\x80\x02(' + b''.join(b'capp\nJob%d\n' % number for number in range(1100)) + b'ccollections\nOrderedDict\n)Rt.')
+        self.assertEqual(len(self.texts(path, f'{NAME}:')), 1100)
+
+    def test_an_earlier_run_with_another_list(self) -> None:
+        self.file('a.pkl', ORDERED)
+        self.file('one', NAME.encode())
+        self.file('other', self.MADE.encode())
+        self.file('log', self.scan('--json', '--allow', 'one', 'a.pkl').stdout.encode())
+        self.assertEqual(self.scan('--json', '--allow', 'one', '--resume', 'log', 'a.pkl').stdout, '')
+        run = self.scan('--json', '--allow', 'other', '--resume', 'log', 'a.pkl')
+        self.assertEqual((run.returncode, json.loads(run.stdout)['looks'][0]['name']), (1, NAME))
+        self.assertEqual(self.scan('--json', '--resume', 'log', 'a.pkl').stdout, '')
 
 
 # --- Honest files ---

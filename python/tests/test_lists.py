@@ -17,18 +17,19 @@ from typing import Any, Tuple
 import picklestep
 from picklestep.scan import Judge, look_at_bytes, written
 from picklestep.scan.allow import read_names
+from picklestep.scan.entries import refused_line
 from picklestep.scan.names import Names, NoList, read_comment, read_line
-from scan_support import HARMLESS, HOSTILE, ScanCase
+from scan_support import HARMLESS, HOSTILE, ScanCase, looks_in
 
 NUMPY = b'\x80\x02cnumpy\nndarray\n.'
 # What is no line of a list, each with a word that the message has.
 NONSENSE: Tuple[Tuple[str, str], ...] = (
-    ('import numpy', 'no name'), ('numpy torch', 'no name'), ('{"a": 1}', 'no name'), ('- numpy.ndarray', 'no name'), ('numpy..ndarray', 'no name'),
-    ('.numpy', 'no name'), ('numpy.ndarray,', 'no name'), ('torch.<lambda>', 'no name'), ('numpy.2d', 'no name'), ("'os ' 'x", 'no name'),
-    ("'os 'x'", 'no name'), ("'os ' 'x' 'y'", 'no name'), ('torch*', 'no name'), ('**\'x\'', 'no name'), (': call', 'no name'), ('a.b: : call', 'no name'),
-    ('numpy', 'include numpy'), ('include', 'no dot'), ('include a\0b', 'no name'), ('numpy.ndarray: cal', 'the nearest word is call'), ('numpy.ndarray: call, new', 'call,'),
-    ('numpy.ndarray: everything', 'everything'), ('a.b: made-', 'made-'), ('a.b: made call made-everything', 'made-everything'), ('a.b: mad', 'the nearest word is made'),
-    ('persistent.', 'no name'), ('buffers', 'no dot'), ('ext', 'no dot'), ('ext x', 'no name'))
+    ('import numpy', 'no entry'), ('numpy torch', 'no entry'), ('{"a": 1}', 'no entry'), ('- numpy.ndarray', 'no entry'), ('numpy..ndarray', 'no entry'),
+    ('.numpy', 'no entry'), ('numpy.ndarray,', 'no entry'), ('torch.<lambda>', 'no entry'), ('numpy.2d', 'no entry'), ("'os ' 'x", 'no entry'),
+    ("'os 'x'", 'no entry'), ("'os ' 'x' 'y'", 'no entry'), ('torch*', 'no entry'), ('**\'x\'', 'no entry'), (': call', 'no entry'), ('a.b: : call', 'no entry'),
+    ('numpy', 'include numpy'), ('include', 'no entry'), ('include a\0b', 'no entry'), ('numpy.ndarray: cal', 'the nearest word is call'), ('numpy.ndarray: call, new', 'no entry'),
+    ('numpy.ndarray: everything', 'no entry'), ('a.b: made-', 'the nearest word is made'), ('a.b: made call made-everything', 'made-everything'), ('a.b: mad', 'the nearest word is made'),
+    ('persistent.', 'no entry'), ('buffers', 'no dot'), ('ext', 'no dot'), ('ext x', 'no entry'))
 # What is one.
 LINES = ('numpy.ndarray', '  a.b:call  ', 'a.b: call new state fill  # all', 'a.b :', 'torch.*Storage:', 'torch.**', '**', '*', '**.os.**', 'a*b.c_*2',
          'été.Ärger', "'os ' 'x'", "'os ' 'x': new  # why", '"it\'s" \'x\'', "raw '\\xff' 'x'", "'os' #5", "'os' #*: call", "'a\\'b' 'c # d'", "'**", 'ext 7',
@@ -49,28 +50,39 @@ class Lines(unittest.TestCase):
                 self.assertEqual(read_line(line) is None, not line.strip() or line.startswith('#'))
 
     def test_what_is_said(self) -> None:
-        for line, name, words, note in (('a.b', 'a.b', 'call fill new state', ''), ('a.b:', 'a.b', '', ''), ('a.b: call  # why', 'a.b', 'call new', 'why'),
+        for line, name, words, note in (('a.b', 'a.b', 'call fill new state', ''), ('a.b:', 'a.b', '', ''), ('a.b: call  # why', 'a.b', 'call', 'why'),
                                         ("'a: call' 'x #': fill # why", "'a: call' 'x #'", 'fill', 'why'), ("'a' 'b:'", "'a' 'b:'", 'call fill new state', '')):
             found = read_line(line)
             assert found is not None
             self.assertEqual((found.name, ' '.join(sorted(found.words)), found.note), (name, words, note), line)
 
     def test_what_is_said_of_what_calls_make(self) -> None:
-        for line, words, made in (('a.b', 'call fill new state', None), ('a.b: call', 'call new', None), ('a.b: made', '', ''), ('a.b: call made', 'call new', ''),
-                                  ('a.b: made-state made', '', 'state'), ('a.b: new made-call', 'new', 'call new'), ('a.b: call(text) made-fill', 'call new', 'fill')):
-            found = read_line(line)
-            assert found is not None
-            self.assertEqual((' '.join(sorted(found.words)), None if found.made is None else ' '.join(sorted(found.made))), (words, made), line)
+        every = ('call', 'fill', 'new', 'state')
+        for line, words, made in (('a.b', 'call fill new state', 'call fill new state'), ('a.b: call', 'call new', 'call fill new state'), ('a.b: made', '', ''),
+                                  ('a.b: call made', 'call new', ''), ('a.b: made-state made', '', 'state'), ('a.b: new made-call', 'new', 'call new'),
+                                  ('a.b: call(text) made-fill', 'call new', 'fill'), ('a.b: then(text)', '', 'call fill new state')):
+            names = Names([line])
+            found = (' '.join(each for each in every if names.allows_done(f'{begin}{each}', 'a.b')) for begin in ('', 'made-'))
+            self.assertEqual(tuple(found), (words, made), line)
+        names = Names(['a.b: call(text) then(text)'])
+        self.assertEqual([each for each in every for begin in ('', 'made-') if names.allows_done(f'{begin}{each}', 'a.b', False)], ['call', 'fill', 'new'])
 
     def test_lines_for_the_gate(self) -> None:
         """They are those of the list, without names in quotes, and say the same when they are read again."""
         lines = ['a.b', 'a.b: call', 'a.*: call(text 3) then(held) made-state  # why', 'a.**: made', "'os ' 'x'", '"it\'s" \'x\'', "'**", "'os' #*", 'ext 7', 'ext *',
                  'persistent', 'buffer: fill', 'torch.*Storage:', '**', 'été.Ärger: new']
         names = Names(lines)
-        entries = list(names.entries())
-        self.assertEqual(entries, ['a.b: call new state fill', 'a.b: call new', 'a.*: new call(text 3) then(held) made-state', 'a.**: made', 'ext 7: call new state fill', 'ext *: call new state fill',
-                                   'persistent: call new state fill', 'buffer: fill', 'torch.*Storage:', '**: call new state fill', 'été.Ärger: new'])
-        self.assertEqual(list(Names(entries).entries()), entries)
+        entries = names.entries()
+        self.assertEqual(sorted(entries), sorted(['a.b', 'a.b: call', 'a.*: call(text 3) then(held) made-state', 'a.**: made', 'ext 7', 'ext *', 'persistent', 'buffer: fill',
+                                                  'torch.*Storage:', '**', 'été.Ärger: new']))
+        self.assertEqual(Names(entries).entries(), entries)
+        self.assertEqual(Names(entries).digest, names.digest)
+        self.assertEqual([each for each in entries if each not in names.entries_for(['a.b'])], ['ext 7', 'été.Ärger: new'])
+
+    def test_the_program_refuses_them_too(self) -> None:
+        """Of a large list the program is asked, and not the library."""
+        long = [f'a.b{number}: call(text)' for number in range(80_000)]
+        self.assertEqual([refused_line([*long, *more]) for more in (['a.b'], ['# a.b', 'a.b: cal', 'a'])], [None, 80_001])
 
     def test_each_name_that_is_shown_can_stand_in_a_list(self) -> None:
         chance = random.Random(71)
@@ -79,9 +91,10 @@ class Lines(unittest.TestCase):
             parts = [''.join(chance.choices('ab_2.é \'"\\#*:\n', k=chance.randrange(1, 6))).encode() for _ in range(2)]
             content = b'\x80\x04' + b''.join(b'\x8c' + bytes([len(part)]) + part for part in parts) + b'\x93.'
             for found in look_at_bytes('a.pkl', content).pickles[0].imports:
-                judge = Judge(Names([f'{found.name}: call  # why']))
+                names = Names([f'{found.name}: call  # why'])
+                judge = Judge(names)
                 self.assertIsNone(judge.mark(found.name), found.name)
-                self.assertEqual([judge.allows_done(what, found.name) for what in ('call', 'state')], [True, False], found.name)
+                self.assertEqual([names.allows_done(what, found.name) for what in ('call', 'state')], [True, False], found.name)
                 tried += 1
         self.assertGreater(tried, 250)
 
@@ -141,8 +154,8 @@ class Includes(ScanCase):
         self.file('binary', b'a.b\n\xff\xfe\n')
         self.file('alone', b'a.b\n# a note\rcollections.OrderedDict\n')
         for option in ('--allow', '--deny'):
-            for name, said in (('ours', 'ours, line 3: no name, no pattern and no include: import numpy'),
-                               ('more', 'ours, line 3: no name, no pattern and no include: import numpy'), ('binary', 'binary, line 2: no text in UTF-8'),
+            for name, said in (('ours', 'ours, line 3: no entry of a list: import numpy'),
+                               ('more', 'ours, line 3: no entry of a list: import numpy'), ('binary', 'binary, line 2: no text in UTF-8'),
                                ('alone', 'alone, line 2: a carriage return without a newline')):
                 run = self.scan('a.pkl', option, name)
                 self.assertEqual((run.returncode, run.stdout, run.stderr), (2, '', f'picklestep: {said}\n'))
@@ -220,7 +233,7 @@ class Through(unittest.TestCase):
                 before = Recorder.made
                 OfPython(io.BytesIO(content)).load()
                 self.assertEqual(Recorder.made, before + 1)
-                looks = list(Judge(Names(names)).looks(look_at_bytes('a.pkl', content)))
+                looks = looks_in(Judge(Names(names)), content)
                 self.assertEqual([each.rule for each in looks], ['odd' if 'made' in way else 'not-allowed-done'], looks)
 
 

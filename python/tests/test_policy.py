@@ -210,7 +210,9 @@ class Named(PolicyCase):
 
     def test_a_baseline_that_a_policy_names_is_written_first(self) -> None:
         self.policy('baseline = "base.json"')
-        self.assertEqual(self.scan('--policy', 'picklestep.toml', 'models').returncode, 2)
+        run = self.scan('--policy', 'picklestep.toml', 'models')
+        self.assertEqual(run.returncode, 2)
+        self.assertIn('base.json: No such file or directory; --write-baseline writes it', run.stderr)
         self.assertEqual(self.scan('--policy', 'picklestep.toml', '--write-baseline', 'base.json', 'models').returncode, 1)
         before = (self.folder / 'base.json').read_text()
         self.assertEqual(self.scan('--policy', 'picklestep.toml', '--write-baseline', 'base.json', 'models').returncode, 0)
@@ -302,7 +304,7 @@ class Reading(PolicyCase):
              ('[[exceptions]]\nreason = "r"\nowner = "o"\nuntil = "2027-01-31"\npath = "a"', 'a day'), ('a', 'line 1'), ('allow = ["a\\u0000b"]', 'no file'), ('baseline = "a\\u0000b"', 'no file'),
              ('x = ' + '1' * 900_000, ''), ('a' + '.a' * 300 + ' = 1', '200 dots'),
              ('[[exceptions]]\nreason = "r"\nowner = "o"\nuntil = 2027-01-31\nsha256 = "ab"', '64'), ('x = ' + '[' * 3000, ''),
-             ('[[exceptions]]\nreason = "r"\nowner = "o"\nuntil = 2027-01-31\npath = "a"\nnames = ["import os"]', 'no name'),
+             ('[[exceptions]]\nreason = "r"\nowner = "o"\nuntil = 2027-01-31\npath = "a"\nnames = ["import os"]', 'no entry'),
              ('[[exceptions]]\nreason = "r"\nowner = "o"\nuntil = 2027-01-31\npath = "a"\nrules = ["knwn"]', 'the nearest rule is known'))
 
     def test_what_is_wrong_is_said(self) -> None:
@@ -313,7 +315,8 @@ class Reading(PolicyCase):
                 self.assertEqual((run.returncode, run.stdout), (2, ''), run.stderr[-300:])
                 self.assertEqual(len(run.stderr.splitlines()), 1, run.stderr[-300:])
                 self.assertIn(why, run.stderr)
-        self.assertEqual(self.scan('--policy', 'none.toml', 'models').returncode, 2)
+        run = self.scan('--policy', 'none.toml', 'models')
+        self.assertEqual((run.returncode, run.stderr), (2, f'picklestep: {os.path.realpath(self.folder)}/none.toml: there is no such file\n'))
         self.assertEqual(self.scan('--policy', 'models', 'models').returncode, 2)
 
     def test_the_schema_says_the_same(self) -> None:
@@ -380,14 +383,72 @@ class Checks(PolicyCase):
         for line in ('picklestep.toml: rules[1] (*.pkl): later rules hide it', 'picklestep.toml: rules[2] (none/): no file has it',
                      'picklestep.toml: exceptions[1] (bad.pkl): it ended on 2020-01-31', 'picklestep.toml: exceptions[1] (bad.pkl): it takes whatever is marked there',
                      f'picklestep.toml: exceptions[2] (sha256 0000000000000000..): it ends on {soon}. Its owner is ben', 'exceptions[2] (sha256 0000000000000000..): no file has it',
-                     'picklestep.toml: exceptions[3] (bad.pkl): picklestep.toml: exceptions[1] hides it'):
+                     'picklestep.toml: exceptions[3] (bad.pkl): nothing is marked there that it takes'):
             self.assertIn(line, run.stdout)
+
+    def exceptions(self, *said: str, until: str = '2099-12-31') -> Path:
+        """A policy with these exceptions, each said in a few words of TOML."""
+        return self.policy(*(f'[[exceptions]]\n{each}\nreason = "r"\nowner = "o"\nuntil = {until}' for each in said))
+
+    def said(self, *words: str) -> List[str]:
+        """What the check says, without the counts at its end and what stands before an exception."""
+        run = self.check(*words)
+        lines = run.stdout.splitlines()
+        self.assertEqual((run.stderr, run.returncode), ('', int(len(lines) > 1)))
+        return [line.replace('picklestep.toml: ', '') for line in lines[:-1]]
+
+    def test_exceptions_that_take_nothing(self) -> None:
+        """It is a mark that uses an exception, and not a file alone."""
+        self.exceptions('path = "bad.pkl"\nnames = ["posix.*"]', 'path = "good.pkl"\nnames = ["posix.*"]', 'path = "models/"\nrules = ["not-read"]',
+                        f'sha256 = "{hashlib.sha256(HOSTILE).hexdigest()}"', f'sha256 = "{hashlib.sha256(HARMLESS).hexdigest()}"')
+        digest, harmless = (hashlib.sha256(each).hexdigest()[:16] for each in (HOSTILE, HARMLESS))
+        self.assertEqual(self.said('models'), [
+            'exceptions[2] (good.pkl): nothing is marked there that it takes', 'exceptions[3] (models/): nothing is marked there that it takes',
+            f'exceptions[4] (sha256 {digest}..): exceptions[1] hides it, which takes all of its marks',
+            f'exceptions[5] (sha256 {harmless}..): nothing is marked there that it takes'])
+        self.assertEqual(self.said(), [])
+
+    def test_an_exception_that_has_ended_hides_none(self) -> None:
+        self.exceptions('path = "bad.pkl"\nnames = ["posix.*"]', until='2020-01-31')
+        whole = (self.folder / 'picklestep.toml').read_text()
+        self.exceptions('path = "bad.pkl"\nrules = ["known"]')
+        self.policy(whole, (self.folder / 'picklestep.toml').read_text())
+        self.assertEqual(self.said('models'), ['exceptions[1] (bad.pkl): it ended on 2020-01-31, and takes nothing'])
+
+    def test_a_baseline_may_hide_an_exception(self) -> None:
+        self.scan('--write-baseline', 'base.json', 'models')
+        self.exceptions('path = "bad.pkl"\nnames = ["posix.*"]')
+        self.policy('baseline = "base.json"', (self.folder / 'picklestep.toml').read_text())
+        self.assertEqual(self.said('models'), ['exceptions[1] (bad.pkl): the baseline hides it, which takes all of its marks'])
+
+    def test_addresses(self) -> None:
+        """Of servers and URLs: those that are given are looked at, and a pattern that none of them has is named."""
+        url, other = f'file://{self.folder}/models/bad.pkl', f'file://{self.folder}/models/good.pkl'
+        self.exceptions(f'address = "{url}"\nnames = ["posix.*"]', 'address = "redis://cache:6379/*"\nnames = ["posix.*"]', f'address = "{other}"\nnames = ["a.b"]')
+        self.policy((self.folder / 'picklestep.toml').read_text(), '[[rules]]', 'servers = ["mysql://*"]', 'allow = ["plain"]')
+        nobody = 'no server and no URL has it that you gave'
+        of_redis, of_rule = f'exceptions[2] (redis://cache:6379/*): {nobody}', f'rules[1] (mysql://*): {nobody}'
+        self.assertEqual(self.said('models'), [of_rule, f'exceptions[1] ({url}): {nobody}', of_redis, f'exceptions[3] ({other}): {nobody}'])
+        self.assertEqual(self.said(url, other), [of_rule, of_redis, f'exceptions[3] ({other}): nothing is marked there that it takes'])
+
+    def test_a_server_that_does_not_answer(self) -> None:
+        """What it would use is not known, so its exception is not called unused."""
+        self.exceptions('address = "redis://127.0.0.1:1/*"\nnames = ["posix.*"]')
+        lines = self.said('redis://127.0.0.1:1/0')
+        self.assertEqual(len(lines), 1)
+        self.assertIn('redis://127.0.0.1:1/0: cannot be read, so nothing is said of what it would use: ', lines[0])
+
+    def test_what_was_not_looked_at(self) -> None:
+        self.file('models/a.7z', b'7z\xbc\xaf\x27\x1c' + bytes(40))
+        self.exceptions('path = "a.7z"\nnames = ["posix.*"]')
+        self.assertEqual(self.said('models'), [])
 
     def test_nothing_is_odd(self) -> None:
         self.policy('allow = ["plain"]', '[[rules]]', 'paths = ["old/"]', 'allow = ["numpy"]')
         run = self.check('models')
         self.assertEqual((run.returncode, len(run.stdout.splitlines())), (0, 1))
-        self.assertEqual(self.check('--policy', 'picklestep.toml').returncode, 0)
+        for words in (('--policy', 'picklestep.toml'), ('--policy', 'picklestep.toml', 'models'), ('models', '--policy', 'picklestep.toml', 'models')):
+            self.assertEqual(self.check(*words).returncode, 0, words)
 
     def test_errors(self) -> None:
         self.assertEqual(self.check('models').returncode, 2)

@@ -25,7 +25,7 @@ from picklestep.scan.canonical import NotCanonical, joblib, npy, pickles, tars, 
 from picklestep.scan.canonical.layouts import layout_of
 from picklestep.scan.containers import CONTAINERS
 from picklestep.scan.zips import unpacker_of
-from scan_support import ScanCase, notes_of
+from scan_support import ScanCase, looks_at, notes_of
 from test_scan_gate import DEBIAN, is_told
 
 MAKER = Path(__file__).resolve().parent / 'honest.py'
@@ -55,7 +55,7 @@ class Honest(ScanCase):
                 self.assertFalse(is_told(result), notes_of(result))
                 if not name.startswith(CODE):
                     word = SET_OF.get(name.partition(os.sep)[0], 'plain')
-                    self.assertEqual(list(Judge(read_names([word])).looks(result)), [], word)
+                    self.assertEqual(looks_at(Judge(read_names([word])), path), [], word)
         # (So many are there without torch, and the lesser number is what Python's own library and the usual commands write.)
         others = [line for line in missing.splitlines() if not line.startswith('of_torch: ')]
         self.assertGreaterEqual(len(files), 100 if others else 300)

@@ -13,14 +13,14 @@ from pathlib import Path
 from typing import Dict, FrozenSet, Tuple
 
 from picklestep import NotAllowed, check, gate
-from picklestep.scan import Judge, look
+from picklestep.scan import Judge, Options
 from picklestep.scan.allow import SETS, read_lines, read_names
 from picklestep.scan.known import known_names
 from picklestep.scan.names import read_line
 from evasions import NO_PARTS, kind, long
 from made_pickles import WORD_OF, Made, Named
 from real_files import KEPT, MODULES
-from scan_support import MODELS, ScanCase, python_with
+from scan_support import MODELS, ScanCase, looks_at, looks_in, python_with
 
 WRITER = Path(__file__).resolve().parent / 'real_files.py'
 # Each set alone is enough for the files of its library, since it includes what it needs. Whole models, and models that joblib dumps, have sets
@@ -75,7 +75,7 @@ class Names(unittest.TestCase):
         for word in SETS:
             for text in read_lines([word], with_needed=False):
                 line = read_line(text)
-                self.assertTrue(line is None or line.made is not None, f'{word}: {text}')
+                self.assertTrue(line is None or any(each.startswith('made') for each in line.words), f'{word}: {text}')
 
     def test_each_set_is_tried(self) -> None:
         self.assertEqual({*LIBRARIES, *(word for word, _ in MODELS_OF.values())}, set(SETS))
@@ -102,14 +102,14 @@ class Kinds(ScanCase):
                 ('objects', objects, False), ('numbers', scalar + raw + b'C\x08AAAAAAAA\x86R', False), ('parts', parts(raw, b'\x10'), False),
                 ('parts with objects', parts(objects, b'\x1b'), False), ('objects, and parts without', objects + parts(raw, b'\x10') + b'\x86', False)):
             with self.subTest(name):
-                looks = list(Judge(read_names(['numpy', 'plain'])).looks(look(str(self.file('model.pkl', b'\x80\3' + content + b'.')))))
+                looks = looks_in(Judge(read_names(['numpy', 'plain'])), b'\x80\3' + content + b'.')
                 self.assertEqual(any('numpy.dtype' in line for each in looks for line in each.lines), is_marked, looks)
 
     def test_arrays_are_not_called(self) -> None:
         judge = Judge(read_names(['numpy', 'plain']))
         for content, is_marked in ((b'cnumpy\nndarray\n)\x81', True), (b'cnumpy.ma\nMaskedArray\nN\x85R', True), (b'cnumpy\npoly1d\n)\x81', False),
                                    (b'cnumpy\npoly1d\n)R', True), (b'cnumpy\nndarray\n', False)):
-            looks = list(judge.looks(look(str(self.file('model.pkl', b'\x80\3' + content + b'.')))))
+            looks = looks_in(judge, b'\x80\3' + content + b'.')
             self.assertEqual(bool(looks), is_marked, content)
 
 
@@ -121,7 +121,7 @@ class RealFiles(ScanCase):
         files = sorted(self.folder.iterdir())
         for file in files:
             word = set_for(library, file.name)
-            looks = [each.lines for each in Judge(read_names([word])).looks(look(str(file)))]
+            looks = [each.lines for each in looks_at(Judge(read_names([word])), file)]
             self.assertEqual(looks, [], f'{word}: {file.name}')
         self.assertGreaterEqual(len(files), 10)
 
@@ -150,7 +150,7 @@ class RealFiles(ScanCase):
         for file in sorted(MODELS.iterdir()):
             if file.name not in ('WRITTEN_BY.txt', SCRIPT):
                 word = set_for(file.name.partition('_')[0], file.name)
-                looks = [each.lines for each in Judge(read_names([word])).looks(look(str(file)))]
+                looks = [each.lines for each in looks_at(Judge(read_names([word])), file)]
                 self.assertEqual(looks, [], f'{word}: {file.name}')
 
 
@@ -177,7 +177,7 @@ class ByNames(ScanCase):
                 made = b')\x81' * names.allows_done('new', name)
                 made += b'}X\x01\0\0\0bK\x01sb' * (bool(made) and names.allows_done('made-state', name))
                 content = b'\x80\x02}X\x01\0\0\0ac' + f'{module}\n{attribute}\n'.encode() + made + b's.'
-                result = self.look(f'{library}{number}.ckpt', content)
+                result = self.look(f'{library}{number}.ckpt', content, Options(lists=judge.lists()))
                 self.assertEqual([found.name for found in result.pickles[0].imports], [name])
                 self.assertEqual(list(judge.looks(result)), [], name)
 

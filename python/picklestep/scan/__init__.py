@@ -3,6 +3,10 @@
     picklestep scan models/ --allow torch --jobs 4
 """
 
+from .. import check_python
+
+check_python()
+
 from .blobs import Limits
 from .command import main
 from .folder import Found, Scan, folder, to_dataframe

@@ -9,9 +9,9 @@ import re
 from dataclasses import dataclass
 from functools import lru_cache
 from pathlib import Path
-from typing import Dict, Iterable, Iterator, List, Optional, Set, Tuple
+from typing import Dict, Iterable, List, Optional, Set, Tuple
 
-from .names import Line, Names, NoList, nearest, read_line
+from .names import Line, Names, NoList, nearest, read_all
 from .wording import shown
 
 __all__ = ['SETS', 'lines_of', 'read_lines', 'read_names', 'sets_with']
@@ -60,8 +60,9 @@ class _Wanted:
             raise FileNotFoundError(errno.ENOENT, f'{error.strerror}{near}', self.word) from None
 
 
-def lines_of(content: bytes, path: str) -> Iterator[Tuple[str, str, Optional[Line]]]:
-    """The lines of a list: where each is, its text, and what it says. Raises NoList with the place of one that has no meaning."""
+def lines_of(content: bytes, path: str, is_checked: bool = False) -> List[Tuple[str, str, Optional[Line]]]:
+    """The lines of a list: where each is, its text, and what it says. Raises NoList with the place of one that has no meaning. `is_checked` is set where
+    it is known that each has one."""
     try:
         text = content.decode('utf-8-sig')
     except UnicodeDecodeError as error:
@@ -71,12 +72,12 @@ def lines_of(content: bytes, path: str) -> Iterator[Tuple[str, str, Optional[Lin
     if alone is not None:
         raise NoList(f'{_place(path, text.count(chr(10), 0, alone.start()) + 1)}: a carriage return without a newline')
     # (as editors count lines: no other sign ends one, so a comment goes on to the end of what is seen as a line)
-    for number, line in enumerate(io.StringIO(text, newline=None), 1):
-        place = _place(path, number)
-        try:
-            yield place, line.rstrip('\n'), read_line(line)
-        except NoList as error:
-            raise NoList(f'{place}: {error}') from error
+    lines = [line.rstrip('\n') for line in io.StringIO(text, newline=None)]
+    places = [_place(path, number + 1) for number in range(len(lines))]
+    try:
+        return list(zip(places, lines, read_all(lines, is_checked)))
+    except NoList as error:
+        raise NoList(f'{places[error.index]}: {error}') from error
 
 
 def _place(path: str, number: int) -> str:
@@ -97,7 +98,7 @@ def read_lines(words: Iterable[str], with_needed: bool = True) -> List[str]:
         if os.path.realpath(path) in taken:
             continue
         taken.add(os.path.realpath(path))
-        for place, text, line in lines_of(wanted.content(), wanted.word if wanted.by is None else str(path)):
+        for place, text, line in lines_of(wanted.content(), wanted.word if wanted.by is None else str(path), wanted.is_set):
             if line is not None and not line.is_include:
                 lines.append(text)
             elif line is not None and (with_needed or not wanted.is_set):
@@ -107,7 +108,7 @@ def read_lines(words: Iterable[str], with_needed: bool = True) -> List[str]:
 
 def read_names(words: Iterable[str], with_needed: bool = True) -> Names:
     """What the given sets and files have together, as `read_lines` reads them."""
-    return Names(read_lines(words, with_needed))
+    return Names(read_lines(words, with_needed), is_checked=True)
 
 
 @lru_cache(maxsize=None)

@@ -28,7 +28,7 @@ class Limits:
     """How much is looked at in one file.
 
     Unpacked bytes, members, containers one in another, seconds of processor time, bytes of memory (of all processes together), and lines of
-    the program's answers. `shapes` has lines of lists: which arguments their shapes have is kept of each call.
+    the program's answers.
     """
 
     unpacked: int = 1 << 30
@@ -37,7 +37,6 @@ class Limits:
     seconds: float = 60
     memory: int = 1 << 30
     lines: int = 10_000_000
-    shapes: Tuple[str, ...] = ()
 
 
 class LimitMet(Exception):

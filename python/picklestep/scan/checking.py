@@ -4,19 +4,15 @@ from __future__ import annotations
 
 import os
 from dataclasses import replace
-from typing import Iterable, Iterator, List, Optional, Tuple
+from typing import Iterable, Iterator, List, Optional
 
-from ..errors import NotAllowed, OutOfMemory, TimedOut
-from ..program import time_to_wait
+from ..errors import NotAllowed
 from ..sources import Readable, Source
-from ..tasks import form
 from .allow import read_lines
 from .begins import HEAD, is_pickle_name
 from .blobs import Budget, BytesBlob, LimitMet, Limits
-from .canonical.formed import BEHIND
 from .canonical.kinds import kinds_of
 from .containers import LOADERS, Container
-from .gating import gate_by
 from .looking import Options, look_at_bytes
 from .looks import Judge
 from .names import Names
@@ -25,10 +21,9 @@ from .wording import place_of
 
 __all__ = ['check']
 
-# What no pickler of Python's own library writes, and what loaders that have it give meaning to. (`pickle.loads` raises at it.)
-_OF_OTHER_LOADERS = ('persistent', 'buffer')
-# Of pickles in a row so many bytes are looked at first for the end of one.
-_GLANCE = 1 << 16
+# What no pickler of Python's own library writes, and what loaders that have it give meaning to. (It may be given to calls, and not called.)
+_OF_OTHER_LOADERS = ('persistent:', 'buffer:')
+_NO_VERDICT = 'no list lets it pass: it is in another form than picklers write, or makes an instance by INST'
 
 
 def check(source: Source, *, allow: Iterable[str] = (), names: Iterable[str] = (), loader: Optional[str] = None,
@@ -42,9 +37,9 @@ def check(source: Source, *, allow: Iterable[str] = (), names: Iterable[str] = (
     they are given are refused. `options` has the limits. Raises NotAllowed with a line for each look; OSError where a file cannot be read,
     NoList where a line of a list has no meaning, and ValueError for another loader.
 
-    Where there is a list, a pickle that is in no container and in the form that picklers write also has to pass `gate`, which says what is proved.
-    For the loader 'pickle' it has to be in that form. Of several pickles each one has to pass by itself, as a new `Unpickler` loads it. What one
-    `Unpickler` does that loads them all, and keeps its memo, is not covered.
+    Where there is a list, each pickle has to pass `gate`, which says what is proved; one of joblib without the numbers of its arrays. Of several
+    pickles each one has to pass by itself, as a new `Unpickler` loads it. What one `Unpickler` does that loads them all, and keeps its memo, is not
+    covered.
 
     >>> check(b'\\x80\\x02ccollections\\nOrderedDict\\n)R.', names=['collections.OrderedDict'])
     b'\\x80\\x02ccollections\\nOrderedDict\\n)R.'
@@ -55,19 +50,19 @@ def check(source: Source, *, allow: Iterable[str] = (), names: Iterable[str] = (
     words, lines_given = ([given] if isinstance(given, str) else list(given) for given in (allow, names))
     # (a list without a name allows none)
     allowed = Names([*read_lines(words), *lines_given]) if words or lines_given else None
-    if allowed is not None:
-        options = replace(options, limits=replace(options.limits, shapes=allowed.with_shapes()))
+    judge = Judge(allowed)
+    options = replace(options, lists=judge.lists(), left=() if loader == LOADERS[0] else _OF_OTHER_LOADERS)
     kinds = list(kinds_of(BytesBlob(content), content[:HEAD]))
     # (By this name it is read as a pickle whatever it begins with. torch.load opens all kinds of files that are named so.)
     result = look_at_bytes(name if is_pickle_name(name) else f'{name}.pt', content, options)
     lines: List[str] = []
-    for look in Judge(allowed).looks(result):
+    for look in judge.looks(result):
         lines.extend(f'{place_of(name, look.where)}: {line}' for line in look.lines)
     lines.extend(f'{place_of(name, ())}: {line}' for line in _in_containers(content, kinds, loader, options.limits))
     if not kinds and not result.pickles:
         lines.append(f'{place_of(name, ())}: no pickle is found in it')
-    if allowed is not None and not kinds and not lines:
-        lines.extend(f'{place_of(name, ())}: {line}' for line in _in_gate(content, allowed, loader, options.limits))
+    if allowed is not None and not lines:
+        lines.extend(f'{place_of(name, pickle.where)}: {_NO_VERDICT}' for pickle in result.pickles if not pickle.verdicts)
     if lines:
         raise NotAllowed(lines)
     return content
@@ -88,42 +83,6 @@ def _in_containers(content: bytes, kinds: List[Container], loader: Optional[str]
         return
     if reach is not None:
         yield f'it is {said}, and as a pickle it leads a loader to {reach}'
-
-
-def _in_gate(content: bytes, allowed: Names, loader: Optional[str], limits: Limits) -> Iterator[str]:
-    """What the gate says of pickles that it does not let pass. Where they are not in the form that picklers write, that is said only for `pickle`:
-    others have layouts of their own."""
-    is_strict = loader == LOADERS[0]
-    more = () if is_strict else tuple(f'{word}:' for word in _OF_OTHER_LOADERS)
-    budget = Budget(limits)
-    try:
-        for offset, pickle, is_in_form in _pickles(content, limits):
-            budget.spend()
-            if not is_in_form and not is_strict:
-                return
-            answer = gate_by(allowed, pickle, time_to_wait(limits.seconds) if len(pickle) > _GLANCE else None, limits.memory, more)
-            if not answer.passes:
-                yield f'gate: {answer.line}' if not offset else f'gate, of the pickle at {offset}: {answer.line}'
-    except (LimitMet, OutOfMemory, TimedOut) as error:
-        yield f'gate: {error}'
-
-
-def _pickles(content: bytes, limits: Limits) -> Iterator[Tuple[int, bytes, bool]]:
-    """The pickles in a row, each with its offset. From where no pickle is in the form that picklers write, all that is left comes as one that is
-    not."""
-    at, size = 0, len(content)  # (mostly there is one)
-    while at < len(content):
-        part = content[at:at + size]
-        is_small = len(part) <= _GLANCE
-        other = form(part) if is_small else form(part, timeout=time_to_wait(limits.seconds), memory=limits.memory)
-        if other is not None and other.reason == BEHIND:
-            yield at, part[:other.offset], True
-            at, size = at + other.offset, _GLANCE
-        elif at + size < len(content):
-            size *= 2
-        else:
-            yield at, part, other is None
-            return
 
 
 def _content(source: Source) -> 'tuple[bytes, str]':

@@ -29,7 +29,7 @@ from .stores.address import Address, is_server
 from .stores.follow import follow
 from .stores.server import NoServer, Task, Wanted, tasks, total_of
 
-__all__ = ['main']
+__all__ = ['Work', 'escape_names', 'main', 'scan_words']
 
 # The status of a program that SIGPIPE ended, as a shell gives it.
 _OF_NO_READER = 128 + 13
@@ -122,7 +122,7 @@ def _add_policy(parser: argparse.ArgumentParser) -> None:
     parser.add_argument('--write-baseline', metavar='FILE', help='write what is marked today to FILE, for --baseline')
 
 
-def _parsed(words: List[str]) -> argparse.Namespace:
+def scan_words(words: List[str]) -> argparse.Namespace:
     """What the words say. All behind the first `--` are names of files, whatever they look like: argparse, where options and names come in
     any order, would take some for options."""
     at = words.index('--') if '--' in words else len(words)
@@ -173,13 +173,38 @@ def _is_same(path: str, earlier: Result) -> bool:
         return False
 
 
-def _results(words: argparse.Namespace, settings: Settings, paths: List[str], keys: Iterable[Task]) -> Generator[Result, None, None]:
-    """The results of files and keys, of those that are looked at in one way after another. Keys come with the first of them."""
-    for number, (options, group) in enumerate(settings.groups(paths) or [(settings.options, [])]):
-        tasks_of: Iterable[Union[str, Task]] = chain(group, keys if number == 0 else ())
-        made = look_at_all(tasks_of, options, words.jobs) if words.cluster is None else look_on_cluster(tasks_of, options, words.cluster)
-        with closing(made) as results:
-            yield from results
+class Work:
+    """All that the words name: the files, the servers, and results of paths at which there is nothing to look at. Raises NoNames."""
+
+    def __init__(self, words: argparse.Namespace) -> None:
+        self._words = words
+        self._servers = [Address(word) for word in words.paths if is_server(word)]
+        self._wanted = Wanted(words.match, words.sample)
+        self._found = find_files((word for word in words.paths if not is_server(word)), b'\0' if words.null else b'\n')
+        self.paths = self._found.paths
+        self.results_without_files = self._found.results
+
+    def results(self, settings: Settings, paths: List[str]) -> Generator[Result, None, None]:
+        """The results of some of the files, of what is opened and of the keys of servers, as they come. A terminal shows how far it is."""
+        opened, wanted = self._found.opened, self._wanted
+        # (Where a server does not answer, the result that says so comes when the others have come.)
+        failed: List[Result] = []
+        keys = chain.from_iterable(tasks(server, wanted, failed.append) for server in self._servers)
+        results = _in_a_row((look(path, settings.options) for path in opened), self._results(settings, paths, keys), failed)
+        files = len(paths) + len(opened)
+        total = files + sum(total_of(server, wanted) for server in self._servers)
+        what = 'files' if not self._servers else 'files and keys' if files else 'keys'
+        with closing(with_progress(results, total, what)) as shown, closing(results):
+            yield from shown
+
+    def _results(self, settings: Settings, paths: List[str], keys: Iterable[Task]) -> Generator[Result, None, None]:
+        """The results of files and keys, of those that are looked at in one way after another. Keys come with the first of them."""
+        jobs, cluster = self._words.jobs, self._words.cluster
+        for number, (options, group) in enumerate(settings.groups(paths) or [(settings.options, [])]):
+            tasks_of: Iterable[Union[str, Task]] = chain(group, keys if number == 0 else ())
+            made = look_at_all(tasks_of, options, jobs) if cluster is None else look_on_cluster(tasks_of, options, cluster)
+            with closing(made) as results:
+                yield from results
 
 
 def _in_a_row(first: Iterable[Result], results: Generator[Result, None, None], others: List[Result]) -> Generator[Result, None, None]:
@@ -235,26 +260,16 @@ def _scan(words: argparse.Namespace) -> int:
     paths: List[str] = []
     interrupted = False
     try:
-        servers = [Address(word) for word in words.paths if is_server(word)]
-        wanted = Wanted(words.match, words.sample)
-        found = find_files((word for word in words.paths if not is_server(word)), b'\0' if words.null else b'\n')
-        for result in found.results:
+        work = Work(words)
+        for result in work.results_without_files:
             output.add(result)
-        for path in found.paths:
-            if path in earlier and _is_same(path, earlier[path]):
+        for path in work.paths:
+            if path in earlier and settings.judges.has_asked(earlier[path]) and _is_same(path, earlier[path]):
                 output.add(earlier[path], is_new=False)
             else:
                 paths.append(path)
-        # (Where a server does not answer, the result that says so comes when the others have come.)
-        failed: List[Result] = []
-        keys = chain.from_iterable(tasks(server, wanted, failed.append) for server in servers)
-        opened = (look(path, settings.options) for path in found.opened)
-        results = _in_a_row(opened, _results(words, settings, paths, keys), failed)
-        files = len(paths) + len(found.opened)
-        total = files + sum(total_of(server, wanted) for server in servers)
-        what = 'files' if not servers else 'files and keys' if files else 'keys'
-        with closing(with_progress(results, total, what)) as shown, closing(results):
-            for result in shown:
+        with closing(work.results(settings, paths)) as results:
+            for result in results:
                 output.add(result)
     except KeyboardInterrupt:
         interrupted = True
@@ -264,12 +279,17 @@ def _scan(words: argparse.Namespace) -> int:
     return 130 if interrupted else output.report.status
 
 
+def escape_names() -> None:
+    """Lets the streams take names of files that hold what the encoding of the terminal does not."""
+    for stream in (sys.stdout, sys.stderr):
+        if isinstance(stream, io.TextIOWrapper):
+            stream.reconfigure(errors='backslashreplace')
+
+
 def main(words: Optional[List[str]] = None) -> int:
     """Does what the words say, and answers the status."""
-    parsed = _parsed(sys.argv[1:] if words is None else words)
-    for stream in (sys.stdout, sys.stderr):
-        if isinstance(stream, io.TextIOWrapper):  # names of files may hold what the terminal's encoding does not
-            stream.reconfigure(errors='backslashreplace')
+    parsed = scan_words(sys.argv[1:] if words is None else words)
+    escape_names()
     try:
         find_program()
         return _follow(parsed) if parsed.follow else _scan(parsed)

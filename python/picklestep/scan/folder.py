@@ -108,7 +108,7 @@ def folder(path: Union[str, 'os.PathLike[str]'], *, policy: Union[str, 'os.PathL
     """
     given = Given(tuple(allow), tuple(deny))
     judges = Judges(given.judge()) if policy is None else PolicyJudges(read_policy(Path(policy)), given)
-    options = replace(options, digest=True, limits=replace(options.limits, shapes=judges.shapes()))
+    options = replace(options, digest=True, lists=judges.lists())
     found = find_files([os.fspath(path)])
     results = _in_a_row(found.results, look_at_all([*found.paths, *found.opened], options, jobs))
     total = len(found.results) + len(found.paths) + len(found.opened)

@@ -2,27 +2,25 @@
 
 from __future__ import annotations
 
+import os
 from typing import Iterable, Optional
 
-from .. import library
 from ..addresses import opened_in
-from ..errors import ProgramError
-from ..program import check_timeout, run_program
+from ..opens import is_archive
+from ..program import check_timeout
 from ..records import GateAnswer
-from ..replies import gate_answer
-from ..sources import Input, Source, content_of
+from ..sources import Source, content_of
 from .allow import read_lines
+from .entries import asked, text_of
 from .names import Names
 
-__all__ = ['gate', 'gate_by']
-
-# The program reads the lines in another way than they are written here.
-_NO_LIST = b'not a list: '
+__all__ = ['gate']
 
 
 def gate(source: Source, *, allow: Iterable[str] = (), names: Iterable[str] = (), timeout: Optional[float] = None,
          memory: Optional[int] = None) -> GateAnswer:
-    r"""Whether a source is one pickle that does nothing but what lists allow. The answer is true where it passes.
+    r"""Whether a source is one pickle that does nothing but what lists allow, or a zip archive each member of which is one, or gives nothing to
+    a loader. The answer is true where it passes.
 
     `allow` has sets and files as `scan --allow` takes them, and `names` names and patterns; without both no import is allowed. `timeout` and
     `memory` are as for `calls`. Who loads a file loads the bytes that passed, and not the file again: it may change.
@@ -46,22 +44,8 @@ def gate(source: Source, *, allow: Iterable[str] = (), names: Iterable[str] = ()
     (False, 'not allowed', 30)
     """
     words, lines = ([given] if isinstance(given, str) else list(given) for given in (allow, names))
-    opened = opened_in(source)
-    return gate_by(Names([*read_lines(words), *lines]), content_of(source) if opened is None else opened.content, timeout, memory)
-
-
-def gate_by(allowed: Names, content: bytes, timeout: Optional[float] = None, memory: Optional[int] = None, more: Iterable[str] = ()) -> GateAnswer:
-    """The same of bytes, by a list that was read; `more` are further lines, as the program reads them."""
+    entries = text_of(Names([*read_lines(words), *lines]).entries())
+    is_whole = isinstance(source, (str, os.PathLike)) and is_archive(os.fsdecode(source))  # (the program looks at an archive itself)
+    opened = None if is_whole else opened_in(source)
     check_timeout(timeout)
-    entries = ''.join(f'{line}\n' for line in (*allowed.entries(), *more)).encode('utf-8')
-    text = library.gate(entries, content, memory) if timeout is None else None
-    if text is None:
-        text = _of_program(entries, content, timeout, memory)
-    if not text.endswith(b'\n') or text.startswith(_NO_LIST):
-        raise ProgramError(text.decode('ascii').strip() or 'the program gave no whole answer')
-    return gate_answer(text.decode('ascii'))
-
-
-def _of_program(entries: bytes, content: bytes, timeout: Optional[float], memory: Optional[int]) -> bytes:
-    with Input(entries) as listed, Input(content) as given:
-        return run_program(['gate', listed.path, given.path], [*listed.files, *given.files], timeout=timeout, memory=memory)
+    return asked(entries, content_of(source) if opened is None else opened.content, timeout, memory)

@@ -5,6 +5,7 @@ from __future__ import annotations
 from typing import Iterator, List, Tuple, Union
 
 from .looks import Judge, Look
+from .names import Names
 from .results import Result
 
 __all__ = ['Judges', 'judges_of']
@@ -24,9 +25,13 @@ class Judges:
         """The judge of a file."""
         return self._judge
 
-    def shapes(self) -> Tuple[str, ...]:
-        """The shapes of all lists: which of them the arguments have is kept of each call."""
-        return self._judge.allowed.with_shapes() if self._judge.allowed is not None else ()
+    def lists(self) -> Tuple[Names, ...]:
+        """The lists of all judges: by each of them the gate is asked about each pickle."""
+        return self._judge.lists()
+
+    def has_asked(self, result: Result) -> bool:
+        """Whether the gate was asked by all lists that a result is judged by. (It may be one of an earlier run.)"""
+        return {names.digest for names in self.of(result.path).lists()} <= set(result.lists)
 
     def settled(self, result: Result, looks: Iterator[Look]) -> Iterator[Look]:
         """The marks of a file, each with whether it is taken, and why."""

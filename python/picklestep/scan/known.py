@@ -17,4 +17,4 @@ def known_names() -> Names:
     >>> known_names().note('os.system')
     'runs a shell command'
     """
-    return Names((Path(__file__).resolve().parent / 'known.txt').read_text(encoding='utf-8').splitlines())
+    return Names((Path(__file__).resolve().parent / 'known.txt').read_text(encoding='utf-8').splitlines(), is_checked=True)

@@ -22,6 +22,7 @@ from io import FileIO
 from operator import or_
 from typing import Any, BinaryIO, Callable, Iterator, List, Optional, Sequence, Tuple, Union, cast
 
+from ..errors import PicklestepError
 from ..hints import IN_FRAMES
 from ..sources import LIMIT, is_opened
 from . import stores, zips
@@ -33,9 +34,11 @@ from .canonical.kinds import asked_form, begun_form, kinds_of
 from .canonical.layouts import Layout, layout_of
 from .containers import CONTAINERS, Container, Held
 from .costs import heavy_tuple, many_layers
+from .names import Names
 from .other_forms import ending, forms_of
 from .other_loaders import another_import
 from .packed import Unpacking
+from .passing import verdicts
 from .reach import Leads, Reach, leads_of, may_lead_on, reach_of
 from .reading import Asked, Summary, why_unread
 from .results import Note, Pickle, Place, Result
@@ -60,13 +63,16 @@ Reads = Callable[[Blob, Budget], Layout]
 @dataclass(frozen=True)
 class Options:
     """How files are looked at: the limits for each of them, whether every line of the program is kept, whether each offset is tried at
-    which a pickle may begin, whether arguments are kept in full, and whether results have a digest of the bytes."""
+    which a pickle may begin, whether arguments are kept in full, whether results have a digest of the bytes, by which lists the gate is asked, and
+    what lists have besides: it is left to a loader that knows more than Python's own. (Without it there are no arrays between opcodes either.)"""
 
     limits: Limits = Limits()
     lines: bool = False
     everywhere: bool = False
     full: bool = False
     digest: bool = False
+    lists: Tuple[Names, ...] = ()
+    left: Tuple[str, ...] = ('persistent', 'buffer')
 
 
 class Looker:
@@ -94,6 +100,19 @@ class Looker:
     def take(self, pickle: Pickle, blob: Blob, raw: Sequence[Tuple[int, int]] = ()) -> None:
         """Keeps what is known of a pickle: that of these bytes, but for the raw ones, each from one offset to another."""
         self.pickles.append(pickle)
+
+    def judged(self, pickle: Pickle, opcodes: Blob) -> Pickle:
+        """A pickle with what the gate says of it by each list."""
+        if not self.options.lists:
+            return pickle
+        if not self.options.left and isinstance(opcodes, JoinedBlob):
+            self.note_odd(pickle.where, f'not in the form that {WRITERS["pickle"]}: bytes of arrays stand between its opcodes')
+        try:
+            found = verdicts(pickle, opcodes, self.options.lists, self.options.left, self.budget)
+        except (LimitMet, NotCanonical, PicklestepError) as error:
+            self.note(pickle.where, f'whether it passes a list is not known: {error}', missed=True)
+            return pickle
+        return replace(pickle, verdicts=found)
 
     def take_plain(self, content: bytes, where: Place) -> None:
         """Counts a value that is a pickle which imports and calls nothing."""
@@ -222,7 +241,9 @@ class Looker:
         pickle = self._asked(opcodes, blob, where, is_sure or _begins_as_pickle(head, names), calls)
         if pickle is None:
             return False
-        self.take(pickle if pickle.size == blob.size else replace(pickle, size=blob.size), blob, () if layout is None else layout.raw)
+        pickle = pickle if pickle.size == blob.size else replace(pickle, size=blob.size)
+        is_known = layout_note is None or not layout_note.missed
+        self.take(self.judged(pickle, opcodes) if is_known else pickle, blob, () if layout is None else layout.raw)
         why = why_unread(head, pickle)
         if why is not None:
             self.note(where, why)
@@ -294,7 +315,7 @@ class Looker:
         opcodes = JoinedBlob(blob, [*cut, (at, blob.size)])
         pickle = self._asked(opcodes, opcodes, where + (OF_ARRAYS,), True)
         assert pickle is not None
-        self.take(pickle, opcodes)
+        self.take(self.judged(pickle, opcodes), opcodes)
 
     # --- Containers ---
 
@@ -562,7 +583,8 @@ def _gone_through(looker: Looker, blob: Blob, path: str, modified: int = 0, chan
     except OSError as failure:
         error = failure.strerror or str(failure)
     return Result(path, blob.size, modified, tuple(looker.pickles), looker.others, tuple(looker.notes), error, changed=changed,
-                  plain=looker.plain, forms=forms_of(looker.others, looker.forms), kinds=looker.kinds_of_file)
+                  plain=looker.plain, forms=forms_of(looker.others, looker.forms), kinds=looker.kinds_of_file,
+                  lists=tuple(names.digest for names in looker.options.lists))
 
 
 def look(path: Union[str, 'os.PathLike[str]'], options: Options = Options()) -> Result:

@@ -4,14 +4,14 @@ from __future__ import annotations
 
 from dataclasses import dataclass
 from functools import lru_cache
-from typing import Dict, Iterable, Iterator, List, Optional, Tuple
+from typing import Dict, Iterator, List, Optional, Tuple
 
 from ..records import End
 from .allow import sets_with
 from .known import known_names
 from .names import Names
 from .reading import is_plain_name, is_worked_out
-from .results import OF_ARGUMENTS, ODD, Call, Import, Pickle, Place, Result
+from .results import OF_ARGUMENTS, ODD, Call, Import, Pickle, Place, Result, Verdict
 from .severity import UNREAD, severity_of
 from .through import part_through, why_through
 from .wording import shown, times
@@ -37,6 +37,8 @@ RULES = {
 OF_CALLS = ('not-allowed-done', 'odd')
 # Calls that show what was done with an object that a marked import led to.
 _OF_OBJECTS = ('call', 'new', 'inst')
+# What makes objects that stand for any number of items.
+_RANGES = ('builtins.range', 'ipaddress.IPv4Network', 'ipaddress.IPv6Network')
 _WITHOUT_NAME = {'persistent': 'persistent id', 'call': 'call of what the pickle made', 'new': 'new of what the pickle made',
                  'inst': 'inst of what the pickle made'}
 
@@ -65,6 +67,18 @@ class Look:
         """The text, with what a policy says of it, and the calls, each on a line of its own."""
         return (f'{self.text} [{self.remark}]' if self.remark else self.text, *self.calls)
 
+    @property
+    def short(self) -> str:
+        """The text for a narrow place. Of an import it has the name, and why that is marked.
+
+        >>> Look((), 'known', 'import posix.system once, first at 0: runs a shell command', 'posix.system', 0).short
+        'posix.system: runs a shell command'
+        """
+        name = shown(self.name)
+        begin = f'import {name} '
+        why = self.text[len(begin):].partition(': ')[2] if name and self.text.startswith(begin) else ''
+        return f'{name}: {why}' if why else self.text
+
 
 def end_text(end: End) -> str:
     """How reading ended. The words of a fault have its place; those of a refusal do not."""
@@ -86,7 +100,8 @@ def call_text(done: Call) -> str:
     if done.what == ODD:
         return f'{done.name} as numpy never writes it, first at {done.offset}{_in_part(done.part)}: {shown(done.text)}'
     what = f'{done.what} {shown(done.name)}' if done.name else _WITHOUT_NAME.get(done.what, done.what)
-    return f'{what} {times(done.count)}, first at {done.offset}{_in_part(done.part)}: {shown(done.text)}'
+    count = f' {times(done.count)}' if done.count else ''
+    return f'{what}{count}, first at {done.offset}{_in_part(done.part)}: {shown(done.text)}'
 
 
 def _in_part(part: str) -> str:
@@ -108,7 +123,7 @@ def calls_of(pickle: Pickle, name: str) -> List[Call]:
 @lru_cache(maxsize=None)
 def _known_anywhere() -> Names:
     """The known names that are reached through whatever stands before them."""
-    return Names(text for text, _, _ in known_names().patterns if text.startswith('**.'))
+    return Names((text for text, _, _ in known_names().patterns if text.startswith('**.')), is_checked=True)
 
 
 class Judge:
@@ -117,6 +132,10 @@ class Judge:
     `denied` goes before `allowed`, and that before the names that are known: a team that allows `builtins.getattr` has looked at it. Where
     there is a list of allowed names, all others are marked. What is known to be reached through another module or through the inside of an object
     is allowed by its name alone, by a pattern that says as much, or by `**`. What `least` marks is marked too.
+
+    Whether a pickle does nothing but what the list allows the program's gate has said while it was looked at (`lists` says by which lists it is to be
+    asked). A pickle of which it said nothing is in another form than picklers write: there names and words are compared here, and what a list has shapes
+    for is not allowed.
     """
 
     def __init__(self, allowed: Optional[Names] = None, denied: Optional[Names] = None, with_known: bool = True,
@@ -127,25 +146,32 @@ class Judge:
         self._through = _known_anywhere() if with_known else Names(())
         self._with_known = with_known
         self._least = least
-        self._marks: Dict[Tuple[str, str], Optional[Tuple[str, str]]] = {}
+        self._marks: Dict[Tuple[str, str, bool], Optional[Tuple[str, str]]] = {}
 
-    def mark(self, name: str, member: str = '') -> Optional[Tuple[str, str]]:
-        """The rule by which a name is marked and why, or None. `member` is what it names behind the module, where that has a point.
+    def lists(self) -> Tuple[Names, ...]:
+        """The lists by which the gate is to be asked."""
+        own = (self.allowed,) if self.allowed is not None else ()
+        return own + (self._least.lists() if self._least is not None else ())
+
+    def mark(self, name: str, member: str = '', passes: bool = False) -> Optional[Tuple[str, str]]:
+        """The rule by which a name is marked and why, or None. `member` is what it names behind the module, where that has a point. `passes` is set where
+        the gate lets a pickle pass that imports it.
 
         >>> Judge().mark('posix.system'), Judge().mark('collections.OrderedDict')
         (('known', 'runs a shell command'), None)
         >>> Judge().mark('sklearn.base.np.load', 'np.load')
         ('known', 'goes through np, which is no class')
         """
-        if (name, member) not in self._marks:
-            self._marks[name, member] = self._mark(name, member)
-        return self._marks[name, member]
+        key = name, member, passes
+        if key not in self._marks:
+            self._marks[key] = self._mark(name, member, passes)
+        return self._marks[key]
 
-    def _mark(self, name: str, member: str) -> Optional[Tuple[str, str]]:
+    def _mark(self, name: str, member: str, passes: bool) -> Optional[Tuple[str, str]]:
         note = self._denied.note(name)
         if note is not None:
             return 'denied', f'denied{": " + note if note else ""}'
-        if self.allowed is not None and any(self._allows(line, name, member) for line in self.allowed.lines_of(name)):
+        if self.allowed is not None and self._is_allowed(name, member, passes):
             return None if self._least is None else self._least.mark(name, member)
         known = self._known.note(name)
         if known is None and self._with_known:
@@ -172,20 +198,56 @@ class Judge:
             return severity_of('known')
         return severity_of(rule, does)
 
-    def _allows(self, line: str, name: str, member: str) -> bool:
-        """Whether a line that has a name allows it."""
-        if line in (name, '**'):
-            return True
+    def _is_allowed(self, name: str, member: str, passes: bool) -> bool:
+        """Whether the list allows a name. One that leads through a module it has to name so far, also where the gate lets it pass."""
+        assert self.allowed is not None
         through = part_through(name, member or name.rpartition('.')[2]) if self._with_known else None
-        if through is not None and line.split('.').count(through) < name.split('.').count(through):
-            return False
-        return self._through.note(name) is None or self._through.note(line) is not None
+        is_known = self._through.note(name) is not None
+        if passes and through is None and not is_known:
+            return True
+        return any(line in (name, '**') or (through is None or line.split('.').count(through) >= name.split('.').count(through))
+                   and (not is_known or self._through.note(line) is not None) for line in self.allowed.lines_of(name))
 
-    def allows_done(self, what: str, name: str, fits: Iterable[str] = ()) -> bool:
-        """Whether this may be done with what is imported by a name that is not marked, with arguments of these shapes."""
-        if what == ODD or self._least is not None and not self._least.allows_done(what, name, fits):
-            return False
-        return self.allowed is None or self.mark(name) is not None or self.allowed.allows_done(what, name, fits)
+    # --- Pickles ---
+
+    def _verdict(self, pickle: Pickle) -> Optional[Verdict]:
+        """What the gate said of a pickle by the list."""
+        allowed = self.allowed
+        return None if allowed is None else next((verdict for verdict in pickle.verdicts if verdict.list == allowed.digest), None)
+
+    def mark_in(self, pickle: Pickle, found: Import) -> Optional[Tuple[str, str]]:
+        """The rule by which an import of a pickle is marked and why, or None."""
+        verdict = self._verdict(pickle)
+        return self.mark(found.name, found.member, verdict is not None and verdict.passes)
+
+    def not_allowed(self, pickle: Pickle) -> List[Call]:
+        """What a pickle does that is not allowed, or odd, with what is imported by names that are not marked."""
+        odd = [done for done in pickle.calls if done.what == ODD]
+        found = [*odd, *(self._beside(pickle, self.allowed) if self.allowed is not None else ())]
+        return list(dict.fromkeys([*found, *(self._least.not_allowed(pickle) if self._least is not None else ())]))
+
+    def _beside(self, pickle: Pickle, allowed: Names) -> Iterator[Call]:
+        verdict = self._verdict(pickle)
+        if verdict is None:
+            yield from self._in_another_form(pickle, allowed)
+            return
+        given = (done for done in pickle.calls if done.given and not allowed.allows_done(done.what, done.name))
+        found = [done for done in (*verdict.places, *given, *_with_ranges(pickle, allowed)) if not done.name or self.mark(done.name) is None]
+        yield from found
+        if not verdict.passes and not found and all(self.mark_in(pickle, each) is None for each in pickle.imports):
+            yield Call('gate', '', 0, pickle.end.offset or 0, verdict.line)
+
+    def _in_another_form(self, pickle: Pickle, allowed: Names) -> Iterator[Call]:
+        """The same by names and words alone. What is done with what calls made is allowed where it is for each name that is called."""
+        called = {done.name for done in pickle.calls if done.name and done.what in _OF_OBJECTS and allowed.note(done.name) is not None}
+        for done in pickle.calls:
+            if done.what == ODD or done.name and self.mark(done.name) is not None:
+                continue
+            if not (allowed.allows_done(done.what, done.name, done.given) if done.name else
+                    all(allowed.allows_done(f'made-{done.what}', name, False) for name in called)):
+                yield done
+
+    # --- Marks ---
 
     def looks(self, result: Result) -> Iterator[Look]:
         """All that is to be looked at in a file."""
@@ -200,18 +262,25 @@ class Judge:
 
     def looks_in(self, pickle: Pickle) -> Iterator[Look]:
         """All that is to be looked at in one pickle. A marked import brings its calls; the last one those of what has no name, too."""
-        marked = [(found, mark) for found in pickle.imports for mark in (self.mark(found.name, found.member),) if mark is not None]
+        marked = [(found, mark) for found in pickle.imports for mark in (self.mark_in(pickle, found),) if mark is not None]
         for found, (rule, why) in marked:
             calls = [done for done in calls_of(pickle, found.name) if done.part == found.part or not found.part]
             if found is marked[-1][0]:
                 calls += [done for done in pickle.calls if not done.name and done.what in _OF_OBJECTS]
             yield Look(pickle.where, rule, import_text(found, why), found.name, found.offset, tuple(map(call_text, calls)),
                        self._severity(rule, found.name, found.member))
-        for done in pickle.calls:
-            if not self.allows_done(done.what, done.name, done.fits):
-                rule = 'odd' if done.what == ODD else 'not-allowed-done'
-                yield Look(pickle.where, rule, call_text(done), done.name, done.offset, severity=self._severity(rule, done.name))
+        for done in self.not_allowed(pickle):
+            rule = 'odd' if done.what == ODD else 'not-allowed-done'
+            yield Look(pickle.where, rule, call_text(done), done.name, done.offset, severity=self._severity(rule, done.name))
         if not pickle.end.is_stopped:
             # (of what was not read for want of time, memory or the program nobody knows the form)
             severity = UNREAD if pickle.end.how == 'unknown' else severity_of('not-read')
             yield Look(pickle.where, 'not-read', f'end: {end_text(pickle.end)}', offset=pickle.end.offset, severity=severity)
+
+
+def _with_ranges(pickle: Pickle, allowed: Names) -> Iterator[Call]:
+    """Calls that a list allows where the pickle has made no range (`alone` in a shape), of a pickle that may have made one before."""
+    ranges = [done.offset for done in pickle.calls if done.name in _RANGES and done.what in _OF_OBJECTS]
+    for done in pickle.calls if ranges else ():
+        if any(offset < done.offset or done.count > 1 for offset in ranges) and allowed.wants_alone(done.name):
+            yield done

@@ -1,105 +1,87 @@
-"""Lists of names: which lists there are is said by `allow`, `known` and the command; how a name is found in one is said here alone."""
+"""Lists of names: which lists there are is said by `allow`, `known` and the command; what a line says is taken apart here.
+
+Whether a line is an entry the program says, which reads lists, proved (`entries`). It also says whether a pickle passes a list. Here a name is looked
+for in a list where that is not asked: names that are known or denied, and what a pickle does that is not in the form that picklers write.
+"""
 
 from __future__ import annotations
 
 import difflib
+import hashlib
 import re
 from dataclasses import dataclass
-from typing import Dict, FrozenSet, Iterable, Iterator, List, Optional, Pattern, Set, Tuple
+from typing import Dict, FrozenSet, Iterable, List, Optional, Pattern, Sequence, Set, Tuple
 
 from ..errors import PicklestepError
 from ..wording import shown
+from .entries import refused_line
 
-__all__ = ['GIVEN', 'KINDS', 'MADE', 'THEN', 'Line', 'Names', 'NoList', 'nearest', 'read_comment', 'read_line', 'words_for']
+__all__ = ['Line', 'Names', 'NoList', 'nearest', 'read_all', 'read_comment', 'read_line', 'words_for']
 
 
 class NoList(PicklestepError, ValueError):
-    """What is given as a list of names is none: a line of it has no meaning."""
+    """What is given as a list of names is none: a line of it has no meaning, the one with this index among those that are read together."""
+
+    def __init__(self, text: str, index: int = 0) -> None:
+        super().__init__(text)
+        self.index = index
 
 
 @dataclass(frozen=True)
 class Line:
-    """What a line of a list says: a name or pattern, what may be done with what it imports, and a note; or which list it includes."""
+    """What a line of a list says: a name or pattern, what may be done with what it imports, and a note; or which list it includes.
+
+    The words are those behind the colon, each shape as `()`; without a colon all that say what may be done with an import. `entry` is the line as the
+    program takes it, without the note, and empty where it takes none: a name that is shown in two parts.
+    """
 
     name: str
     words: FrozenSet[str]
     note: str
     is_include: bool = False
-    # What the arguments of a call may be; empty where they may be anything.
-    shapes: FrozenSet[str] = frozenset()
-    # What the state of an object that a call made may be; empty where it may be anything.
-    states: FrozenSet[str] = frozenset()
-    # What may be done with what calls make, by the words for that without `made-`; None where it may be anything.
-    made: Optional[FrozenSet[str]] = None
+    entry: str = ''
 
 
 class Names:
-    """Names and patterns, one a line, as `read_line` reads them. In a pattern `*` stands for anything within one part of a name, and `**`
-    for anything at all. Raises NoList where a line has no meaning.
+    """Names and patterns, one a line, as the program reads them. In a pattern `*` stands for anything within one part of a name, and `**` for anything
+    at all. Raises NoList where a line has no meaning. `is_checked` is set where it is known that each has one.
 
     A `*` does not go over a dot, since a pickle can reach from a module into what that has imported: `torch._utils.*` has
     `torch._utils._rebuild_tensor_v2` and not `torch._utils.sys.modules`.
-
-    Behind a name and a colon stand words for what may be done with what is imported: `call`, `new` (NEWOBJ alone), `state` (it is given a
-    state) and `fill` (items are put into it). Without a colon that may be anything, and with a colon alone nothing.
-
-    `made-call`, `made-new`, `made-state` and `made-fill` say the same of what a call of it makes, of what a call of that makes, and so on; `made`
-    allows nothing of that. Where none of these words stands, all may be done with it.
 
     >>> names = Names(['collections.OrderedDict: call', 'torch.*Storage:  # raw numbers', 'os.path'])
     >>> [names.note(name) for name in ('collections.OrderedDict', 'torch.FloatStorage', 'torch.os.Storage')]
     ['', 'raw numbers', None]
     >>> [names.allows_done(*done) for done in (('call', 'torch.FloatStorage'), ('new', 'collections.OrderedDict'), ('call', 'os.path'))]
     [False, True, True]
-
-    Behind `call` stands in parentheses which arguments there may be, and behind `then` which state what the call made may get. Several such words
-    allow each of them: `shapes.py` says how.
-
-    >>> names = Names(["_codecs.encode: call(text 'latin1') call(text)"])
-    >>> [names.allows_done('call', '_codecs.encode', fits) for fits in (('text',), ())]
-    [True, False]
     """
 
-    def __init__(self, lines: Iterable[str]) -> None:
-        self._lines: List[Line] = []
+    def __init__(self, lines: Iterable[str], is_checked: bool = False) -> None:
         self.names: Dict[str, str] = {}
         self.patterns: List[Tuple[str, Pattern[str], str]] = []
         self._found: Dict[str, Optional[str]] = {}
-        # What may be done with what is imported: by the names and patterns of the lines, and what was found for a name.
-        self._words: Dict[str, FrozenSet[str]] = {}
-        self._found_words: Dict[str, FrozenSet[str]] = {}
-        # The shapes of arguments, by the names and patterns of the lines that have some; and of lines that allow calls whatever they are given.
-        self._shapes: Dict[str, FrozenSet[str]] = {}
-        self._calls: Set[str] = set()
-        self._states: Dict[str, FrozenSet[str]] = {}
-        # What may be done with what calls make, by the names and patterns of the lines; None where that may be anything.
-        self._made: Dict[str, Optional[FrozenSet[str]]] = {}
-        self._has_limits = False
-        self._with_shapes: Optional[Tuple[str, ...]] = None
+        # The words of the lines, by their names and patterns, and what the program gets of them; and of the lines that it always gets.
+        self._words: Dict[str, List[FrozenSet[str]]] = {}
+        self._entries: Dict[str, List[str]] = {}
+        self._always: List[str] = []
+        self._alone: Set[str] = set()
+        self._digest = ''
         # The patterns by their first part, since a hostile file may have a million names; those that begin with a star are under ''.
         self._by_part: Dict[str, List[Tuple[str, Pattern[str], str]]] = {}
-        for line in lines:
-            found = read_line(line)
-            if found is not None:
-                self._add(found)
+        for line in read_all(list(lines), is_checked):
+            if line is not None:
+                self._add(line)
 
     def _add(self, line: Line) -> None:
         name = line.name
         if line.is_include:
             raise NoList(f'only a file includes a list: {shown(name)}')
-        self._lines.append(line)
-        self._with_shapes = None
-        self._words[name] = self._words.get(name, frozenset()) | line.words
-        self._has_limits = self._has_limits or line.made is not None
-        before = self._made.get(name, frozenset())
-        self._made[name] = None if line.made is None or before is None else before | line.made
-        if line.states:
-            self._states[name] = self._states.get(name, frozenset()) | line.states
-        if line.shapes:
-            self._shapes[name] = self._shapes.get(name, frozenset()) | line.shapes
-        elif 'call' in line.words:
-            self._calls.add(name)
-        if '*' in name:
+        self._words.setdefault(name, []).append(line.words)
+        self._alone.update([name] if _ALONE.search(line.entry) else [])
+        is_pattern = '*' in name
+        if line.entry:
+            (self._always if is_pattern or name in _NO_IMPORTS else self._entries.setdefault(name, [])).append(line.entry)
+        if is_pattern:
             self.patterns.append((name, _pattern(name), line.note))
             part = name.partition('.')[0]
             self._by_part.setdefault('' if '*' in part else part, []).append(self.patterns[-1])
@@ -112,66 +94,50 @@ class Names:
             self._found[name] = self._look_up(name)
         return self._found[name]
 
-    def allows_done(self, what: str, name: str, fits: Optional[Iterable[str]] = None) -> bool:
-        """Whether this may be done with what is imported by a name that a line has. `what` is the first word of a line of the program, and
-        `fits` has the shapes that the arguments have, where these were asked about.
-
-        What a pickle does with objects that it made has no name, and is allowed.
-        """
-        if what == THEN and fits is not None:
-            states = self.all_states(name)
-            return not states or not states.isdisjoint(fits)
-        if what in _OF_MADE:
-            return self.note(name) is None or self._allows_of_made(name, _OF_MADE[what])
-        word = _WORDS.get(what)
-        if word is None or self.note(name) is None:
-            return True
-        return word in self._words_of(name) and (fits is None or word not in ('call', 'new') or self._allows_arguments(name, fits))
-
-    def _allows_of_made(self, name: str, word: str) -> bool:
-        """Whether a line that has a name allows this with what calls of it make."""
-        return any(made is None or word in made for made in map(self._made.get, self.lines_of(name)))
-
-    def limits_made(self, name: str) -> bool:
-        """Whether something may not be done with what calls of a name make, which some line has."""
-        if not self._has_limits:
-            return False
-        return bool(self.lines_of(name)) and not all(self._allows_of_made(name, word) for word in _OF_LISTS)
-
-    def _allows_arguments(self, name: str, fits: Iterable[str]) -> bool:
-        """Whether a line allows a call that has arguments of these shapes. What is done with what it made was to be looked at, where lines limit
-        that."""
-        shapes = self.all_shapes(name)
-        if GIVEN in fits:
-            return True
-        if MADE not in fits and self.limits_made(name):
-            return False
-        return not shapes or not shapes.isdisjoint(fits) or not self._calls.isdisjoint((name, *self.lines_of(name)))
-
-    def all_shapes(self, name: str) -> FrozenSet[str]:
-        """The shapes of all lines that have a name."""
-        return frozenset().union(*(self._shapes[line] for line in {name, *self.lines_of(name)} if line in self._shapes)) if self._shapes else frozenset()
-
-    def all_states(self, name: str) -> FrozenSet[str]:
-        """The shapes of states of all lines that have a name."""
-        return frozenset().union(*(self._states[line] for line in {name, *self.lines_of(name)} if line in self._states)) if self._states else frozenset()
-
-    def with_shapes(self) -> Tuple[str, ...]:
-        """Lines that have the shapes of these, and what they say of what calls make, and nothing else."""
-        if self._with_shapes is None:  # (a set has a thousand, and they are wanted for each pickle)
-            limited = {name for name, made in self._made.items() if made is not None}
-            words = {name: [*(f'{word}({shape})' for word, shapes in (('call', self._shapes), (THEN, self._states)) for shape in sorted(shapes.get(name, ()))),
-                            *_made_words(self._made[name])] for name in sorted({*self._shapes, *self._states, *limited})}
-            self._with_shapes = tuple(f'{name}: {" ".join(said)}' for name, said in words.items())
-        return self._with_shapes
-
-    def entries(self) -> Iterator[str]:
-        """The lines for the program's gate, without names that are shown in two parts: the gate allows none of these."""
-        return (_entry(line) for line in self._lines if _OF_GATE.fullmatch(line.name) is not None)
-
     def lines_of(self, name: str) -> List[str]:
         """The names and patterns that have this name."""
         return [name] * (name in self.names) + [text for text, pattern, _ in self._patterns_of(name) if pattern.fullmatch(name)]
+
+    def allows_done(self, what: str, name: str, with_shapes: bool = True) -> bool:
+        """Whether words say that this may be done with what is imported by a name that a line has. `what` is the first word of a line of the program,
+        with `made-` before it where it is done with what a call made. Without `with_shapes` a line with shapes allows nothing of what these are about,
+        since nobody has compared them.
+
+        >>> names = Names(['a.b: call(text) made-state'])
+        >>> [names.allows_done(what, 'a.b') for what in ('call', 'state', 'made-state', 'made-append')], names.allows_done('call', 'a.b', False)
+        ([True, False, True, False], False)
+        """
+        is_made = what.startswith(_MADE_)
+        word = _WORDS.get(what[len(_MADE_):] if is_made else what)
+        said = self.words_of(name)
+        if word is None or not said:
+            return True
+        return any((_grants_of_made if is_made else _grants)(words, word, with_shapes) for words in said)
+
+    def words_of(self, name: str) -> List[FrozenSet[str]]:
+        """The words of each line that has this name."""
+        return [words for line in dict.fromkeys(self.lines_of(name)) for words in self._words[line]]
+
+    def wants_alone(self, name: str) -> bool:
+        """Whether a line that has this name has a shape with `alone` in it."""
+        return any(name in self._alone for name in self.lines_of(name)) if self._alone else False
+
+    # --- For the program ---
+
+    def entries(self) -> List[str]:
+        """All lines for the program's gate."""
+        return [*self._always, *(entry for entries in self._entries.values() for entry in entries)]
+
+    def entries_for(self, names: Iterable[str]) -> List[str]:
+        """Those of them that may be about some names. The others grant nothing to a pickle that imports these names alone."""
+        return [*self._always, *(entry for name in names for entry in self._entries.get(name, ()))]
+
+    @property
+    def digest(self) -> str:
+        """What the list is known by in results."""
+        if not self._digest:
+            self._digest = hashlib.sha256('\n'.join(sorted(self.entries())).encode('utf-8', 'surrogatepass')).hexdigest()[:16]
+        return self._digest
 
     # --- How a name is found ---
 
@@ -180,54 +146,49 @@ class Names:
             return self.names[name]
         return next((note for _, pattern, note in self._patterns_of(name) if pattern.fullmatch(name)), None)
 
-    def _words_of(self, name: str) -> FrozenSet[str]:
-        """What all lines that have a name allow together."""
-        if name not in self._found_words:
-            self._found_words[name] = frozenset().union(*(self._words.get(text, frozenset()) for text in (name, *self.lines_of(name))))
-        return self._found_words[name]
-
     def _patterns_of(self, name: str) -> List[Tuple[str, Pattern[str], str]]:
         return [*self._by_part.get(name.partition('.')[0], ()), *self._by_part.get('', ())]
 
 
 # What may be done with what is imported, by the first words of the program's lines.
-_WORDS = {'call': 'call', 'new': 'new', 'inst': 'call', 'state': 'state', 'append': 'fill', 'set': 'fill', 'add': 'fill'}
+_WORDS = {'call': 'call', 'new': 'new', 'inst': 'call', 'state': 'state', 'append': 'fill', 'set': 'fill', 'add': 'fill', 'fill': 'fill'}
 # Those of a list, in the order in which they are written.
 _OF_LISTS = ('call', 'new', 'state', 'fill')
 _ALL = frozenset(_OF_LISTS)
-# What is done with what a call made: those of a list, and the word by which they are looked up.
-_OF_MADE = {f'made-{word}': word for word in _OF_LISTS}
-# It allows nothing of that. Among the shapes of a call it says that this was looked at.
-MADE = 'made'
-_ABOUT_MADE = frozenset((MADE, *_OF_MADE))
+_MADE_ = 'made-'
+_OF_MADE = frozenset(('made', *(f'{_MADE_}{word}' for word in _OF_LISTS)))
 # What is no import and has a name of its own in the program's gate.
 _NO_IMPORTS = ('persistent', 'buffer')
-# The kinds of arguments in a shape, and what each stands for.
-KINDS: Dict[str, str] = {
-    'text': 'a text', 'short': 'a text or bytes, 64 at most', 'fraction': 'a text of digits, with one / at most', 'bytes': 'bytes',
-    'number': 'a number', 'small': 'a whole number of at most six digits', 'bool': 'true or false', 'none': 'None',
-    'held': 'a list or another object of the pickle, but no range', 'alone': 'the same, where the pickle has made no range', 'class': 'what is imported',
-    'new': 'what is imported, and a list lets objects of it be made', 'any': 'any of these'}
-# A text in quotes, a whole number, what is imported by a name.
-_KIND = re.compile(r"'[\w.+-]+'|-?[0-9]+|[^\W\d]\w*(?:\.[^\W\d]\w*)+")
-_SHAPE = re.compile(r'(?<!\S)call\(([^()]*)\)(?!\S)')
-_THEN = re.compile(r'(?<!\S)then\(([^()]*)\)(?!\S)')
-# What is said of the state of an object that a call made.
-THEN = 'then'
-# What stands for the shapes of a call through something that was given what to call: that call is judged.
-GIVEN = 'given'
+# A word behind a colon, and its shape.
+_WORD = re.compile(r'([^\s()]+)(\([^()]*\))?')
 # A name that `scan` shows in two parts, since one of them is no plain word: each is in quotes, or is the number of what gives it.
 _PART = r"""(?:(?:raw )?(?:'(?:[^'\\]|\\.)*'|"(?:[^"\\]|\\.)*")|\#[0-9*]+)"""
 _IN_PARTS = re.compile(f'{_PART} {_PART}')
-_NUMBER = re.compile(r'ext [0-9*]+')
-# What the program's gate takes of all these.
-_OF_GATE = re.compile(r"""[^\s'"#]+|ext (?:[0-9]+|\*)""")
+_BEGINS_PART = ("'", '"', "raw '", 'raw "')
+# A shape that takes no object where the pickle has made a range. (The program takes it as `held`.)
+_ALONE = re.compile(r'[ (|]alone[ )|]')
+# Words that a message may name where one is wrong.
+_KNOWN_WORDS = (*_OF_LISTS, 'then', *sorted(_OF_MADE), 'text', 'short', 'fraction', 'bytes', 'number', 'small', 'bool', 'none', 'held', 'alone', 'class', 'any')
 # (a line of any length may be given as a list)
 _MOST_SHOWN = 80
 
 
-def read_line(line: str) -> Optional[Line]:
-    """What a line of a list says; None for an empty line and a comment. Raises NoList where it has no meaning. This is the grammar:
+def _grants(words: FrozenSet[str], word: str, with_shapes: bool) -> bool:
+    """Whether a line's words let this be done with an import. Who may call a class may have it made."""
+    calls = word in ('call', 'new') and ('call' in words or with_shapes and 'call()' in words)
+    return calls or word in words and not (word == 'new' and 'call()' in words and not with_shapes)
+
+
+def _grants_of_made(words: FrozenSet[str], word: str, with_shapes: bool) -> bool:
+    """The same of what calls of it make."""
+    if word == 'state' and 'then()' in words and not with_shapes:
+        return False
+    return words.isdisjoint(_OF_MADE) or f'{_MADE_}{word}' in words or word == 'new' and 'made-call' in words
+
+
+def read_all(lines: Sequence[str], is_checked: bool = False) -> List[Optional[Line]]:
+    """What lines of a list say, each None where it is empty or a comment. Raises NoList with the index of the first that has no meaning. This is the
+    grammar, of which the program reads the entries but for names in two parts:
 
         line    = [entry | "include" LIST] ["#" note]
         entry   = (name | pattern) [":" {use | "made-" use | "made" | "call(" shape ")" | "then(" shape ")"}]
@@ -235,20 +196,39 @@ def read_line(line: str) -> Optional[Line]:
         name    = word "." word {"." word} | part " " part | "ext" number | "persistent" | "buffer"
         part    = ["raw"] text in quotes | "#" number
         pattern = a name with stars in it, or stars alone
-        shape   = what `shapes.py` says
+        shape   = [item {" " item}]
+        item    = kind {"|" kind}
 
-    >>> read_line('# of our own'), read_line('include numpy  # arrays')
-    (None, Line(name='numpy', words=frozenset(), note='arrays', is_include=True, shapes=frozenset(), states=frozenset(), made=None))
-    >>> sorted(read_line("'os ' 'x #': call new").words)
-    ['call', 'new']
-    >>> read_line('app.Job: call made-state').made, read_line('app.Job: call made').made
-    (frozenset({'state'}), frozenset())
+    >>> read_all(['# of our own', 'include numpy  # arrays'])
+    [None, Line(name='numpy', words=frozenset(), note='arrays', is_include=True, entry='')]
+    """
+    texts = [line.strip() for line in lines]
+    refused = None if is_checked else _refused(texts)
+    found: List[Optional[Line]] = []
+    for index, text in enumerate(texts):
+        if index == refused:
+            raise NoList(_why(text), index)
+        found.append(_read(text, index) if text and not text.startswith('#') else None)
+    return found
+
+
+def _refused(texts: Sequence[str]) -> Optional[int]:
+    """The first of these lines that is none, whatever is shown in two parts."""
+    several = next((index for index, text in enumerate(texts) if '\n' in text), len(texts))
+    refused = refused_line(['' if text.startswith(_BEGINS_PART) or _included(text) else text for text in texts[:several]])
+    return refused if refused is not None or several == len(texts) else several
+
+
+def read_line(line: str) -> Optional[Line]:
+    """What a line of a list says; None for an empty line and a comment. Raises NoList where it has no meaning.
+
+    >>> sorted(read_line("'os ' 'x #': call new").words), sorted(read_line('app.Job: call(text) made-state').words)
+    (['call', 'new'], ['call()', 'made-state'])
     >>> read_line('import numpy')
     Traceback (most recent call last):
-    picklestep.scan.names.NoList: no name, no pattern and no include: import numpy
+    picklestep.scan.names.NoList: no entry of a list: import numpy
     """
-    text = line.strip()
-    return _read_entry(text) if text and not text.startswith('#') else None
+    return read_all([line])[0]
 
 
 def read_comment(line: str) -> Optional[Line]:
@@ -259,76 +239,54 @@ def read_comment(line: str) -> Optional[Line]:
     """
     text = line.strip()
     try:
-        return _read_entry(text[1:].strip()) if text.startswith('#') else None
+        return read_line(text[1:]) if text.startswith('#') else None
     except NoList:
         return None
 
 
-def _read_entry(text: str) -> Line:
+def _included(text: str) -> str:
+    """The list that a line includes, if it includes one."""
+    word, _, rest = text.partition('#')[0].strip().partition(' ')
+    return rest.strip() if word == 'include' and rest.isprintable() else ''
+
+
+def _read(text: str, index: int) -> Line:
+    """What a line says that is none without meaning, unless a name in it is shown in two parts."""
+    if text.startswith(_BEGINS_PART):
+        return _read_parts(text, index)
+    entry, _, note = text.partition('#')
+    entry, note = entry.strip(), note.strip()
+    if _included(text):
+        return Line(_included(text), frozenset(), note, is_include=True)
+    name, colon, tail = entry.partition(':')
+    return Line(name.strip(), _words_in(tail) if colon else _ALL, note, entry=entry)
+
+
+def _read_parts(text: str, index: int) -> Line:
+    """The same where the name is shown in two parts. (What is in quotes may hold a `#`, also where a star stands for its end.)"""
     in_parts = _IN_PARTS.match(text)
-    # (what is in quotes may hold a `#`, also where a star stands for its end)
-    end = -1 if in_parts is None and text.startswith("'") else text.find('#', in_parts.end() if in_parts else 0)
+    end = -1 if in_parts is None else text.find('#', in_parts.end())
     entry, note = (text, '') if end < 0 else (text[:end].strip(), text[end + 1:].strip())
-    word, _, rest = entry.partition(' ')
-    if word == 'include' and rest.strip() and rest.isprintable():
-        return Line(rest.strip(), frozenset(), note, is_include=True)
     head, colon, tail = entry.rpartition(':')
-    said = _THEN.sub(' ', _SHAPE.sub(' call ', tail))
-    has_words = bool(colon) and (_ALL | _ABOUT_MADE).issuperset(said.split())
-    name, words = (head.strip(), frozenset(said.split())) if has_words else (entry, _ALL)
-    if not _is_name(name):
-        raise NoList(_why(name))
-    shapes = frozenset(map(_shape, _SHAPE.findall(tail))) if has_words and 'call' not in _THEN.sub(' ', _SHAPE.sub(' ', tail)).split() else frozenset()
-    made = words & _ABOUT_MADE
-    return Line(name, _with_new(words - made), note, shapes=shapes, states=frozenset(map(_shape, _THEN.findall(tail))) if has_words else frozenset(),
-                made=_with_new(frozenset(_OF_MADE[word] for word in made if word != MADE)) if made else None)
+    has_words = bool(colon) and refused_line([f'a.b:{tail}']) is None
+    name = head.strip() if has_words else entry
+    if not _IN_PARTS.fullmatch(name) and not (name.startswith("'") and '*' in name):
+        raise NoList(_why(text), index)
+    return Line(name, _words_in(tail) if has_words else _ALL, note)
 
 
-def _with_new(words: FrozenSet[str]) -> FrozenSet[str]:
-    """Who may call a class may have it made."""
-    return words | {'new'} if 'call' in words else words
+def _words_in(tail: str) -> FrozenSet[str]:
+    return frozenset(f'{word}()' if shape else word for word, shape in _WORD.findall(tail))
 
 
-def _made_words(made: Optional[FrozenSet[str]]) -> List[str]:
-    """The words that say what may be done with what calls make."""
-    return [] if made is None else [word for word, what in _OF_MADE.items() if what in made] or [MADE]
-
-
-def _entry(line: Line) -> str:
-    """A line as it is written, without its note."""
-    words = [word for word in _OF_LISTS if word in line.words and not (word == 'call' and line.shapes)]
-    shapes = [f'{word}({shape})' for word, shapes in (('call', line.shapes), (THEN, line.states)) for shape in sorted(shapes)]
-    return ' '.join([f'{line.name}:', *words, *shapes, *_made_words(line.made)])
-
-
-def _shape(text: str) -> str:
-    """A shape as it is kept, with one blank between its items. Raises NoList where it has no meaning."""
-    for kind in (kind for item in text.split() for kind in item.split('|')):
-        if kind not in KINDS and _KIND.fullmatch(kind) is None:
-            raise NoList(f'no kind of arguments: {shown(kind[:_MOST_SHOWN])}{nearest(kind, "kind", KINDS)}')
-    return ' '.join(text.split())
-
-
-def _is_name(name: str) -> bool:
-    """Whether this is a name as `scan` shows it, or a pattern that such a name may fit."""
-    if _IN_PARTS.fullmatch(name) or _NUMBER.fullmatch(name) or name in _NO_IMPORTS or name.startswith("'") and '*' in name:
-        return True
-    parts = name.split('.')
-    has_dot = len(parts) > 1 or '**' in name or name == '*'
-    return has_dot and all(part.isidentifier() or '*' in part and f'_{part.replace("*", "")}'.isidentifier() for part in parts)
-
-
-def _why(name: str) -> str:
-    """Why this is no name."""
-    said = shown(name[:_MOST_SHOWN])
-    if name.isidentifier():
-        return f'no name, since it has no dot: {said} (the names of a set or a file: include {said})'
-    head, colon, tail = name.partition(':')
-    wrong = [word for word in tail.split() if word not in _ALL | _ABOUT_MADE]
-    if colon and wrong and _is_name(head.strip()):
-        near = nearest(wrong[0], 'word', (*_OF_LISTS, *_OF_MADE, MADE))
-        return f'behind a colon stand call, new, state and fill, also behind made-, and no other word: {shown(wrong[0][:_MOST_SHOWN])}{near}'
-    return f'no name, no pattern and no include: {said}'
+def _why(text: str) -> str:
+    """Why a line is none."""
+    entry = text.partition('#')[0].strip() or text
+    said = shown(entry[:_MOST_SHOWN])
+    if entry.isidentifier():
+        return f'no entry of a list, since it has no dot: {said} (the names of a set or a file: include {said})'
+    wrong = next((word for word in re.findall(r'[\w-]+', entry[:1000].partition(':')[2]) if word not in _KNOWN_WORDS), '')
+    return f'no entry of a list: {said}{nearest(wrong, "word", _KNOWN_WORDS)}'
 
 
 def nearest(word: str, kind: str, words: Iterable[str]) -> str:

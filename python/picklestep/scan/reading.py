@@ -26,9 +26,7 @@ from .canonical.items import oddness
 from .canonical.methods import names_methods
 from .canonical.joblib import SIGN
 from .item_kinds import ItemKinds
-from .names import GIVEN, THEN
 from .results import OF_ARGUMENTS, ODD, Call, Import, Pickle, Place
-from .shapes import Arguments, shapes_of
 
 __all__ = ['Asked', 'Enough', 'Summary', 'calls_in_form', 'calls_words', 'is_odd_name', 'is_plain_name', 'is_worked_out', 'shown_name', 'why_unread']
 
@@ -43,11 +41,6 @@ _WITH_NAME = ('import', 'inst', 'call', 'new')
 
 # These lines say that something is given a state or filled. What that is stands at their end, and so does what an import gives.
 _CHANGES = ('state', 'append', 'set', 'add')
-
-# What is done in such lines, and in those that call what has no name, where it is done with what a call made.
-_DONE_WITH_MADE = {'call': 'made-call', 'inst': 'made-call', 'new': 'made-new', 'state': 'made-state', **dict.fromkeys(('append', 'set', 'add'), 'made-fill')}
-_MAKES_MORE = ('made-call', 'made-new')
-_CALLEE = re.compile(r' #([0-9]+)')
 
 # These lines alone show no pickle: many texts begin with the letters P and Q, and what a loader does with such an id is its own.
 _WEAK = ('persistent', 'buffer', 'readonly')
@@ -114,10 +107,8 @@ class Summary:
         # Whether all imports so far cannot be there, of which texts have many: then nothing that is called or filled shows a pickle.
         self._is_doubtful: Optional[bool] = None
         self._kinds = ItemKinds()
-        self._calls: Dict[Tuple[str, str, str, Tuple[str, ...]], _Found] = {}
         # The first call of something that is given to it by arguments which are not shown.
         self._hidden: Optional[Tuple[int, str, str]] = None
-        self._arguments = Arguments(shapes_of(budget.limits.shapes))
         self.oddness = ''
 
     def ask_oddness(self, blob: Blob, budget: Budget) -> None:
@@ -165,7 +156,7 @@ class Summary:
         again, left = self._again, self._budget.lines
         self._kinds.read(text, start, end, self._part)
         self._take_given(text, start, end)
-        for key, count, match in reached_lines(text, start, end, self._lines is not None, self._is_asked):
+        for key, count, match in reached_lines(text, start, end, self._lines is not None):
             self._count += count
             left -= count
             allowed = count if left >= 0 else count + left
@@ -186,11 +177,11 @@ class Summary:
             if not quoted:
                 self._hidden = self._hidden or (offset, line, self._part)
                 continue
-            name = _known_by(quoted).shown
-            found = self._found.get((what, quoted, self._part))
+            key = f'given {what}', quoted, self._part
+            found = self._found.get(key)
             if found is None:
                 self._keep(line)
-                found = self._found[what, quoted, self._part] = _Found(what, name, self._place(offset), line, self._part, fits=(GIVEN,))
+                found = self._found[key] = _Found(what, _known_by(quoted).shown, self._place(offset), line, self._part, given=True)
             found.count += 1
 
     def _begin_part(self, heading: str, tail: str) -> None:
@@ -212,21 +203,10 @@ class Summary:
     def _found_by(self, key: LineKey, match: 're.Match[str]') -> '_Found':
         """What a line is counted by. It is kept with the first line of its kind about its name."""
         what, quoted = key
-        odd = self._arguments.odd_state(number_in(match), line_of(match), match.end()) if what == 'state' else None
-        limited = self._limited_in(what, match) if quoted is None else None
-        done = None if limited is None else self._done_with_made(_DONE_WITH_MADE[what], limited, match)
-        if odd is not None:
-            if done is not None:
-                done.count += 1
-            return self._odd_state(odd[0], odd[1], match)
-        if done is not None:
-            return done
         if what in _CHANGES:
             name = self._imported.get(number_in(match), '')
             return self._found.get((what, name, self._part)) or self._first_of(what, name, _Known(name, False), match)
         # (A name that is no text is a number, or an object of the pickle.)
-        if quoted is not None and what != 'import' and self._is_asked(quoted):
-            return self._call_of(what, quoted, match)
         found = None if quoted is None and what in _WITH_NAME else self._found.get((what, quoted or '', self._part))
         if found is None:
             known = _name_in(match, quoted) if what in _WITH_NAME else _NO_NAME
@@ -235,45 +215,6 @@ class Summary:
             self._imported[number_in(match)] = found.name
         elif quoted is not None:
             self._again[key] = found
-        return found
-
-    def _is_asked(self, quoted: str) -> bool:
-        """Whether the arguments of each call of a name are asked about."""
-        return len(quoted) <= _SHORT and self._arguments.has(_known_by(quoted).shown)
-
-    def _limited_in(self, what: str, match: 're.Match[str]') -> Optional[str]:
-        """The name whose call made what a line calls, fills or gives a state, where a list says what may be done with that."""
-        if not self._arguments.has_limited:
-            return None
-        if what in _CHANGES:
-            return self._arguments.limited(number_in(match))
-        callee = _CALLEE.match(line_of(match), match.end()) if what in _DONE_WITH_MADE else None
-        return None if callee is None else self._arguments.limited(callee[1])
-
-    def _done_with_made(self, what: str, name: str, match: 're.Match[str]') -> '_Found':
-        """What a line is counted by that does something with what a call of a name made."""
-        if what in _MAKES_MORE:
-            self._arguments.make(number_in(match), name)
-        return self._found.get((what, name, self._part)) or self._first_of(what, name, _Known(name, False), match)
-
-    def _odd_state(self, name: str, fits: Tuple[str, ...], match: 're.Match[str]') -> '_Found':
-        """What a line is counted by that gives an object, which a call made, a state that lists do not have for it."""
-        key = THEN, name, self._part, fits
-        found = self._calls.get(key)
-        if found is None:
-            found = self._calls[key] = self._first_of(THEN, '\0'.join((name, *fits)), _Known(name, False), match)
-            found.fits = fits
-        return found
-
-    def _call_of(self, what: str, quoted: str, match: 're.Match[str]') -> '_Found':
-        """What a line is counted by that calls a name for which lists say what its arguments may be."""
-        known = _known_by(quoted)
-        fits = self._arguments.fits(known.shown, line_of(match), match.end())
-        key = what, quoted, self._part, fits
-        found = self._calls.get(key)
-        if found is None:
-            found = self._calls[key] = self._first_of(what, '\0'.join((quoted, *fits)), known, match)
-            found.fits = fits
         return found
 
     def _first_of(self, what: str, name: str, known: '_Known', match: 're.Match[str]') -> '_Found':
@@ -321,7 +262,7 @@ class Summary:
     def pickle(self, where: Place, size: int) -> Pickle:
         """What was found, by names, in the order in which they come first."""
         imports: Dict[Tuple[str, str], Tuple[_Found, int]] = {}
-        done: Dict[Tuple[str, str, str, Tuple[str, ...]], Tuple[_Found, int]] = {}
+        done: Dict[Tuple[str, str, str, bool], Tuple[_Found, int]] = {}
         for found in self._found.values():
             name, part = found.name, found.part
             if found.what in _IMPORTS:
@@ -329,19 +270,19 @@ class Summary:
                 first.member = first.member or found.member
                 imports[name, part] = first, count + found.count
             if found.what != 'import':
-                fits = found.fits if self._arguments.has(name) else ()
-                first, count = done.get((found.what, name, part, fits), (found, 0))
-                done[found.what, name, part, fits] = first, count + found.count
+                key = found.what, name, part, found.given
+                first, count = done.get(key, (found, 0))
+                done[key] = first, count + found.count
         odd = self._kinds.odd or (self._kinds.unsure if self.oddness else None)
         if odd is not None:
             offset, text, part = odd
             name = self._kinds.name(self.oddness)
-            done[ODD, name, part, ()] = _Found(ODD, name, self._place(offset), text, part, 1), 1
+            done[ODD, name, part, False] = _Found(ODD, name, self._place(offset), text, part, 1), 1
         if self._hidden is not None:
             offset, text, part = self._hidden
-            done[ODD, OF_ARGUMENTS, part, ()] = _Found(ODD, OF_ARGUMENTS, self._place(offset), text, part, 1), 1
+            done[ODD, OF_ARGUMENTS, part, False] = _Found(ODD, OF_ARGUMENTS, self._place(offset), text, part, 1), 1
         return Pickle(where, size, tuple(Import(first.name, count, first.offset, first.part, first.member) for first, count in imports.values()),
-                      tuple(Call(first.what, first.name, count, first.offset, first.text, first.part, key[3]) for key, (first, count) in done.items()),
+                      tuple(Call(first.what, first.name, count, first.offset, first.text, first.part, first.given) for first, count in done.values()),
                       self.end, tuple(self._lines or ()))
 
 
@@ -356,7 +297,7 @@ class _Found:
     part: str = ''
     count: int = 0
     member: str = ''
-    fits: Tuple[str, ...] = ()
+    given: bool = False
 
 
 @dataclass(frozen=True)

@@ -116,6 +116,8 @@ class Report:
         rules = Counter(look.rule for look in looks)
         if self._is_repeated(result):
             del rules['cannot-be-read']
+        if result.keys:
+            rules['server-cannot-be-read'] = rules.pop('cannot-be-read', 0)
         for rule in ('not-looked-at', 'unusual-form'):
             self.counts[rule] += rules.pop(rule, 0) > 0
         self.counts.update(rules)
@@ -129,11 +131,12 @@ class Report:
         made = to_json(result)
         judge = self.judges.of(result.path)
         if judge.allowed is not None:
-            for pickle in made['pickles']:
-                for found in pickle['imports']:
-                    found['allowed'] = judge.mark(found['name'], found.get('member', '')) is None
-                for done in pickle['calls']:
-                    done['allowed'] = judge.allows_done(done['what'], done['name'], done.get('fits', ()))
+            for pickle, row in zip(result.pickles, made['pickles']):
+                not_allowed = judge.not_allowed(pickle)
+                for each, found in zip(pickle.imports, row['imports']):
+                    found['allowed'] = judge.mark_in(pickle, each) is None
+                for done, found in zip(pickle.calls, row['calls']):
+                    found['allowed'] = done not in not_allowed
         severities = [look.severity for look in looks if not look.is_taken]
         taken = [_look_object(look) for look in looks if look.is_taken]
         return {**made, 'looks': [_look_object(look) for look in looks if not look.is_taken], **({'taken': taken} if taken else {}),
@@ -168,10 +171,11 @@ class Report:
         for found in pickle.imports:
             look = looks.get((found.name, found.offset))
             yield from (f'{_mark(look)}     {line}' for line in ((import_text(found, None),) if look is None else look.lines))
-        for text in (text for text in map(call_text, pickle.calls) if text not in beside):
-            yield _line(others.get(text), text)
-        yield from (f'      {shown(line)}' for line in pickle.lines)
         end = f'end: {end_text(pickle.end)}'
+        for text in dict.fromkeys([*map(call_text, pickle.calls), *others]):
+            if text not in beside and text != end:
+                yield _line(others.get(text), text)
+        yield from (f'      {shown(line)}' for line in pickle.lines)
         yield _line(others.get(end), end)
 
     # --- The summary ---
@@ -189,7 +193,8 @@ class Report:
         for key, *words in (('not-read', 'pickle not read to a STOP', 'pickles not read to a STOP'),
                             ('unusual-form', 'file in an unusual form', 'files in an unusual form'),
                             ('not-looked-at', 'file not looked at whole', 'files not looked at whole'),
-                            ('cannot-be-read', 'file that cannot be read', 'files that cannot be read'), ('skipped', 'skipped', 'skipped'),
+                            ('cannot-be-read', 'file that cannot be read', 'files that cannot be read'),
+                            ('server-cannot-be-read', 'server that cannot be read', 'servers that cannot be read'), ('skipped', 'skipped', 'skipped'),
                             ('not-allowed', 'import not allowed', 'imports not allowed'), ('denied', 'import denied', 'imports denied'),
                             ('known', 'import to look at', 'imports to look at'),
                             ('not-allowed-done', 'thing done that is not allowed', 'things done that are not allowed'),

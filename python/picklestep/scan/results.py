@@ -3,16 +3,17 @@
 from __future__ import annotations
 
 from dataclasses import dataclass
-from typing import Any, Dict, Optional, Tuple, Union
+from typing import Any, Callable, Dict, Optional, Tuple, TypeVar, Union
 
 from ..records import End
 
-__all__ = ['ODD', 'Call', 'Import', 'Note', 'Pickle', 'Result', 'from_json', 'to_json']
+__all__ = ['ODD', 'Call', 'Import', 'Note', 'Pickle', 'Result', 'Verdict', 'from_json', 'to_json']
 
 # The word of a `Call` that numpy believes, and that no pickler writes.
 ODD = 'odd'
 # The name of what is odd where something calls what it is given, and the arguments are worked out.
 OF_ARGUMENTS = 'arguments'
+_Record = TypeVar('_Record')
 # Where something is inside a file: the names of members, from the outermost container to the innermost.
 Place = Tuple[str, ...]
 
@@ -37,8 +38,8 @@ class Call:
     """What a pickle does with one thing: how often, at which offset first, and the program's line for that first time.
 
     `what` is the line's first word ('call', 'new', 'state', 'persistent', ..). `name` is what is called, or '' where that is an object
-    that the pickle itself made. `part` is as in `Import`. `fits` has the shapes that the arguments have, of those that lists have for the name;
-    calls that differ in them are apart.
+    that the pickle itself made. `part` is as in `Import`. `given` is set where that is done by something else that is given what to call. A count of 0
+    is not known.
     """
 
     what: str
@@ -47,12 +48,30 @@ class Call:
     offset: int
     text: str
     part: str = ''
-    fits: Tuple[str, ...] = ()
+    given: bool = False
+
+
+@dataclass(frozen=True)
+class Verdict:
+    """What the program's gate says of pickles in a row by a list, which has this digest. Where they pass, the line is empty; else it is the first by
+    which one of them does not, and the places are what is not allowed besides imports that the list has not."""
+
+    list: str
+    line: str = ''
+    places: Tuple[Call, ...] = ()
+
+    @property
+    def passes(self) -> bool:
+        """Whether all of them do."""
+        return not self.line
 
 
 @dataclass(frozen=True)
 class Pickle:
-    """A member (or a whole file) that was read as one pickle or as several in a row."""
+    """A member (or a whole file) that was read as one pickle or as several in a row.
+
+    `verdicts` are those of the lists that there were, where the pickles are in the form that picklers write.
+    """
 
     where: Place
     size: int
@@ -60,6 +79,7 @@ class Pickle:
     calls: Tuple[Call, ...]
     end: End
     lines: Tuple[str, ...] = ()
+    verdicts: Tuple[Verdict, ...] = ()
 
 
 @dataclass(frozen=True)
@@ -88,7 +108,7 @@ class Result:
     `beside` (of what is beside it and read with it) whether that is. `keys` is how many keys of a server this is about (several results may be
     of one server), and 0 where it is about a file. `plain` counts pickles that are values of a store, import and call nothing, and end with STOP:
     there may be millions, so they are not in `pickles`. `forms` says of what is no pickle how many have which ending.
-    `kinds` are the kinds of containers that readers take the file for.
+    `kinds` are the kinds of containers that readers take the file for. `lists` are the digests of the lists that the gate was asked by.
     """
 
     path: str
@@ -108,6 +128,7 @@ class Result:
     digest: str = ''
     beside: str = ''
     kinds: Tuple[str, ...] = ()
+    lists: Tuple[str, ...] = ()
 
     def _repr_html_(self) -> str:
         """The report about the file, for notebooks."""
@@ -121,12 +142,13 @@ def to_json(result: Result) -> Dict[str, Any]:
             'pickles': [_pickle_object(pickle) for pickle in result.pickles], 'not_pickles': result.others, 'forms': dict(result.forms),
             'notes': [dict(vars(note)) for note in result.notes], 'error': result.error, 'skipped': result.left,
             **({'device': result.device, 'inode': result.inode, 'sha256': result.digest} if result.digest else {}),
-            **{name: value for name, value in (('beside', result.beside), ('keys', result.keys), ('plain', result.plain), ('kinds', result.kinds)) if value}}
+            **{name: value for name, value in (('beside', result.beside), ('keys', result.keys), ('plain', result.plain), ('kinds', result.kinds), ('lists', result.lists))
+               if value}}
 
 
 def _object(each: Union[Import, Call]) -> Dict[str, Any]:
-    """The object that stands for an import or a call: without a part where it stands before all headings, and without a usual member and shapes."""
-    return {name: value for name, value in vars(each).items() if value or name not in ('part', 'member', 'fits')}
+    """The object that stands for an import or a call: without a part where it stands before all headings, and without what is usual."""
+    return {name: value for name, value in vars(each).items() if value or name not in ('part', 'member', 'given')}
 
 
 def _pickle_object(pickle: Pickle) -> Dict[str, Any]:
@@ -134,7 +156,8 @@ def _pickle_object(pickle: Pickle) -> Dict[str, Any]:
     made = {'where': pickle.where, 'size': pickle.size, 'imports': [_object(each) for each in pickle.imports],
             'calls': [_object(each) for each in pickle.calls],
             'end': {'how': end.how, 'code': end.code, 'text': end.text, 'offset': end.offset, 'item': end.item}}
-    return {**made, 'lines': pickle.lines} if pickle.lines else made
+    verdicts = [{**vars(verdict), 'places': [_object(each) for each in verdict.places]} for verdict in pickle.verdicts]
+    return {**made, **({'lines': pickle.lines} if pickle.lines else {}), **({'verdicts': verdicts} if verdicts else {})}
 
 
 def from_json(made: Dict[str, Any]) -> Result:
@@ -143,17 +166,21 @@ def from_json(made: Dict[str, Any]) -> Result:
         made['path'], made['size'], made['modified'], tuple(_pickle(pickle) for pickle in made['pickles']), made['not_pickles'],
         tuple(Note(tuple(note['where']), note['text'], note['missed'], note.get('odd', False)) for note in made['notes']), made['error'], made['skipped'],
         made['changed'], made.get('keys', 0), made.get('plain', 0), tuple(made['forms'].items()),
-        made.get('device', 0), made.get('inode', 0), made.get('sha256', ''), made.get('beside', ''), tuple(made.get('kinds', ())),
+        made.get('device', 0), made.get('inode', 0), made.get('sha256', ''), made.get('beside', ''), tuple(made.get('kinds', ())), tuple(made.get('lists', ())),
     )
 
 
 def _pickle(made: Dict[str, Any]) -> Pickle:
     return Pickle(
-        tuple(made['where']), made['size'], tuple(Import(**each) for each in made['imports']), tuple(map(_call, made['calls'])),
-        End(**made['end']), tuple(made.get('lines', ())),
+        tuple(made['where']), made['size'], tuple(_record(Import, each) for each in made['imports']), tuple(_record(Call, each) for each in made['calls']),
+        End(**made['end']), tuple(made.get('lines', ())), tuple(map(_verdict, made.get('verdicts', ()))),
     )
 
 
-def _call(made: Dict[str, Any]) -> Call:
-    fields: Dict[str, Any] = {**made, 'fits': tuple(made.get('fits', ()))}
-    return Call(**fields)
+def _verdict(made: Dict[str, Any]) -> Verdict:
+    return Verdict(made['list'], made['line'], tuple(_record(Call, each) for each in made['places']))
+
+
+def _record(kind: Callable[..., _Record], made: Dict[str, Any]) -> _Record:
+    """A record from an object of JSON, which also says whether it is allowed."""
+    return kind(**{name: value for name, value in made.items() if name != 'allowed'})

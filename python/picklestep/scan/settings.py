@@ -24,15 +24,15 @@ __all__ = ['Settings', 'chosen_policy']
 _SEE_DIGESTS = ('json', 'report', 'baseline', 'write_baseline')
 
 
-def chosen_policy(path: Optional[str], paths: Iterable[str]) -> Optional[Policy]:
-    """The policy that is named, or else the one that is found for some paths. Raises BadPolicy."""
+def chosen_policy(path: Optional[str], paths: Iterable[str], way_out: str = ' (--no-policy goes without it)') -> Optional[Policy]:
+    """The policy that is named, or else the one that is found for some paths. Raises BadPolicy, with the way out of one that was found."""
     if path is not None:
         return read_policy(Path(path))
     found = find_policy(paths)
     try:
         return None if found is None else read_policy(found, is_found=True)
     except BadPolicy as error:
-        raise BadPolicy(f'{error} (--no-policy goes without it)') from None
+        raise BadPolicy(f'{error}{way_out}') from None
 
 
 class Settings:
@@ -49,7 +49,7 @@ class Settings:
         self.judges = Judges(given.judge()) if policy is None else PolicyJudges(policy, given)
         self._named = None if policy is None or policy.is_found else policy
         self.fail_on: str = words.fail_on or self._named and self._named.fail_on or FAILING[-1]
-        self._shapes = self.judges.shapes()
+        self._lists = self.judges.lists()
         self.options = self._options(self._named.default.limits if self._named is not None else {})
 
     def groups(self, paths: Iterable[str]) -> List[Tuple[Options, List[str]]]:
@@ -81,4 +81,4 @@ class Settings:
         if 'seconds' in chosen:
             chosen['seconds'] = min(chosen['seconds'], MOST_SECONDS)
         digest = any(getattr(words, name) not in (None, False) for name in _SEE_DIGESTS) or self.policy is not None and sees_digest(self.policy)
-        return Options(replace(Limits(), shapes=self._shapes, **chosen), words.lines, words.everywhere, words.full, digest)
+        return Options(replace(Limits(), **chosen), words.lines, words.everywhere, words.full, digest, self._lists)

@@ -5,7 +5,7 @@ Every loader that is known (C, Python, PyPy, joblib, torch) reads such a pickle 
 
 from __future__ import annotations
 
-from typing import Optional
+from typing import Optional, Sequence
 
 from ... import library
 from ...errors import OutOfMemory, PicklestepError, TimedOut
@@ -15,7 +15,7 @@ from ...texts import LinesError
 from ..blobs import Blob, Budget, FileBlob, JoinedBlob, PartMet, spooled
 from .forms import NotCanonical, NotKnown
 
-__all__ = ['BEHIND', 'content_of', 'require_form']
+__all__ = ['BEHIND', 'answer_of_program', 'content_of', 'require_form']
 
 _WORDS = ('form',)
 # The reason of a pickle that is in the form, with something behind it.
@@ -34,7 +34,7 @@ def require_form(blob: Blob, budget: Optional[Budget] = None, begin: int = 0) ->
     content = content_of(blob)
     answer = None if content is None else library.answer(_WORDS, content)
     if answer is None:
-        answer = _answer_of_program(blob, budget)
+        answer = answer_of_program(_WORDS, blob, budget)
     if answer == IN_FORM:
         return
     try:
@@ -46,23 +46,24 @@ def require_form(blob: Blob, budget: Optional[Budget] = None, begin: int = 0) ->
         raise NotCanonical(other.reason, begin + offset)
 
 
-def _answer_of_program(blob: Blob, budget: Optional[Budget]) -> bytes:
+def answer_of_program(words: Sequence[str], blob: Blob, budget: Optional[Budget], files: Sequence[int] = ()) -> bytes:
+    """What the program says of some bytes with these words, within the time and the memory that are left. `files` are descriptors that it needs for the
+    words. Raises PartMet where there is too little, and NotKnown where there is no answer."""
     path = blob.path() if isinstance(blob, FileBlob) else None
     if path is not None:
-        return _run(path, blob.size, budget)
+        return _run([*words, path], blob.size, budget, files)
     copy = spooled(blob.chunks())
     with copy.file:
-        return _run(copy.path(), copy.size, budget)
+        return _run([*words, copy.path()], copy.size, budget, files)
 
 
-def _run(path: str, size: int, budget: Optional[Budget]) -> bytes:
-    """What the program says of a file, within the time and the memory that are left."""
+def _run(words: Sequence[str], size: int, budget: Optional[Budget], files: Sequence[int]) -> bytes:
     memory = timeout = None
     if budget is not None:
         memory = budget.memory() if size * _MEMORY_OF_A_BYTE > budget.memory() else None
         timeout = time_to_wait(budget.seconds)
     try:
-        return run_program([*_WORDS, path], memory=memory, timeout=timeout)
+        return run_program(words, files, memory=memory, timeout=timeout)
     except (OutOfMemory, TimedOut) as error:
         raise PartMet('reading it strictly would take more time or memory than there is') from error
     except PicklestepError as error:

@@ -17,6 +17,7 @@ from ...wording import shown
 from ..allow import read_names
 from ..judges import Judges
 from ..looks import Judge, Look
+from ..names import Names
 from ..results import Result
 from ..wording import count_of
 from .baseline import IN_BASELINE, Baseline
@@ -70,7 +71,7 @@ class PolicyJudges(Judges):
     def __init__(self, policy: Policy, given: Given, today: Optional[datetime.date] = None) -> None:
         self.policy = policy
         self._given = given
-        self._today = today or datetime.date.today()
+        self.today = today or datetime.date.today()
         super().__init__(given.judge())
         self._by_lists: Dict[Tuple[Optional[Tuple[str, ...]], Tuple[str, ...]], Judge] = {}
         self._last: Optional[Tuple[str, Judge]] = None
@@ -95,9 +96,9 @@ class PolicyJudges(Judges):
         """The rule that decides about a file."""
         return rule_of(self.policy, self._index, path)
 
-    def shapes(self) -> Tuple[str, ...]:
-        words = [*self._given.allow, *(word for rule in (self.policy.default, *self.policy.rules) for word in rule.allow or ())]
-        return self._lists.names(words).with_shapes() if words else ()
+    def lists(self) -> Tuple[Names, ...]:
+        lists = {names.digest: names for judge in self.all_judges() for names in judge.lists()}
+        return tuple(lists.values())
 
     def all_judges(self) -> List[Judge]:
         """The judges of all rules."""
@@ -122,7 +123,11 @@ class PolicyJudges(Judges):
         with_known = given.with_known and (is_found or self.policy.with_known)
         return Judge(self._lists.names(words) if has_list else None, denied, with_known, self._judge if is_found else None)
 
-    # --- Exceptions ---
+    # --- Exceptions and baselines ---
+
+    def is_in_baseline(self, result: Result, look: Look) -> bool:
+        """Whether a baseline of the policy has a mark."""
+        return self._baseline.has(result, look)
 
     def looks(self, result: Result) -> List[Look]:
         looks = super().looks(result)
@@ -133,17 +138,18 @@ class PolicyJudges(Judges):
         exceptions: Optional[List[PolicyException]] = None
         for look in looks:
             if exceptions is None:
-                exceptions = self._exceptions_of(result)
+                exceptions = self.exceptions_of(result)
             yield self._settled(result, look, exceptions)
 
-    def _exceptions_of(self, result: Result) -> List[PolicyException]:
+    def exceptions_of(self, result: Result) -> List[PolicyException]:
+        """The exceptions that are about a file."""
         inner = inner_path(self.policy.root, result.path)
         return [each for each in self.policy.exceptions
                 if (each.digest == result.digest if each.digest else is_about(each.target, result.path, inner))]
 
     def _settled(self, result: Result, look: Look, exceptions: List[PolicyException]) -> Look:
         found = [each for each in exceptions if each.is_about(look)]
-        valid = next((each for each in found if not each.has_ended(self._today)), None)
+        valid = next((each for each in found if not each.has_ended(self.today)), None)
         if self._own_baseline.has(result, look):
             return replace(look, is_taken=True, remark=IN_BASELINE)
         if valid is None and not self._baseline.has(result, look):

@@ -23,19 +23,18 @@ class _Several(Names):
     def lines_of(self, name: str) -> List[str]:
         return list(dict.fromkeys(line for part in self._parts for line in part.lines_of(name)))
 
-    def allows_done(self, what: str, name: str, fits: Optional[Iterable[str]] = None) -> bool:
-        fits = None if fits is None else tuple(fits)
-        having = [part for part in self._parts if part.note(name) is not None]
-        return not having or any(part.allows_done(what, name, fits) for part in having)
+    def words_of(self, name: str) -> List[FrozenSet[str]]:
+        return [words for part in self._parts for words in part.words_of(name)]
 
-    def all_shapes(self, name: str) -> FrozenSet[str]:
-        return frozenset().union(*(part.all_shapes(name) for part in self._parts))
+    def wants_alone(self, name: str) -> bool:
+        return any(part.wants_alone(name) for part in self._parts)
 
-    def all_states(self, name: str) -> FrozenSet[str]:
-        return frozenset().union(*(part.all_states(name) for part in self._parts))
+    def entries(self) -> List[str]:
+        return [entry for part in self._parts for entry in part.entries()]
 
-    def with_shapes(self) -> Tuple[str, ...]:
-        return tuple(dict.fromkeys(line for part in self._parts for line in part.with_shapes()))
+    def entries_for(self, names: Iterable[str]) -> List[str]:
+        names = list(names)
+        return [entry for part in self._parts for entry in part.entries_for(names)]
 
 
 class Lists:

@@ -631,7 +631,7 @@ class Values:
             pickle = answer.pickle(each.where, len(each.content))
             # (Names that are no plain ones are no picklers': whether the rest has their form is noted, as of a file.)
             if each.guessed or all(is_plain_name(found.name) for found in pickle.imports) or not self._is_kept(each):
-                self.looker.take(pickle, BytesBlob(each.content))
+                self.looker.take(self.looker.judged(pickle, BytesBlob(each.content)), BytesBlob(each.content))
             self._found.add(each.value)
         elif (not each.guessed or walk(each.content, 0).is_called) and self._is_kept(each):
             # The program refused it before an import. What a loader makes of it is asked as it is for a file.
