@@ -20,8 +20,8 @@ from .wording import shown
 if TYPE_CHECKING:
     from .scan.finder import Finding, Found
 
-__all__ = ['Member', 'Members', 'Opened', 'arrays_of', 'ends_early', 'given', 'holes_of', 'is_in', 'left_out', 'members', 'opened', 'opened_in',
-           'quoted', 'ranges', 'zip_behind']
+__all__ = ['FoundPickle', 'FoundPickles', 'Opened', 'arrays_of', 'ends_early', 'given', 'holes_of', 'is_in', 'left_out', 'opened', 'opened_in',
+           'pickles_in', 'quoted', 'ranges', 'zip_behind']
 
 # So many addresses are shown, and so many lines of what was not looked at.
 _MOST_SHOWN = 100
@@ -43,13 +43,13 @@ class Opened:
 
 
 @dataclass(frozen=True)
-class Member:
+class FoundPickle:
     """A pickle in a file: its address, and how many bytes it has. `skip` are those of them that are no opcodes (the numbers of joblib's arrays), as
     `calls` takes them. `kind` is the innermost container that it is in, as `scan` names it: 'zip', 'gzip', 'sqlite'. It is '' where the file is the
     pickle, or other bytes stand around it.
 
-    >>> Member('model.pt > archive/data.pkl', 495, kind='zip')
-    Member(address='model.pt > archive/data.pkl', size=495, skip=(), kind='zip')
+    >>> FoundPickle('model.pt > archive/data.pkl', 495, kind='zip')
+    FoundPickle(address='model.pt > archive/data.pkl', size=495, skip=(), kind='zip')
     """
 
     address: str
@@ -58,17 +58,17 @@ class Member:
     kind: str = ''
 
 
-class Members(Sequence[Member]):
+class FoundPickles(Sequence[FoundPickle]):
     """The pickles in a file. `missed` has a line for each thing that was not looked at: where there is one, there may be other pickles.
 
     >>> import gzip, pathlib
     >>> _ = pathlib.Path('a.pkl.gz').write_bytes(gzip.compress(b'N.'))
-    >>> found = members('a.pkl.gz')
+    >>> found = pickles_in('a.pkl.gz')
     >>> found[0].address, found[0].size, found.missed
     ('a.pkl.gz > (gzip)', 2, ())
     """
 
-    def __init__(self, found: Sequence[Member], missed: Sequence[str] = ()) -> None:
+    def __init__(self, found: Sequence[FoundPickle], missed: Sequence[str] = ()) -> None:
         self._found = tuple(found)
         self.missed = tuple(missed)
 
@@ -76,19 +76,19 @@ class Members(Sequence[Member]):
         return len(self._found)
 
     @overload
-    def __getitem__(self, index: int) -> Member: ...
+    def __getitem__(self, index: int) -> FoundPickle: ...
 
     @overload
-    def __getitem__(self, index: slice) -> Sequence[Member]: ...
+    def __getitem__(self, index: slice) -> Sequence[FoundPickle]: ...
 
-    def __getitem__(self, index: Union[int, slice]) -> Union[Member, Sequence[Member]]:
+    def __getitem__(self, index: Union[int, slice]) -> Union[FoundPickle, Sequence[FoundPickle]]:
         return self._found[index]
 
     def __repr__(self) -> str:
-        return f'<Members: {_pickles(len(self))}{", and not all was looked at" if self.missed else ""}>'
+        return f'<FoundPickles: {_pickles(len(self))}{", and not all was looked at" if self.missed else ""}>'
 
 
-def members(path: 'Union[str, os.PathLike[str]]') -> Members:
+def pickles_in(path: 'Union[str, os.PathLike[str]]') -> FoundPickles:
     """The pickles in a file or on a server, or below an address there: those that `picklestep scan` finds, by its readers and within its limits.
 
     `calls` and the other functions take each address. A file that is a pickle itself has its own path for one. Raises OSError where the file or the
@@ -98,7 +98,7 @@ def members(path: 'Union[str, os.PathLike[str]]') -> Members:
     >>> with zipfile.ZipFile('two.zip', 'w') as archive:
     ...     archive.writestr('a.pkl', b'N.'), archive.writestr('b.pkl', b'K\\x01.')
     (None, None)
-    >>> [(member.address, member.size, member.kind) for member in members('two.zip')]
+    >>> [(found.address, found.size, found.kind) for found in pickles_in('two.zip')]
     [('two.zip > a.pkl', 2, 'zip'), ('two.zip > b.pkl', 3, 'zip')]
     """
     name = os.fsdecode(path)
@@ -112,7 +112,7 @@ def members(path: 'Union[str, os.PathLike[str]]') -> Members:
         finding = _finder().find(file, address)
     if finding.error is not None:
         raise OSError(f'cannot read {shown(file)}: {finding.error}')
-    return Members([Member(_address(file, each.name), each.size, each.raw, each.kind) for each in finding.found], finding.missed)
+    return FoundPickles([FoundPickle(_address(file, each.name), each.size, each.raw, each.kind) for each in finding.found], finding.missed)
 
 
 def _finder() -> Any:

@@ -7,6 +7,7 @@ from dataclasses import dataclass
 from itertools import zip_longest
 from typing import Any, Dict, Iterator, List, Optional, Sequence, Tuple, Union
 
+from .aligning import Steps, aligned, gaps
 from .alike import CONTAINERS, Compared, Labels, inside, is_held, paired
 from .records import Extension, Global, Ref
 from .python_source.literals import literal
@@ -14,10 +15,20 @@ from .sources import Source
 from .trees import Call, Values, values
 from .values import Unread
 
-__all__ = ['Comparison', 'Difference', 'compare', 'shown_value']
+__all__ = ['Comparison', 'Difference', 'compare', 'shown_line', 'shown_pair', 'shown_value']
 
 _SLOTS: Dict[str, Any] = {'slots': True} if sys.version_info >= (3, 10) else {}
 _MOST_LETTERS = 64
+# So many letters of texts are shown where they differ, of a line, and before where it differs from another one.
+_MOST_OF_OTHER, _MOST_OF_LINE, _BEFORE = 16, 400, 40
+# So many letters of a part of a name are shown.
+_MOST_OF_NAME = 200
+# A path of more letters is shown by its beginning and its end.
+_MOST_OF_PATH = 400
+# Values that are compared without labels, where sequences begin or end alike.
+_PLAIN = frozenset((int, float, str, bytes, bool, type(None)))
+# Parts of what is compared to put members of sets in an order: so many, down to so many levels.
+_MOST_PARTS, _MOST_LEVELS = 50, 3
 # So many times as many pairs as there are objects are compared, each for itself.
 _MANY = 4
 _ABSENT = object()
@@ -40,13 +51,19 @@ class Difference:
     new: str
 
     def __str__(self) -> str:
-        return f'{self.path}: {self.old} -> {self.new}' if self.how == 'changed' else f'{self.path}: {self.how} {self.old}{self.new}'
+        path = self.path
+        if len(path) > _MOST_OF_PATH:
+            path = f'{path[:_MOST_OF_PATH // 2]} .. {len(path) - _MOST_OF_PATH:,} letters .. {path[-_MOST_OF_PATH // 2:]}'
+        return f'{path}: {self.old} -> {self.new}' if self.how == 'changed' else f'{path}: {self.how} {self.old}{self.new}'
 
 
 def compare(old: Source, new: Source, *, many: bool = False, unframed: bool = False, timeout: Optional[float] = None,
             memory: Optional[int] = None) -> List[Difference]:
     r"""What two pickles differ in, in the order of the paths that lead there: none where the results are equal.
     `many` and `unframed` are as for `tree`.
+
+    The items of two lists are compared with those that they stand for: an item that was put in or left out is one difference. The number of an item in
+    a path is its place in the old list, or in the new one where it was added.
 
     Raises NoResult where one of them cannot be read to its STOP.
 
@@ -91,6 +108,7 @@ class Comparison:
         self._new, self._new_result = new
         self._labels = Labels()
         self._compared = Compared(_MANY * (len(self._old) + len(self._new)))
+        self._steps = Steps.for_items(len(self._old) + len(self._new))
 
     def of_results(self) -> Iterator[Difference]:
         """What the results differ in."""
@@ -116,7 +134,7 @@ class Comparison:
                 yield Difference(_words(path), 'added' if is_added else 'removed', '' if is_added else shown, shown if is_added else '')
             elif type(one) is not type(other) or not (isinstance(one, CONTAINERS) or is_held(one) and is_held(other)):
                 if type(one) is not type(other) or not _is_same(one, other):
-                    yield Difference(_words(path), 'changed', *_shown_pair(one, other))
+                    yield Difference(_words(path), 'changed', *shown_pair(one, other))
             elif compared.is_new(one, other):
                 left += [((path, step), first, second) for step, first, second in reversed(list(self._inside(one, other)))]
 
@@ -130,19 +148,40 @@ class Comparison:
             yield from self._in_pairs(list(one.items()), list(other.items()))
         elif isinstance(one, (set, frozenset)):
             yield from self._in_sets(self._old.members(one), self._new.members(other))
-        else:
+        elif isinstance(one, tuple) and len(one) == len(other):  # (each of its places means something)
             yield from _in_order(one, other)
+        else:
+            yield from self._in_lists(one, other)
 
     def _in_calls(self, one: Call, other: Call) -> Iterator[_Step]:
         yield '.how', one.how, other.how
         yield '.name', one.name, other.name
         yield from _in_order(one.arguments, other.arguments, '.arguments')
-        yield from _in_order(one.items, other.items)
+        yield from self._in_lists(one.items, other.items)
         yield from self._in_pairs(one.pairs, other.pairs, is_ordered=True)
         if len(one.states) == len(other.states) == 1:
             yield '.state', one.states[0], other.states[0]
         else:
             yield from _in_order(one.states, other.states, '.states')
+
+    def _in_lists(self, one: Sequence[Any], other: Sequence[Any]) -> Iterator[_Step]:
+        """Items are compared with those that they stand for."""
+        begin, end, other_end = _between(one, other)
+        first, second = one[begin:end], other[begin:other_end]
+        labels = [self._old_label(each) for each in first], [self._new_label(each) for each in second]
+        for lefts, rights, same in gaps(aligned(*labels, self._steps), len(first), len(second)):
+            for at, to in self._in_gap(first, second, lefts, rights):
+                yield (f'[{begin + (to or 0 if at is None else at)}]', _ABSENT if at is None else first[at], _ABSENT if to is None else second[to])
+            if same is not None and not self._labels.is_plain(labels[0][same[0]]):
+                yield f'[{begin + same[0]}]', first[same[0]], second[same[1]]
+
+    def _in_gap(self, one: Sequence[Any], other: Sequence[Any], lefts: range, rights: range) -> Iterator[Tuple[Optional[int], Optional[int]]]:
+        """The places of items of which none is in both: those of one kind, and then what is left, in their order."""
+        kinds = [_kind(self._old.of(one[at])) for at in lefts], [_kind(self._new.of(other[to])) for to in rights]
+        for less, more, pair in gaps(aligned(*kinds, self._steps), len(lefts), len(rights)):
+            yield from zip_longest((lefts[at] for at in less), (rights[to] for to in more))
+            if pair is not None:
+                yield lefts[pair[0]], rights[pair[1]]
 
     def _in_pairs(self, one: _Pairs, other: _Pairs, is_ordered: bool = False) -> Iterator[_Step]:
         """Pairs are compared by their keys: those whose keys are alike, then odd ones in their order. Where the order says something it is compared
@@ -176,6 +215,7 @@ class Comparison:
         return found + [(lefts[at], rights[to]) for at, to in more], [lefts[at] for at in left[0]], [rights[at] for at in left[1]]
 
     def _in_sets(self, one: Sequence[Any], other: Sequence[Any]) -> Iterator[_Step]:
+        one, other = (sorted(members, key=_Order(values).of) for members, values in ((one, self._old), (other, self._new)))
         labels = [self._old_label(each) for each in one], [self._new_label(each) for each in other]
         found, lefts, rights = paired(*labels)
         for at in lefts:
@@ -208,6 +248,54 @@ class Comparison:
         return ': '.join(self._shown(part, is_new) for part in pair)
 
 
+def _between(one: Sequence[Any], other: Sequence[Any]) -> Tuple[int, int, int]:
+    """Where plain values end with which both begin, and where those begin in both with which both end."""
+    begin, end, other_end = 0, len(one), len(other)
+    while begin < end and begin < other_end and _is_plainly_same(one[begin], other[begin]):
+        begin += 1
+    while begin < end and begin < other_end and _is_plainly_same(one[end - 1], other[other_end - 1]):
+        end, other_end = end - 1, other_end - 1
+    return begin, end, other_end
+
+
+def _is_plainly_same(one: Any, other: Any) -> bool:
+    return type(one) is type(other) and type(one) in _PLAIN and _is_same(one, other)
+
+
+def _kind(value: Any) -> Any:
+    """The kind of a value: its type, and what is called where a call made it."""
+    return (value.how, shown_value(value.name)) if isinstance(value, Call) else value.kind if isinstance(value, Unread) else type(value)
+
+
+class _Order:
+    """An order of values by what they are. Members of sets are compared in it, since the order in which a pickle has them is another one in each run of
+    Python."""
+
+    def __init__(self, values: Values) -> None:
+        self._values = values
+
+    def of(self, value: Any) -> Tuple[Any, ...]:
+        """What a value is compared by: plain numbers by their size, and all else by words for it and for what is in it."""
+        value = self._values.of(value)
+        if type(value) in (int, bool):
+            return 0, value, ''
+        return 1, 0, ' '.join(self._words(value))
+
+    def _words(self, value: Any) -> Iterator[str]:
+        waiting = [(value, 0)]
+        for _ in range(_MOST_PARTS):
+            if not waiting:
+                return
+            value, level = waiting.pop()
+            value = self._values.of(value)
+            yield shown_value(value)
+            if level < _MOST_LEVELS and isinstance(value, CONTAINERS):
+                parts = inside(value)[:_MOST_PARTS]
+                if isinstance(value, (set, frozenset)):
+                    parts = sorted(parts, key=shown_value)
+                waiting += [(part, level + 1) for part in reversed(parts)]
+
+
 def _in_order(one: Sequence[Any], other: Sequence[Any], before: str = '') -> Iterator[_Step]:
     for place, (first, second) in enumerate(zip_longest(one, other, fillvalue=_ABSENT)):
         yield f'{before}[{place}]', first, second
@@ -221,6 +309,8 @@ def shown_value(value: Any) -> str:
 
     >>> shown_value('x' * 100), shown_value([1, 2]), shown_value(2.5)
     ("'xxxxxxxxxxxxxxxxxxxxxxxxxxxxxxxxxxxxxxxxxxxxxxxxxxxxxxxxxxxxxxxx'+36", 'list of 2', '2.5')
+    >>> shown_value(10 ** 100)
+    '1000000000000000000000000000000000000000000000000000000000000000+37'
     """
     if isinstance(value, Global):
         return f'{_shown_name(value.module)}.{_shown_name(value.name)}'
@@ -235,7 +325,12 @@ def shown_value(value: Any) -> str:
         return (f'{value.kind} ' if isinstance(value, Unread) else '') + literal(value[:_MOST_LETTERS]) + (f'+{more}' if more > 0 else '')
     if isinstance(value, tuple) and len(value) <= 4 and not any(isinstance(part, (*CONTAINERS, Ref)) for part in value):
         return f"({', '.join(map(shown_value, value))}{',' if len(value) == 1 else ''})"
-    return f'{type(value).__name__} of {len(value)}' if isinstance(value, (list, tuple, dict, set, frozenset)) else literal(value)
+    return f'{type(value).__name__} of {len(value)}' if isinstance(value, (list, tuple, dict, set, frozenset)) else _cut(literal(value), _MOST_LETTERS)
+
+
+def _cut(text: str, most: int) -> str:
+    """The beginning of a text, and how many letters follow."""
+    return text if len(text) <= most else f'{text[:most]}+{len(text) - most}'
 
 
 def _shown_name(part: Union[bytes, Ref]) -> str:
@@ -243,14 +338,42 @@ def _shown_name(part: Union[bytes, Ref]) -> str:
     if isinstance(part, Ref):
         return f'#{part.number}'
     text = part.decode('utf-8', 'backslashreplace')
-    return text if text.isprintable() else repr(text)[1:-1]
+    return _cut(text if text.isprintable() else repr(text)[1:-1], _MOST_OF_NAME)
 
 
-def _shown_pair(one: Any, other: Any) -> Tuple[str, str]:
-    """Two values that differ. Of long texts that begin with the same it is said where they differ."""
+def shown_pair(one: Any, other: Any) -> Tuple[str, str]:
+    """Two values that differ. Where what is shown of them is the same, as of long texts, it is said where they differ.
+
+    >>> shown_pair('x' * 100 + 'a', 'x' * 100 + 'b'), shown_pair(10 ** 100, 10 ** 100 + 1)
+    (("'a' at 100", "'b'"), ('0 at 100', '1'))
+    """
     shown = shown_value(one), shown_value(other)
-    if shown[0] == shown[1] and isinstance(one, (str, bytes, bytearray)):
-        at = next((at for at, (a, b) in enumerate(zip(one, other)) if a != b), min(len(one), len(other)))
-        parts = (literal(text[at:at + 16]) for text in (one, other))
-        return f'{next(parts)} at {at}', next(parts)
-    return shown
+    if shown[0] != shown[1]:
+        return shown
+    if isinstance(one, (str, bytes, bytearray)):
+        at = _first_other(one, other)
+        return f'{literal(one[at:at + _MOST_OF_OTHER])} at {at}', literal(other[at:at + _MOST_OF_OTHER])
+    texts = [repr(each) if isinstance(each, Global) else literal(each) for each in (one, other)]
+    at = _first_other(*texts)
+    return f'{texts[0][at:at + _MOST_OF_OTHER]} at {at}', texts[1][at:at + _MOST_OF_OTHER]
+
+
+def _first_other(one: Sequence[Any], other: Sequence[Any]) -> int:
+    """Where two differ first."""
+    return next((at for at, (a, b) in enumerate(zip(one, other)) if a != b), min(len(one), len(other)))
+
+
+def shown_line(text: str, beside: str = '') -> str:
+    """A line that may be long: its beginning, and what is where it differs from another line.
+
+    >>> len(shown_line('x' * 10_000)), shown_line('a')
+    (422, 'a')
+    """
+    if len(text) <= _MOST_OF_LINE:
+        return text
+    at = _first_other(text, beside) - _BEFORE
+    if at < _MOST_OF_LINE // 2:
+        return f'{text[:_MOST_OF_LINE]} .. {len(text) - _MOST_OF_LINE:,} letters more'
+    begin, end = _MOST_OF_LINE // 2, at + _MOST_OF_LINE // 2
+    more = f' .. {len(text) - end:,} letters more' if end < len(text) else ''
+    return f'{text[:begin]} .. {at - begin:,} letters .. {text[at:end]}{more}'

@@ -1,4 +1,5 @@
-"""`picklestep diff A B`: what two pickles differ in: their results, what they import and call, and how they end. Nothing of them is run."""
+"""`picklestep diff A B`: what two pickles differ in: their results, what they import and call, their opcodes if that is wanted, and how they end.
+Nothing of them is run."""
 
 from __future__ import annotations
 
@@ -6,23 +7,24 @@ import argparse
 import os
 import sys
 from collections import Counter
-from itertools import chain
+from itertools import chain, repeat
 from typing import Any, Iterator, List, Optional, Tuple
 
 from .addresses import given
+from .aligning import Steps, aligned, gaps
 from .alike import paired
 from .answers import Calls
-from .comparing import Comparison, Difference, shown_value
+from .comparing import Comparison, Difference, shown_line, shown_pair, shown_value
 from .errors import NoResult, PicklestepError, reason
 from .python_source.command import print_text
-from .records import Reach
+from .records import Opcode, Reach
 from .sources import Source, rereadable
-from .tasks import calls, frames
+from .tasks import calls, frames, listing
 from .texts import unnumbered
 from .trees import Values, values
 from .wording import shown
 
-__all__ = ['main', 'of_reaches']
+__all__ = ['main', 'of_opcodes', 'of_reaches']
 
 _BLOCK = 1 << 20
 
@@ -36,11 +38,14 @@ def main(arguments: List[str]) -> int:
     parser.add_argument('new', metavar='B', help='another one')
     parser.add_argument('--many', action='store_true', help='each file has several pickles that follow one another')
     parser.add_argument('--unframed', action='store_true', help='ignore the lengths of frames')
+    parser.add_argument('--opcodes', action='store_true', help='also print what their protocols and opcodes differ in')
+    parser.add_argument('--full', action='store_true', help='print whole arguments of imports and calls: they are not cut')
     options = parser.parse_args(arguments)
     try:
         old, new = (rereadable(given(name)[0]) for name in (options.old, options.new))
         comparison = Comparison(_values(options.old, old, options), _values(options.new, new, options))
-        lines = [*map(str, comparison.of_results()), *of_reaches(old, new, options.unframed, comparison)]
+        lines = [*map(str, comparison.of_results()), *of_reaches(old, new, options.unframed, comparison, options.full)]
+        lines += of_opcodes(old, new, options.many, options.unframed) if options.opcodes else []
         lines += [] if options.many else _of_what_is_behind(old, new, options.unframed)
     except (OSError, PicklestepError) as error:
         print(f'picklestep: {reason(error)}', file=sys.stderr)
@@ -57,14 +62,15 @@ def _values(name: str, pickle: Source, options: argparse.Namespace) -> Tuple[Val
         raise PicklestepError(f'{shown(name)}: {reason(error)}') from error
 
 
-def of_reaches(old: Source, new: Source, unframed: bool = False, comparison: Optional[Comparison] = None) -> Iterator[str]:
+def of_reaches(old: Source, new: Source, unframed: bool = False, comparison: Optional[Comparison] = None, full: bool = False) -> Iterator[str]:
     """What only one of them imports and calls, also where nothing of it is in the result, what those differ in that both do, and in what their
-    readings end otherwise."""
+    readings end otherwise. Long lines are cut, unless they are wanted in full."""
     answers = [calls(source, full=True, skip=frames(source, many=True) if unframed else ()) for source in (old, new)]
     known = [list(answer) for answer in answers]
     texts = [[unnumbered(reach.text) for reach in chain(reaches, *answer.parts)] for reaches, answer in zip(known, answers)]
-    yield from (f'- {text}' for text in _only_in(texts[0], texts[1]))
-    yield from (f'+ {text}' for text in _only_in(texts[1], texts[0]))
+    removed, added = list(_only_in(texts[0], texts[1])), list(_only_in(texts[1], texts[0]))
+    for sign, some, others in (('-', removed, added), ('+', added, removed)):
+        yield from (f'{sign} {text if full else shown_line(text, beside)}' for text, beside in zip(some, chain(others, repeat(''))))
     if comparison is not None:
         for at, to in paired(*(some[:len(reaches)] for some, reaches in zip(texts, known)))[0]:
             yield from map(str, _of_both(known[0][at], known[1][to], comparison))
@@ -90,6 +96,38 @@ def _only_in(one: List[str], other: List[str]) -> Iterator[str]:
         left[text] -= 1
         if left[text] < 0:
             yield text
+
+
+def of_opcodes(old: Source, new: Source, many: bool = False, unframed: bool = False) -> Iterator[str]:
+    """What their protocols and opcodes differ in. Opcodes are compared with those that they stand for, as items of lists are."""
+    answers = [listing(source, many=many, unframed=unframed) for source in (old, new)]
+    if answers[0].protocol != answers[1].protocol:
+        yield f'highest protocol among opcodes: {answers[0].protocol} -> {answers[1].protocol}'
+    one, other = (list(answer) for answer in answers)
+    steps = Steps.for_items(len(one) + len(other))
+    keys = [[(opcode.name, opcode.argument) for opcode in some] for some in (one, other)]
+    pairs = aligned(keys[0], keys[1], steps)
+    for lefts, rights, _ in gaps(pairs, len(one), len(other)):
+        names = [one[at].name for at in lefts], [other[to].name for to in rights]
+        for less, more, pair in gaps(aligned(names[0], names[1], steps), len(lefts), len(rights)):
+            yield from (f'- opcode at {one[lefts[at]].offset}: {_shown_opcode(one[lefts[at]])}' for at in less)
+            yield from (f'+ opcode at {other[rights[to]].offset}: {_shown_opcode(other[rights[to]])}' for to in more)
+            if pair is not None:
+                first, second = one[lefts[pair[0]]], other[rights[pair[1]]]
+                yield f'opcode at {first.offset}: {first.name} {" -> ".join(shown_pair(_argument(first), _argument(second)))}'
+
+
+def _argument(opcode: Opcode) -> Any:
+    """The value of an opcode's argument, or its bytes where it has none."""
+    value = opcode.value if opcode.value is not None else opcode.argument
+    return ' '.join(map(str, value)) if isinstance(value, tuple) else value
+
+
+def _shown_opcode(opcode: Opcode) -> str:
+    if opcode.argument is None:
+        return opcode.name
+    value = opcode.value
+    return f'{opcode.name} {" ".join(map(shown_value, value)) if isinstance(value, tuple) else shown_value(_argument(opcode))}'
 
 
 def _ends(answer: Calls) -> Tuple[str, ...]:

@@ -11,6 +11,8 @@ import os
 import pickle
 import pickletools
 import random
+import subprocess
+import sys
 import tempfile
 import time
 import unittest
@@ -19,6 +21,7 @@ from typing import Any, List, Optional
 
 import picklestep
 from harmless import Maker, Plain, canonical
+from picklestep.aligning import Steps, aligned
 from picklestep.comparing import shown_value
 from picklestep.diff import main
 from pickles import HOSTILE, changed_pickles, known_opcodes, real_pickles
@@ -183,6 +186,72 @@ class Compare(unittest.TestCase):
         new = {'model': {'weights': [0.5, 1.0, 1.5, 2.5, 3.0]}, 'same': (1, 'x'), 'more': {1, 2}}
         self.assertEqual(_paths(old, new), ["['model']['weights'][3]: 2.0 -> 2.5", "['model']['weights'][4]: added 3.0",
                                             "['gone']: removed 1", "['more']: added set of 2"])
+
+    def test_lists_are_aligned(self) -> None:
+        """An item that is left out or put in is one difference, wherever it is; what is behind it is compared with what it stands for."""
+        ten = list(range(10, 20))
+        self.assertEqual(_paths(ten, ten[1:]), ['[0]: removed 10'])
+        self.assertEqual(_paths(ten[1:], ten), ['[0]: added 10'])
+        self.assertEqual(_paths(ten, ten[:4] + ten[5:]), ['[4]: removed 14'])
+        self.assertEqual(_paths(ten, [7, *ten[:4], *ten[5:], 8]), ['[0]: added 7', '[4]: removed 14', '[10]: added 8'])
+        records = [{'name': name, 'age': 7} for name in 'abcde']
+        changed = [dict(record) for record in records[1:]]
+        changed[2]['age'] = 8
+        self.assertEqual(_paths(records, changed), ['[0]: removed dict of 2', "[3]['age']: 7 -> 8"])
+        self.assertEqual(_paths(['x', {'a': 1}], [{'a': 2}]), ["[0]: removed 'x'", "[1]['a']: 1 -> 2"])
+        self.assertEqual(_paths(['a', 'b', 'a', 'b'], ['b', 'a', 'b', 'a']), ["[0]: removed 'a'", "[3]: added 'a'"])
+        self.assertEqual(_paths(collections.deque([1, 2, 3]), collections.deque([2, 3])), ['[0]: removed 1'])
+
+    def test_tuples_of_one_length_are_compared_by_place(self) -> None:
+        self.assertEqual(_paths((1, 2, 3), (2, 3, 4)), ['[0]: 1 -> 2', '[1]: 2 -> 3', '[2]: 3 -> 4'])
+        self.assertEqual(_paths((1, 2, 3), (2, 3)), ['[0]: removed 1'])
+
+    def test_long_lists(self) -> None:
+        """In a bounded time, whatever they hold."""
+        chosen = random.Random(80)
+        most = 100_000
+        for name, old, new, least in (('the first is left out', list(range(most)), list(range(1, most)), 1), ('of two values', *([chosen.randrange(2) for _ in range(
+                9_000)] for _ in range(2)), 1), ('all others', [chosen.random() for _ in range(30_000)], [chosen.random() for _ in range(30_000)], 30_000),
+                ('backwards', list(range(20_000)), list(range(20_000, 0, -1)), 1), ('many lists', [[at, 0, 1] * 9 for at in range(3_000)],
+                                                                                   [[0, at, 1] * 9 for at in range(3_000)], 1)):
+            with self.subTest(name):
+                begun = time.process_time()
+                found = picklestep.compare(pickle.dumps(old, 4), pickle.dumps(new, 4))
+                self.assertGreaterEqual(len(found), least)
+                self.assertLess(time.process_time() - begun, 30)
+
+    def test_there_is_a_difference_where_lists_differ(self) -> None:
+        for seed in range(400):
+            chosen = random.Random(seed)
+            old, new = ([chosen.choice([0, 1, 'a', [1], [2], {'k': 1}, 0.0, -0.0, True]) for _ in range(chosen.randrange(6))] for _ in range(2))
+            is_same = canonical(old) == canonical(new)
+            with self.subTest(seed, old=old, new=new):
+                self.assertEqual(_paths(old, new) == [], is_same)
+
+    def test_long_values_are_cut(self) -> None:
+        self.assertEqual(_paths(10 ** 100, 10 ** 100 + 1), ['result: 0 at 100 -> 1'])
+        self.assertEqual(_paths(0, 10 ** 100), [f'result: 0 -> {10 ** 63}+37'])
+        name = b'm' * 5_000
+        self.assertEqual([str(each) for each in picklestep.compare(b'N.', b'c' + name + b'\nn\n.')], [f'result: None -> {"m" * 200}+4800.n'])
+        self.assertLess(len(str(picklestep.compare(b'c' + name + b'x\nn\n.', b'c' + name + b'y\nn\n.')[0])), 100)
+        depth = 20_000
+        line = str(picklestep.compare(*(b']' * depth + end + b'a' * depth + b'.' for end in (b'K\x01', b'K\x02')))[0])
+        self.assertEqual(line, '[0]' * 66 + '[0' + ' .. 59,600 letters .. ' + '0]' + '[0]' * 66 + ': 1 -> 2')
+
+    def test_sets_in_another_order(self) -> None:
+        """Python writes a set in another order in each run. What differs is the same, in the same order."""
+        code = ('import pickle, sys, decimal; made = lambda *words: {*words, *map(len, words), *(decimal.Decimal(10 * len(word)) for word in words)}\n'
+                'sys.stdout.buffer.write(pickle.dumps(made("one", "three", "fifteen", "hundred thousand"), 4) if sys.argv[1] == "old" else '
+                'pickle.dumps(made("two", "three", "hundred", "thousand"), 4))')
+        said = set()
+        for seed in range(6):
+            old, new = (subprocess.run([sys.executable, '-c', code, which], env={**os.environ, 'PYTHONHASHSEED': str(seed)}, capture_output=True,
+                                       check=True).stdout for which in ('old', 'new'))
+            said.add('\n'.join(map(str, picklestep.compare(old, new))))
+        self.assertEqual(said, {'\n'.join([
+            '{16}: removed 16', "{'fifteen'}: removed 'fifteen'", "{'hundred thousand'}: removed 'hundred thousand'", "{'one'}: removed 'one'",
+            '{8}: added 8', "{'hundred'}: added 'hundred'", "{'thousand'}: added 'thousand'", "{'two'}: added 'two'",
+            "{call decimal.Decimal}.arguments[0]: '160' -> '80'"])})
 
     def test_kinds(self) -> None:
         self.assertEqual(_paths(1, True), ['result: 1 -> True'])
@@ -364,6 +433,89 @@ class Compare(unittest.TestCase):
                     self.assertEqual(main(paths), 1 if said else 0)
                     self.assertEqual(out.getvalue(), said)
                     self.assertEqual(bool(picklestep.compare(*pair)), 'result' in said)
+
+
+def longest(one: List[int], other: List[int]) -> int:
+    """How many items the longest sequence has that is in both, by the table that has it for all ends of both."""
+    table = [[0] * (len(other) + 1) for _ in range(len(one) + 1)]
+    for at, to in itertools.product(reversed(range(len(one))), reversed(range(len(other)))):
+        table[at][to] = table[at + 1][to + 1] + 1 if one[at] == other[to] else max(table[at + 1][to], table[at][to + 1])
+    return table[0][0]
+
+
+class Aligned(unittest.TestCase):
+    """Which items of two sequences stand for one another."""
+
+    def test_they_are_equal_and_in_order(self) -> None:
+        """Also where few steps may be taken. Of items that are there once each, they are as many as there can be."""
+        for seed in range(600):
+            chosen = random.Random(seed)
+            kinds = chosen.choice([2, 3, 5, 20])
+            one = [chosen.randrange(kinds) for _ in range(chosen.randrange(12))]
+            other = [chosen.randrange(kinds) for _ in range(chosen.randrange(12))] if chosen.random() < 0.5 else [each for each in one if chosen.random() < 0.8]
+            for steps in (0, 5, 20, 10_000):
+                found = aligned(one, other, Steps(steps))
+                self.assertTrue(all(one[at] == other[to] for at, to in found), (one, other, found))
+                self.assertTrue(all(before[0] < after[0] and before[1] < after[1] for before, after in zip(found, found[1:])), (one, other, found))
+            one, other = (chosen.sample(range(12), chosen.randrange(12)) for _ in range(2))
+            self.assertEqual(len(aligned(one, other, Steps(10_000))), longest(one, other), (one, other))
+
+    def test_the_fewest_changes(self) -> None:
+        """By hand, of items that are there several times."""
+        for one, other, least in (('abab', 'baba', 3), ('aabb', 'bbaa', 2), ('abcabc', 'bcabca', 5), ('aaaa', 'aa', 2), ('ab', 'cd', 0), ('', 'ab', 0)):
+            self.assertEqual(len(aligned(one, other, Steps(10_000))), least, (one, other))
+
+
+class Diff(unittest.TestCase):
+    """The lines of `picklestep diff`."""
+
+    def diff(self, old: bytes, new: bytes, *options: str) -> List[str]:
+        """Its lines. The status is 1 just where there are some."""
+        with tempfile.TemporaryDirectory() as folder:
+            paths = [os.path.join(folder, name) for name in 'ab']
+            for path, data in zip(paths, (old, new)):
+                with open(path, 'wb') as file:
+                    file.write(data)
+            with contextlib.redirect_stdout(io.StringIO()) as out:
+                status = main([*options, *paths])
+        lines = out.getvalue().splitlines()
+        self.assertEqual(status, int(bool(lines)))
+        return lines
+
+    def test_opcodes(self) -> None:
+        """`[1]` in protocols 0 to 4: what is said of the opcodes, by pickletools' names and offsets."""
+        of = [pickle.dumps([1], protocol) for protocol in range(5)]
+        self.assertEqual(self.diff(of[2], of[3], '--opcodes'), ['opcode at 0: PROTO 2 -> 3'])
+        self.assertEqual(self.diff(of[1], of[2], '--opcodes'), ['highest protocol among opcodes: 1 -> 2', '+ opcode at 0: PROTO 2'])
+        self.assertEqual(self.diff(of[2], of[4], '--opcodes'),
+                         ['highest protocol among opcodes: 2 -> 4', 'opcode at 0: PROTO 2 -> 4', '+ opcode at 2: FRAME 6', '- opcode at 3: BINPUT 0', '+ opcode at 12: MEMOIZE'])
+        self.assertEqual(self.diff(of[1], of[2]), [])
+        self.assertEqual(self.diff(b'X\x01\0\0\0a.', b'X\x01\0\0\0b.', '--opcodes'), ["result: 'a' -> 'b'", "opcode at 0: BINUNICODE 'a' -> 'b'"])
+        self.assertEqual(self.diff(b'cos\ngetcwd\n0N.', b'N.', '--opcodes')[1:], ["- opcode at 0: GLOBAL 'os' 'getcwd'", '- opcode at 11: POP'])
+        self.assertEqual(self.diff(b'N.N.', b'N.N.', '--opcodes', '--many'), [])
+
+    def test_long_lines_are_cut(self) -> None:
+        """A line of a megabyte is not printed, and what differs is."""
+        call = b'cm\nf\nB%s%s\x85R0N.'
+        old, new = (call % ((1_000_001).to_bytes(4, 'little'), b'x' * 500_000 + letter + b'x' * 500_000) for letter in (b'a', b'b'))
+        lines = self.diff(old, new)
+        self.assertEqual(len(lines), 2)
+        self.assertTrue(all(len(line) < 500 for line in lines))
+        for line, sign, letter in zip(lines, '-+', 'ab'):
+            self.assertTrue(line.startswith(f"{sign} call 'm' 'f' (bytes 'xxx"), line)
+            self.assertIn(f'xx{letter}xx', line)
+        whole = self.diff(old, new, '--full')
+        self.assertEqual([len(line) for line in whole], [len("- call 'm' 'f' (bytes '')") + 1_000_001] * 2)
+
+    def test_there_are_lines_just_where_the_status_says_so(self) -> None:
+        """Also of pickles that were changed here and there."""
+        chosen = random.Random(82)
+        datas = [data for data in changed_pickles() if picklestep.calls(data).end.is_stopped]
+        for _ in range(150):
+            with contextlib.suppress(picklestep.NoResult):
+                old, new = chosen.choices(datas, k=2)
+                picklestep.compare(old, new)
+                self.diff(old, new, *chosen.choice([(), ('--opcodes',), ('--full',)]))
 
 
 if __name__ == '__main__':

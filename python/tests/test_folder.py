@@ -65,8 +65,17 @@ class Folders(ScanCase):
         parser = html.parser.HTMLParser()
         parser.handle_starttag = lambda tag, attrs: tags.append(tag)  # type: ignore[method-assign]
         parser.feed(text)
-        self.assertEqual(tags, ['details', 'summary', 'b', 'pre'])
+        self.assertEqual(tags, ['details', 'summary', 'b', 'table', *['tr', *['th'] * 3], *['tr', 'td', 'b', 'td', 'td', 'br']])
         self.assertNotIn('\u202e', text)
+        self.assertEqual(Found(Result('a.pkl'), ())._repr_html_(), '<p>a.pkl: no mark</p>')
+
+    def test_a_notebook_shows_marks_in_a_table(self) -> None:
+        found = next(iter(folder(self.folder / 'models' / 'a.pkl')))
+        for text in (found._repr_html_(), found.result._repr_html_()):
+            self.assertRegex(text, r'^<details><summary><b style="color:#fff;background:#9b1c1c;padding:0 .4em">critical</b> \S*a.pkl: '
+                                   'posix.system: runs a shell command</summary><table>')
+            self.assertIn("import posix.system once, first at 0: runs a shell command<br>call posix.system once", text)
+        self.assertIn('end: stopped</pre>', found.result._repr_html_())
 
 
 if __name__ == '__main__':

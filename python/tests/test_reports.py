@@ -2,6 +2,7 @@
 
 from __future__ import annotations
 
+import html
 import html.parser
 import json
 import re
@@ -12,7 +13,7 @@ from typing import Any, Dict, List, Optional, Tuple
 
 from picklestep.scan import Look, Options, Result
 from picklestep.scan.looks import RULES
-from picklestep.scan.advice import ADVICE
+from picklestep.scan.advice import ADVICE, advice_for
 from picklestep.scan.reports import About, Findings
 from picklestep.scan.reports.markdown import markdown_report
 from picklestep.scan.reports.page import html_report
@@ -73,6 +74,18 @@ class Reports(ScanCase):
         self.assertRegex(page.text, r'SHA-256[0-9a-f]{64}')
         self.assertIn('models/<b>.pkl', page.text)
         self.assert_quiet(page)
+
+    def test_the_worst_call_stands_in_full(self) -> None:
+        """In the lines of scan a text has 64 signs. What runs may stand behind these."""
+        command = 'echo ' + 'x' * 300 + '; rm -rf /'
+        hostile = b'cposix\nsystem\n(X' + len(command).to_bytes(4, 'little') + command.encode() + b'tR.'
+        self.file('models/bad.pkl', hostile)
+        self.file('models/in.zip', zip_of([Made(b'a.pkl', hostile)]))
+        self.assertNotIn('rm -rf', self.scan('models').stdout)
+        for option, name in (('--report', 'out.html'), ('--report', 'out.md')):
+            text = html.unescape(self.written(option, name))
+            for place in ('models/bad.pkl', 'models/in.zip > a.pkl'):
+                self.assertIn(f"{place}: call posix.system once, first at {14 + 1 + 5 + len(command) + 1}: call 'posix' 'system' ('{command}') as #3", text)
 
     def test_two_reports(self) -> None:
         """Each file that is named is written. What a policy takes stands in both, with its reason."""
@@ -168,6 +181,32 @@ class Hostile(unittest.TestCase):
 
     def test_each_rule_has_its_advice(self) -> None:
         self.assertEqual(list(ADVICE), list(RULES))
+
+
+class Advice(ScanCase):
+    """What a reader of a report is told to do."""
+
+    def test_no_dangerous_name_is_to_be_allowed(self) -> None:
+        """Whichever rule marks it: as a known name, as one that no list has, also where known names are not marked, or as one that goes through
+        a module, or stands in no file."""
+        for name, content in (('known', HOSTILE), ('through', b'csklearn.base\nnp.load\n.'), ('dash', b'clib-dynload._ctypes\ndlopen\n.'),
+                              ('computed', b'\x80\x02cbuiltins\nstr\n)RVsystem\n\x93.')):
+            self.file(f'{name}.pkl', content)
+        for words in ((), ('--allow', 'plain'), ('--allow', 'plain', '--no-known')):
+            for name in ('known', 'through', 'dash', 'computed'):
+                if words[-1:] == ('--no-known',) and name in ('through', 'dash'):
+                    continue  # (nothing is known of what these lead to)
+                with self.subTest(words=words, name=name):
+                    self.scan(*words, '--report', 'out.html', '--report', 'out.md', f'{name}.pkl')
+                    for path in ('out.html', 'out.md'):
+                        text = (self.folder / path).read_text(encoding='utf-8')
+                        self.assertRegex(text, 'Do not load the file')
+                        self.assertNotRegex(text, 'write it into a list|write the name into a')
+
+    def test_what_may_be_allowed(self) -> None:
+        self.assertIn('write it into a list for --allow', advice_for(Look((), 'not-allowed', 'import app.Job', 'app.Job')))
+        self.assertEqual(advice_for(Look((), 'not-allowed', 'import', 'pandas.core.frame.DataFrame')),
+                         'The set pandas has this name. If you expect files of this library, give --allow pandas.')
 
 
 if __name__ == '__main__':

@@ -82,6 +82,7 @@ class Statuses(ScanCase):
         self.assertIn('1 file in an unusual form', self.scan('--brief', 'odd.pkl').stdout)
         self.assertNotIn('not looked at whole', self.scan('--brief', 'odd.pkl').stdout)
         self.assertIn('1 file not looked at whole', self.scan('--brief', 'other.7z').stdout)
+        self.assertIn(', 1 server that cannot be read\n', self.scan('--brief', 'redis://127.0.0.1:1/0').stdout)
 
 
 if __name__ == '__main__':

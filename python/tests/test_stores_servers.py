@@ -289,7 +289,7 @@ class OtherServers(StoreCase):
 # Opens each value of a server that scan finds, by its address, and prints the address and what the program says of the bytes.
 OPENS = '''
 import sys, picklestep
-found = picklestep.members(sys.argv[1])
+found = picklestep.pickles_in(sys.argv[1])
 for member in found:
     try:
         answer = picklestep.calls(member.address)

@@ -1,14 +1,15 @@
-"""How results show themselves in notebooks."""
+"""How results show themselves in notebooks: a coloured line that opens to a table. All texts are escaped."""
 
 from __future__ import annotations
 
 import html
 import io
-from typing import TYPE_CHECKING
+from typing import TYPE_CHECKING, Sequence
 
-from .looks import Judge
+from .looks import Judge, Look
 from .report import Report
 from .results import Result
+from .severity import rank
 from .wording import place_of, shown
 
 if TYPE_CHECKING:
@@ -21,32 +22,55 @@ _COLOURS = {'critical': '#9b1c1c', 'high': '#a34a00', 'medium': '#6b5900', 'unre
 
 
 def html_of(result: Result) -> str:
-    """The report about a file as `scan` prints it, with what is marked in bold. All texts are escaped.
+    """The worst mark of a file in a line, and behind it all marks and the report as `scan` prints it.
 
-    >>> html_of(Result('<b>', error='no'))
-    '<pre><b>! &lt;b&gt;: cannot be read: no</b></pre>'
+    >>> html_of(Result('<b>'))
+    '<details><summary>&lt;b&gt;: no mark</summary><pre></pre></details>'
     """
     out = io.StringIO()
     Report(out, Judge()).add(result)
     lines = out.getvalue().splitlines()
-    shown = [f'<b>{html.escape(line)}</b>' if line.startswith('!') else html.escape(line) for line in lines[:_SHOWN_LINES]]
-    if len(lines) > _SHOWN_LINES:
-        shown.append(f'.. {len(lines) - _SHOWN_LINES} lines more')
-    return '<pre>' + '\n'.join(shown) + '</pre>'
+    cut = [*lines[:_SHOWN_LINES], *([f'.. {len(lines) - _SHOWN_LINES} lines more'] if len(lines) > _SHOWN_LINES else [])]
+    looks = sorted(Judge().looks(result), key=lambda look: rank(look.severity))
+    text = '\n'.join(map(html.escape, cut))
+    return f'<details><summary>{_head(result.path, looks)}</summary>{_table(looks)}<pre>{text}</pre></details>'
 
 
 def html_of_found(found: 'Found') -> str:
-    """The worst mark of a file in a line, and all marks behind it. All texts are escaped.
+    """The worst mark of a file in a line, and behind it a table of all marks.
 
     >>> from .folder import Found
     >>> html_of_found(Found(Result('<b>'), ()))
     '<p>&lt;b&gt;: no mark</p>'
     """
-    path = html.escape(shown(found.path))
-    if not found.looks:
-        return f'<p>{path}: no mark</p>'
-    worst = found.looks[0]
-    badge = f'<b style="color:#fff;background:{_COLOURS[worst.severity]};padding:0 .4em">{worst.severity}</b>'
-    lines = (f'{look.severity}  {place_of(found.path, look.where)}: {line}' for look in found.looks[:_SHOWN_LINES] for line in look.lines)
-    text = '\n'.join(html.escape(shown(line)) for line in lines)
-    return f'<details><summary>{badge} {path}: {html.escape(shown(worst.text))}</summary><pre>{text}</pre></details>'
+    head = _head(found.path, found.looks)
+    return f'<details><summary>{head}</summary>{_table(found.looks)}</details>' if found.looks else f'<p>{head}</p>'
+
+
+def _head(path: str, looks: Sequence[Look]) -> str:
+    """What stands for a file: its worst mark, and how many more there are."""
+    name = html.escape(place_of(path, ()))
+    if not looks:
+        return f'{name}: no mark'
+    more = f' (and {len(looks) - 1} more)' if len(looks) > 1 else ''
+    return f'{_badge(looks[0].severity)} {name}: {html.escape(shown(looks[0].short))}{more}'
+
+
+def _table(looks: Sequence[Look]) -> str:
+    """The marks, each in a row."""
+    if not looks:
+        return ''
+    rows = [_row(look) for look in looks[:_SHOWN_LINES]]
+    if len(looks) > _SHOWN_LINES:
+        rows.append(f'<tr><td colspan="3">.. {len(looks) - _SHOWN_LINES} marks more</td></tr>')
+    return f'<table><tr><th>severity</th><th>where</th><th>mark</th></tr>{"".join(rows)}</table>'
+
+
+def _row(look: Look) -> str:
+    where = ' &gt; '.join(html.escape(shown(name)) for name in look.where)
+    lines = '<br>'.join(html.escape(shown(line)) for line in look.lines)
+    return f'<tr><td>{_badge(look.severity)}</td><td>{where}</td><td style="text-align:left">{lines}</td></tr>'
+
+
+def _badge(severity: str) -> str:
+    return f'<b style="color:#fff;background:{_COLOURS[severity]};padding:0 .4em">{severity}</b>'

@@ -5,6 +5,7 @@ from __future__ import annotations
 import os
 import shutil
 import sys
+import textwrap
 from dataclasses import dataclass, field
 from typing import Dict, List, Optional, Sequence, TextIO, Tuple, Union
 
@@ -21,11 +22,14 @@ __all__ = ['Table', 'wants_table']
 # So many files without a mark have a line, and so many marks of a file are shown.
 _MOST_UNMARKED, _MOST_MARKS = 20, 20
 _NO_MARK = 'no mark'
-_WIDTH = max(map(len, (*FAILING, _NO_MARK)))
+_HEAD = ('severity', 'marks', 'file', 'worst mark')
+_WIDTH = max(map(len, (*FAILING, _NO_MARK, _HEAD[0])))
 # How a terminal shows each severity: the numbers of ECMA-48's SGR.
 _COLOURS = {'critical': '1;31', 'high': '31', 'medium': '33', 'unread': '36'}
-# A name of a file has at most this part of a line.
+# The names of files have at most this part of a line. One that is longer has a line of its own.
 _OF_LINE = 2
+# The worst mark has at most so many lines, each of at least so many signs.
+_MOST_LINES, _LEAST_ROOM = 3, 20
 
 
 def wants_table(paths: Sequence[str]) -> bool:
@@ -36,6 +40,20 @@ def wants_table(paths: Sequence[str]) -> bool:
 def _has_colours() -> bool:
     """Whether the terminal shows colours, and the user wants them (https://no-color.org)."""
     return not os.environ.get('NO_COLOR') and os.environ.get('TERM', 'dumb') != 'dumb' and sys.stdout.isatty()
+
+
+def _wrapped(text: str, room: int) -> List[str]:
+    """A text on lines of so many signs. What is too long is cut.
+
+    >>> _wrapped('builtins.getattr: gets any attribute by name', 30)
+    ['builtins.getattr: gets any', 'attribute by name']
+    """
+    room = max(_LEAST_ROOM, room)
+    # (a line of a hostile file may be long: what is beyond all lines is not wrapped)
+    lines = textwrap.wrap(text[:room * (_MOST_LINES + 1)], room, break_on_hyphens=False) or ['']
+    if len(lines) > _MOST_LINES:
+        lines[_MOST_LINES - 1:] = [f'{lines[_MOST_LINES - 1][:room - 2]}..']
+    return lines
 
 
 @dataclass
@@ -65,7 +83,7 @@ class Table(Report):
         if result.left is not None:
             row.text = f'skipped: {result.left}'
         if in_force and rank(in_force[0].severity) < rank(row.severity):
-            row.severity, row.text = worst_of(look.severity for look in in_force), in_force[0].text
+            row.severity, row.text = worst_of(look.severity for look in in_force), in_force[0].short
         row.marks += len(in_force)
         for look in in_force[:max(0, _MOST_MARKS - len(row.lines))]:
             row.lines.extend((look.severity, f'{place_of(result.path, look.where)}: {line}') for line in look.lines)
@@ -75,22 +93,34 @@ class Table(Report):
         rows = sorted(self._rows.items(), key=lambda row: (rank(row[1].severity), row[0]))
         marked = [row for row in rows if row[1].severity is not None]
         others = [] if self.brief else rows[len(marked):]
-        wide = min(max((len(place_of(path, ())) for path, _ in (*marked, *others[:_MOST_UNMARKED])), default=0), self._width // _OF_LINE)
-        lines = [self._line(path, row, wide) for path, row in (*marked, *others[:_MOST_UNMARKED])]
+        lines = self._table([*marked, *others[:_MOST_UNMARKED]])
         if len(others) > _MOST_UNMARKED:
             lines.append(f'{"":{_WIDTH}}  and {count_of(len(others) - _MOST_UNMARKED, "more file")} without a mark')
         for _, row in () if self.brief else marked:
             lines.extend(('', *self._marks(row)))
         return [*lines, *([''] if lines else ()), *super().summary()]
 
-    def _line(self, path: str, row: _Row, wide: int) -> str:
-        """The line of a file, as wide as the terminal."""
-        name = place_of(path, ())
-        name = name if len(name) <= wide else f'..{name[2 - wide:]}'
-        more = f' (and {row.marks - 1} more)' if row.marks > 1 else ''
-        room = max(10, self._width - _WIDTH - wide - 4 - len(more))
-        text = row.text if len(row.text) <= room else f'{row.text[:room - 2]}..'
-        return f'{self._coloured(row.severity, f"{row.severity or _NO_MARK:{_WIDTH}}")}  {name:{wide}}  {text}{more}'.rstrip()
+    def _table(self, rows: Sequence[Tuple[str, _Row]]) -> List[str]:
+        """A line for each file, below a line that says what stands where."""
+        if not rows:
+            return []
+        names = [place_of(path, ()) for path, _ in rows]
+        count = max(len(_HEAD[1]), *(len(str(row.marks)) for _, row in rows))
+        begin = _WIDTH + 2 + count + 2  # (where the names of files begin)
+        room = self._width // _OF_LINE - len('  ')
+        wide = max(len(_HEAD[2]), *(len(name) if len(name) <= room else 0 for name in names))
+        lines = [f'{_HEAD[0]:{_WIDTH}}  {_HEAD[1]:>{count}}  {_HEAD[2]:{wide}}  {_HEAD[3]}']
+        for name, (_, row) in zip(names, rows):
+            first, *more = _wrapped(row.text, self._width - begin - wide - 2)
+            severity = self._coloured(row.severity, f'{row.severity or _NO_MARK:{_WIDTH}}')
+            head = f'{severity}  {row.marks or "":>{count}}  {name:{wide}}'
+            below = ' ' * (begin + wide + 2)
+            if len(name) > wide:
+                lines.extend((head, *([f'{below}{first}'] if first else ())))
+            else:
+                lines.append(f'{head}  {first}'.rstrip())
+            lines.extend(f'{below}{line}' for line in more)
+        return lines
 
     def _marks(self, row: _Row) -> List[str]:
         """The marks of a file, each with its calls."""

@@ -54,7 +54,8 @@ def _marks_in(path: str, most: int) -> List[Any]:
             content = file.read(most + 1)
         made = json.loads(content) if len(content) <= most else None
     except OSError as error:
-        raise BadPolicy(f'{shown(path)}: {error.strerror}') from error
+        more = '; --write-baseline writes it' if isinstance(error, FileNotFoundError) else ''
+        raise BadPolicy(f'{shown(path)}: {error.strerror}{more}') from error
     except (ValueError, RecursionError):
         made = None
     if not isinstance(made, dict) or made.get('picklestep-baseline') != _VERSION or not isinstance(made.get('marks'), list):

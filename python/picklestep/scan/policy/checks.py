@@ -1,38 +1,116 @@
-"""What is odd about a policy: what no file needs, what has ended, and what hides another."""
+"""What is odd about a policy: what nothing uses, what has ended, and what hides another."""
 
 from __future__ import annotations
 
 import datetime
-import hashlib
-import os
-from typing import Dict, Iterator, Optional, Sequence, Set
+from dataclasses import dataclass, field
+from typing import Dict, Iterator, List, Optional, Set
 
 from ...wording import shown
-from ..wording import count_of
+from ..looks import Look
+from ..results import Result
+from ..severity import UNREAD
+from ..wording import count_of, place_of
 from .baseline import Baseline
 from .index import inner_path
-from .judging import is_about
-from .model import Policy, PolicyException
+from .judging import PolicyJudges, is_about
+from .model import Policy, PolicyException, Target
 
-__all__ = ['faults']
+__all__ = ['Used', 'faults']
 
 # An exception that ends within so many days is named.
 _SOON = 30
 
 
-def faults(policy: Policy, files: Sequence[str], today: datetime.date) -> Iterator[str]:
-    """A line for each thing that is odd. Without files nothing is said of what they would use."""
-    inner = {path: inner_path(policy.root, path) for path in files}
-    yield from _of_rules(policy, inner)
-    yield from _of_exceptions(policy, today)
-    if files:
-        digests = _digests(policy, files)
+@dataclass
+class _Use:
+    """What an exception is used for: whether it is about a file, whether some of that was not looked at, how many marks it is about, how many of these
+    it takes, and what takes the others before it."""
+
+    is_met: bool = False
+    is_unsure: bool = False
+    marks: int = 0
+    own: int = 0
+    before: Set[str] = field(default_factory=set)
+
+
+class Used:
+    """What files, servers and URLs use of a policy."""
+
+    def __init__(self, judges: PolicyJudges) -> None:
+        self._judges = judges
+        # Each path, and where it is in the folder of the policy.
+        self.inner: Dict[str, Optional[str]] = {}
+        self.digests: Set[str] = set()
+        # What cannot be read, and why.
+        self.errors: Dict[str, str] = {}
+        self._uses = {each.place: _Use() for each in judges.policy.exceptions}
+
+    def of(self, exception: PolicyException) -> _Use:
+        """What an exception is used for."""
+        return self._uses[exception.place]
+
+    def add(self, result: Result) -> None:
+        """Counts what a file uses."""
+        judges = self._judges
+        self.inner[result.path] = inner_path(judges.policy.root, result.path)
+        self.digests.add(result.digest)
+        if result.error is not None:
+            self.errors[result.path] = result.error
+        exceptions = judges.exceptions_of(result)
+        looks = list(judges.of(result.path).looks(result)) if exceptions else []
+        for each in exceptions:
+            use = self.of(each)
+            use.is_met = True
+            use.is_unsure = use.is_unsure or any(look.severity == UNREAD for look in looks)
+        for look in looks:
+            self._add(result, look, exceptions)
+
+    def _add(self, result: Result, look: Look, exceptions: List[PolicyException]) -> None:
+        """Counts a mark for the exceptions that are about it. A baseline takes it before them, and the first that has not ended before the others."""
+        taken = 'the baseline' if self._judges.is_in_baseline(result, look) else ''
+        for each in exceptions:
+            if each.is_about(look):
+                use = self.of(each)
+                use.marks += 1
+                use.own += not taken
+                if taken:
+                    use.before.add(taken)
+                elif not each.has_ended(self._judges.today):
+                    taken = each.place
+
+
+def faults(policy: Policy, used: Optional[Used], today: datetime.date) -> Iterator[str]:
+    """A line for each thing that is odd. Where nothing was looked at, nothing is said of what is used."""
+    if used is not None:
+        yield from (f'{place_of(path, ())}: cannot be read, so nothing is said of what it would use: {shown(why)}' for path, why in used.errors.items())
+    yield from _of_rules(policy, used.inner if used is not None else {})
+    hidden: Set[str] = set()
+    yield from _of_exceptions(policy, today, hidden)
+    if used is not None:
         for each in policy.exceptions:
-            if not _is_used(each, inner, digests):
-                yield f'{each.place} ({shown(each.about())}): no file has it'
-        gone = set(Baseline(map(str, policy.baselines)).digests) - digests
+            why = _why_unused(each, used.of(each))
+            if why and each.place not in hidden:
+                yield f'{each.place} ({shown(each.about())}): {why}'
+        gone = set(Baseline(map(str, policy.baselines)).digests) - used.digests
         if gone:
             yield f'baseline: {count_of(len(gone), "file")} of it {"is" if len(gone) == 1 else "are"} no longer there'
+
+
+def _none_has(target: Target) -> str:
+    """That nothing is there which something is about."""
+    return 'no file has it' if target.paths or not target.servers else 'no server and no URL has it that you gave'
+
+
+def _why_unused(each: PolicyException, use: _Use) -> str:
+    """Why an exception takes no mark; '' where it takes one, or where that is not known."""
+    if not use.is_met:
+        return _none_has(each.target)
+    if use.own or use.is_unsure:
+        return ''
+    if not use.marks:
+        return 'nothing is marked there that it takes'
+    return f'{" and ".join(sorted(use.before))} hides it, which takes all of its marks'
 
 
 def _of_rules(policy: Policy, inner: Dict[str, Optional[str]]) -> Iterator[str]:
@@ -49,14 +127,15 @@ def _of_rules(policy: Policy, inner: Dict[str, Optional[str]]) -> Iterator[str]:
     taken: Set[str] = set()
     for rule in reversed(policy.rules):
         found = {path for path, place in inner.items() if is_about(rule.target, path, place)}
-        if not found and not rule.target.servers:
-            yield f'{rule.place} ({shown(str(rule.target))}): no file has it'
+        if not found:
+            yield f'{rule.place} ({shown(str(rule.target))}): {_none_has(rule.target)}'
         elif found and found <= taken:
             yield f'{rule.place} ({shown(str(rule.target))}): later rules hide it, which are about all of its files'
         taken |= found
 
 
-def _of_exceptions(policy: Policy, today: datetime.date) -> Iterator[str]:
+def _of_exceptions(policy: Policy, today: datetime.date, hidden: Set[str]) -> Iterator[str]:
+    """What is odd about exceptions, whatever the files are. Those that another hides are put into `hidden`."""
     seen: Dict[object, PolicyException] = {}
     for each in policy.exceptions:
         about = shown(each.about())
@@ -67,28 +146,7 @@ def _of_exceptions(policy: Policy, today: datetime.date) -> Iterator[str]:
         if not each.digest and each.names is None and not each.rules:
             yield f'{each.place} ({about}): it takes whatever is marked there, also in a new file: name a sha256, or names or rules'
         target = (each.target.paths, each.target.servers, each.digest)
-        if target in seen and seen[target].names is None and not seen[target].rules:
+        if target in seen and seen[target].names is None and not seen[target].rules and not seen[target].has_ended(today):
+            hidden.add(each.place)
             yield f'{each.place} ({about}): {seen[target].place} hides it, which takes all marks of the same files'
         seen.setdefault(target, each)
-
-
-def _digests(policy: Policy, files: Sequence[str]) -> Set[str]:
-    """The digests of files, where something asks for these."""
-    if not policy.baselines and not any(each.digest for each in policy.exceptions):
-        return set()
-    return {_digest(path) for path in files if os.path.isfile(path)}
-
-
-def _digest(path: str) -> str:
-    made = hashlib.sha256()
-    with open(path, 'rb') as file:
-        for piece in iter(lambda: file.read(1 << 20), b''):
-            made.update(piece)
-    return made.hexdigest()
-
-
-def _is_used(each: PolicyException, inner: Dict[str, Optional[str]], digests: Set[str]) -> bool:
-    """Whether there is a file that an exception is about. (Servers are not asked.)"""
-    if each.digest:
-        return each.digest in digests
-    return bool(each.target.servers) or any(is_about(each.target, path, place) for path, place in inner.items())

@@ -130,16 +130,17 @@ def _tables(value: Any, place: str) -> List[_Table]:
 def _load(path: Path) -> Dict[str, Any]:
     """The table of a file. Raises BadPolicy where it is none."""
     toml = _toml()
+    if not path.is_file():
+        raise BadPolicy(f'{shown(str(path))}: there is no such file')
     try:
-        if not path.is_file():
-            raise BadPolicy(f'{shown(str(path))}: there is no such file')
         with open(path, 'rb') as file:
             content = file.read(_MOST_BYTES + 1)
-        if len(content) > _MOST_BYTES or any(line.count(b'.') > _MOST_DOTS for line in content.splitlines()):
-            raise BadPolicy(f'{shown(str(path))}: a policy has up to {_MOST_BYTES:,} bytes, and a line of it up to {_MOST_DOTS} dots')
-        made: Dict[str, Any] = toml.loads(content.decode('utf-8'))
     except OSError as error:
         raise BadPolicy(f'{shown(str(path))}: {error.strerror}') from error
+    if len(content) > _MOST_BYTES or any(line.count(b'.') > _MOST_DOTS for line in content.splitlines()):
+        raise BadPolicy(f'{shown(str(path))}: a policy has up to {_MOST_BYTES:,} bytes, and a line of it up to {_MOST_DOTS} dots')
+    try:
+        made: Dict[str, Any] = toml.loads(content.decode('utf-8'))
     except ValueError as error:  # (no UTF-8, no TOML, or a number of too many digits)
         raise BadPolicy(f'{shown(str(path))}: {shown(str(error))}') from error
     except RecursionError:

@@ -11,14 +11,13 @@ from ... import __version__
 from ...errors import PicklestepError
 from ...place import commit
 from ...python_source import source
-from ..blobs import Limits
 from ..finder import content_at
-from ..looking import Options
-from ..looks import Look
+from ..looking import Options, look_at_bytes
+from ..looks import Look, call_text
 from ..other_forms import named_forms
 from ..results import Result
 from ..severity import STEPS, rank, worst_of
-from ..wording import count_of, place_of
+from ..wording import count_of, place_of, shown
 
 __all__ = ['About', 'Findings', 'Row']
 
@@ -96,12 +95,24 @@ class Findings:
         return Counter(row.severity for row in self._rows.values() if row.severity is not None)
 
     def with_sources(self) -> List[Row]:
-        """The rows, with the source of the pickles that the worst marks are about."""
+        """The rows, with the source of the pickles that the worst marks are about, and with the calls of these marks in full."""
         rows = self.rows()
         for number, row in enumerate(rows[:_MOST_SOURCES]):
             if row.looks and row.looks[0].name:
-                rows[number] = replace(row, source=_source_of(row.path, row.looks[0], self._options.limits))
+                rows[number] = self._with_source(row)
         return rows
+
+    def _with_source(self, row: Row) -> Row:
+        worst, *others = row.looks
+        try:
+            content = content_at(row.path, worst.where, _LARGEST + 1, self._options.limits)
+        except (OSError, ValueError, PicklestepError):
+            content = None
+        if content is None:
+            return row
+        if len(content) <= _LARGEST:
+            worst = _in_full(worst, content, self._options)
+        return replace(row, source=_source_of(content[:_LARGEST]), looks=(worst, *others))
 
     def summary(self) -> str:
         """The counts, in a line."""
@@ -141,11 +152,24 @@ def _kind(result: Result) -> str:
     return ', '.join(parts)
 
 
-def _source_of(path: str, look: Look, limits: Limits) -> str:
-    """The pickle that a mark is about as Python source, as far as it is shown. Empty where it cannot be had."""
+def _in_full(look: Look, content: bytes, options: Options) -> Look:
+    """A mark with its calls in full, as far as they are shown: the program is asked again about the pickle that it is about."""
+    if not any('+' in call for call in look.calls):  # (which stands where something is cut)
+        return look
+    limits = replace(options.limits, seconds=_SECONDS)
+    result = look_at_bytes('.pkl', content, Options(limits, full=True))
+    whole: Dict[str, str] = {}
+    for done in (done for pickle in result.pickles if not pickle.where for done in pickle.calls if done.name in ('', look.name)):
+        text = call_text(done)
+        whole[text[:len(text) - len(shown(done.text))]] = text
+    calls = [next((text for begin, text in whole.items() if call.startswith(begin)), call) for call in look.calls]
+    return replace(look, calls=tuple(map(_cut, calls)))
+
+
+def _source_of(content: bytes) -> str:
+    """A pickle as Python source, as far as it is shown. Empty where it cannot be had."""
     try:
-        content = content_at(path, look.where, _LARGEST, limits)
-        text = source(content, full=False, many=True, timeout=_SECONDS, memory=_MEMORY).text if content is not None else ''
+        text = source(content, full=False, many=True, timeout=_SECONDS, memory=_MEMORY).text
     except (OSError, ValueError, PicklestepError):
         return ''
     return text if len(text) <= _MOST_SOURCE else f'{text[:_MOST_SOURCE]}\n.. {len(text) - _MOST_SOURCE:,} letters more'

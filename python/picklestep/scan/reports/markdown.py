@@ -5,7 +5,7 @@ from __future__ import annotations
 import re
 from typing import Iterator, List
 
-from ..advice import ADVICE, commands_for
+from ..advice import advice_for, commands_for
 from ..severity import STEPS
 from ..wording import place_of, shown
 from .findings import About, Findings, Row
@@ -75,7 +75,7 @@ def _details(row: Row) -> Iterator[str]:
     yield from (f'## {row.severity}: {_code(_short(row.path))}', '')
     facts = (('SHA-256', row.digest), ('Size', f'{row.size:,} bytes' if row.size else ''), ('Kind', row.kind))
     yield from (f'- {name}: {_code(value)}' for name, value in facts if value)
-    yield from (f'- {ADVICE[worst.rule]}', *(f'- {_code(command)} shows more.' for command in commands_for(row.path, worst)), '')
+    yield from (f'- {advice_for(worst)}', *(f'- {_code(command)} shows more.' for command in commands_for(row.path, worst)), '')
     lines = [f'{look.severity}: {place_of(row.path, look.where)}: {line}' for look in row.looks for line in look.lines]
     yield from _block([*lines, *([f'.. {row.more:,} marks more'] if row.more else ())])
     yield ''

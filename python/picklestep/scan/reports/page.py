@@ -5,7 +5,7 @@ from __future__ import annotations
 import html
 from typing import Iterable, Iterator, List
 
-from ..advice import ADVICE, commands_for
+from ..advice import advice_for, commands_for
 from ..looks import RULES
 from ..severity import STEPS
 from ..wording import place_of, shown
@@ -77,7 +77,7 @@ def _details(row: Row) -> Iterator[str]:
     worst = row.looks[0]
     yield f'<details><summary><b class="{row.severity}">{row.severity}</b> {_path(row.path)}: {_text(worst.text[:_MOST_PATH])}</summary>\n<table>\n'
     facts = (('File', row.path), ('SHA-256', row.digest), ('Size', f'{row.size:,} bytes' if row.size else ''), ('Kind', row.kind),
-             ('Why', RULES[worst.rule]), ('What to do', ADVICE[worst.rule]))
+             ('Why', RULES[worst.rule]), ('What to do', advice_for(worst)))
     yield from (f'<tr><th>{name}</th><td>{_text(value)}</td></tr>\n' for name, value in facts if value)
     commands = commands_for(row.path, worst)
     if commands:
