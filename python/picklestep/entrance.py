@@ -17,7 +17,7 @@ _HERE = os.path.dirname(os.path.realpath(__file__))
 # Each word of the program has a page here, by which it is known.
 _PAGES = os.path.join(_HERE, 'help')
 # The words of this package, and the modules that do them.
-_OWN = {'diff': 'diff', 'mend': 'mend', 'policy': 'scan.policy.command', 'scan': 'scan', 'shell': 'shell', 'source': 'python_source', 'view': 'view'}
+_OWN = {'dap': 'dap', 'diff': 'diff', 'mend': 'mend', 'policy': 'scan.policy.command', 'scan': 'scan', 'shell': 'shell', 'source': 'python_source', 'view': 'view'}
 _MOST_WRONG = 2  # letters that are taken for a slip
 _ASKS_HELP = ('--help', '-h')
 

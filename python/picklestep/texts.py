@@ -17,7 +17,7 @@ from .records import Argument, Change, End, Item, Object, Opcode, Shown
 __all__ = ['BYTES_CUT', 'Closing', 'FRAME_SIZE', 'HELD', 'Heading', 'HeldObject', 'ITEMS', 'ITEM_IN_BYTES', 'ItemKind', 'KindState', 'Line',
            'LineReader', 'LinesError', 'MARK', 'MOST_OFFSET', 'NAMED_BY_TEXTS', 'NumberOfKind', 'OBJECTS', 'OFFSET_IN_BYTES', 'OPCODES', 'REACH',
            'REACH_BEGINS', 'REACH_WORD', 'SHOWN', 'ShownStorage', 'TEXT_NEXT', 'UNIT', 'VALUES_CUT', 'argument_at', 'as_made', 'before_headings',
-           'begins_with_offset', 'behind_word', 'broken_places', 'closing_of', 'code_of', 'container_in', 'counts_in', 'end_of', 'end_of_line',
+           'begins_with_offset', 'behind_word', 'broken_places', 'closing_of', 'code_of', 'count_held', 'container_in', 'counts_in', 'end_of', 'end_of_line',
            'end_of_texts', 'filled_in', 'frame_length', 'frames_in', 'given_in', 'has_key', 'headings_in', 'held_in', 'holding', 'is_object_at',
            'key_in', 'kind_in', 'kinds_in', 'left_in', 'line_of', 'lines_with_offsets', 'lowered', 'made_by', 'moved_line', 'number_of',
            'object_of', 'offset_at', 'offset_of_item', 'opcode_of', 'pattern_of_line', 'persistent_lines', 'readonly_count', 'refused',
@@ -530,6 +530,17 @@ def held_in(heap: Union[bytes, bytearray], start: int, end: int) -> Iterator[Hel
     [('', 1), ('append', 4)]
     """
     return (HeldObject(_HOW.get(match[1][-1:], ''), int(match[2])) for match in HELD.finditer(heap, start, end))
+
+
+def count_held(heap: Union[bytes, bytearray], start: int, end: int, in_pairs: bool) -> int:
+    """How many of these there are, where each key counts as one with its value; with `in_pairs` also in what the object was made of.
+
+    >>> count_held(b'#5 dict (#1 #2) [#3]=#4', 0, 23, in_pairs=True)
+    2
+    """
+    first = max(heap.find(b' ', start, end), start)
+    made_of = heap.count(b'#', first, max(first, heap.find(b')', first, end))) if in_pairs else 0
+    return heap.count(b'#', first, end) - heap.count(b'[#', first, end) - made_of // 2
 
 
 def is_object_at(lines: Union[bytes, bytearray], start: int) -> bool:

@@ -25,10 +25,11 @@ from examples_of_using import stories
 from picklestep.shell.complete import completions
 from picklestep.shell.explain import EFFECTS, EXPLAINED
 from picklestep.shell.opened import Opened
+from picklestep.shell.plain import PLAIN
 from picklestep.shell.shell import Shell, WordError
-from picklestep.shell.words import SAMPLE, WORDS
+from picklestep.shell.words import OTHERS, SAMPLE, WORDS, whole_word
 from picklestep.view.document import Document
-from pickles import changed_pickles, chosen, real_pickles
+from pickles import ROOT, changed_pickles, chosen, real_pickles
 from terminals import Terminal, heed_ctrl_c
 
 _QUESTION = '(yes/no) '
@@ -295,6 +296,77 @@ class Words(unittest.TestCase):
                     shell.obey(line)
                     shell.obey('calls')  # (which waits until the pickle is read)
             self.assertEqual((shell.obey('break'), shell.pickle.content()), (before, SAMPLE), line)
+
+    def test_words_of_other_debuggers(self) -> None:
+        """Each does what the shell's own word does."""
+        for typed, own in (('n', 'over'), ('next', 'over'), ('stepi', 'step'), ('si', 'step'), ('finish', 'out'), ('return', 'out'), ('reverse-step', 'back'),
+                           ('rn', 'back'), ('reverse-continue', 'run back'), ('cont', 'run'), ('start', 'goto 0'), ('jump 3', 'goto 3'),
+                           ('advance 9', 'until 9'), ('print 2', 'show 2'), ('print #2', 'show 2'), ('whatis 2', 'show 2'), ('bt', 'stack'), ('disas', 'list'),
+                           ('disassemble 2 4', 'list 2 4'), ('info breakpoints', 'break'), ('info b', 'break'), ('info stack', 'stack'), ('info frame', 'where'),
+                           ('info var', 'memo'), ('info functions', 'calls'), ('x/16xb @23', 'hex @23 16'), ('x/4xw 0x17', 'hex @23 16'),
+                           ('x/3i @2', 'list 1 3'), ('x/2i $pc', 'list 8 9'), ('list .', 'list 8'), ('break *0x17', 'break @23'), ('watch 3', 'break change 3'),
+                           ('rwatch 2', 'break memo 2'), ('search bob', 'find bob')):
+            answers = []
+            for line in (typed, own):
+                shell = self.shell(SAMPLE)
+                shell.obey('goto 8')
+                answers.append((shell.obey(line), shell.pickle.session.where(), [str(point) for point in shell.breaks]))
+            self.assertEqual(*answers, typed)
+        shell = self.shell(SAMPLE)
+        shell.obey('break 3')
+        self.assertEqual((shell.obey('disable 1'), shell.obey('enable 1')), ('1: at 3 (off)', '1: at 3'))
+        for line in ('info', 'info nothing', 'x/', 'x/5z_ 3'):
+            with self.assertRaises(WordError):
+                shell.obey(f'{line} here')
+        for word in OTHERS:
+            self.assertNotIn(word, WORDS)
+            self.assertIn(WORDS[whole_word(word)[0]].page, shell.obey(f'help {word}'))
+
+    def test_bytes_from_any_offset(self) -> None:
+        shell = self.shell(SAMPLE)
+        self.assertEqual(shell.obey('hex @3 4'), f'      3: {SAMPLE[3:7].hex(" "):47}  {SAMPLE[3:7].decode()}')
+        self.assertEqual(bytes.fromhex(''.join(row[9:56] for row in shell.obey('x/600xb @0').split('\n'))), SAMPLE)
+        self.assertIn('there are 42 bytes', shell.obey('x/1xb @42'))
+
+    def test_over_and_out(self) -> None:
+        shell = self.shell(b'N(K\1(K\2K\3K\4K\5t(K\6K\7lt0.')
+        self.assertEqual([opcode.name for opcode, _, _ in pickletools.genops(shell.pickle.content())][8:14], ['TUPLE', 'MARK', 'BININT1', 'BININT1', 'LIST', 'TUPLE'])
+        found = []
+        for line in ('over', 'over', 'back 12', 'over', 'over', 'back 2', 'out', 'out', 'goto 4', 'break 6', 'out', 'clear 1', 'out', 'out', 'over'):
+            shell.obey(line)
+            found.append(self.place(shell))
+        self.assertEqual(found, [1, 14, 2, 3, 9, 7, 9, 14, 4, 4, 6, 6, 9, 14, 15])
+        shell.obey('over')
+        with self.assertRaisesRegex(WordError, 'C2'):
+            shell.obey('over')
+
+    def test_breaks_on_changes(self) -> None:
+        data = b']q\0]q\1K\1aK\2a0h\0(K\3K\4eh\0K\5a0.'
+        known = [(opcode.name, offset) for opcode, _, offset in pickletools.genops(data)]
+        changes = [offset for name, offset in known if name.startswith('APPEND')]
+        for line, wanted in (('change 1', changes[:2]), ('change 0', changes[2:]), ('change 2', []), ('change 99', []), ('store 1', [4]), ('store 9', []),
+                             ('memo 0', [offset for name, offset in known if offset == 1 or name == 'BINGET'])):
+            self.assertEqual(self.stops(self.shell(data), f'break {line}'), wanted, line)
+
+    def test_codes_have_sentences(self) -> None:
+        shell = self.shell(b'NN000.')
+        for line, wanted in (('back', 'C1 at the start (You are at the start.)'), ('goto 99', 'C4 no such place (The pickle has no opcode there.)'),
+                             ('undo', 'C6 nothing to undo (Nothing was edited.)'), ('delete 5', 'C9 E2 stop item (The STOP of a pickle stays.)')):
+            with self.assertRaises(WordError) as caught:
+                shell.obey(line)
+            self.assertEqual(str(caught.exception), f'refused: {wanted}')
+        sentence = 'S2 stack underflow (The stack has fewer objects than the opcode takes.)'
+        self.assertTrue(shell.obey('run').startswith(f'refused, {sentence}\n'))
+        self.assertIn(f'it is refused here: {sentence}', shell.obey('explain'))
+        with self.assertRaisesRegex(WordError, r'C3 item 4: S2 stack underflow \(The stack'):
+            shell.obey('step')
+        shell = self.shell(b'N.')
+        shell.obey('run')
+        with self.assertRaisesRegex(WordError, r'C2 at the end, stopped \(You are at the end\.\)$'):
+            shell.obey('step')
+        # Each code of the page is one that CODES has.
+        known = set(re.findall(r'^- \*\*([A-Z][0-9]+) ', (ROOT / 'docs' / 'CODES.md').read_text(encoding='utf-8'), re.MULTILINE))
+        self.assertLessEqual(set(PLAIN), known)
 
     def test_depth(self) -> None:
         shell = self.shell(b'((N1N0N.')

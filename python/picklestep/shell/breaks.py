@@ -1,8 +1,8 @@
-"""Breakpoints: on a place, an opcode, an import, a call, a text, a memo key, or a number of open marks."""
+"""Breakpoints: on a place, an opcode, an import, a call, a text, a memo key, a change of an object or a key, or a number of open marks."""
 
 from __future__ import annotations
 
-from bisect import bisect_left
+from bisect import bisect_left, bisect_right
 from dataclasses import dataclass
 from fnmatch import fnmatchcase
 from heapq import merge
@@ -14,10 +14,12 @@ from ..view.document import around, in_a_line
 from ..view.lines import CODE_BY_NAME
 from .opened import Opened
 
-__all__ = ['Break', 'BREAKS', 'next_break']
+__all__ = ['BREAKS', 'Break', 'OF_NUMBERS', 'is_hit', 'next_break']
 
 _IMPORTS = ('import', 'inst')
 _CALLS = ('inst', 'call', 'new')
+# The kinds that take a number.
+OF_NUMBERS = frozenset(('at', 'memo', 'store', 'change', 'depth'))
 
 
 @dataclass
@@ -56,6 +58,15 @@ def _memo(pickle: Opened, text: str, place: int, step: int) -> Iterator[int]:
     return (at for at in around(pickle.lines, text.encode('ascii', 'replace'), place, step) if has_key(pickle.lines.at(at), text))
 
 
+def _store(pickle: Opened, text: str, place: int, step: int) -> Iterator[int]:
+    return (at for at in _memo(pickle, text, place, step) if not pickle.lines.at(at).name.endswith('GET'))
+
+
+def _change(pickle: Opened, text: str, place: int, step: int) -> Iterator[int]:
+    places = pickle.changers(int(text)) if pickle.maker(int(text)) is not None else []
+    return iter(places[bisect_left(places, place):] if step > 0 else places[:bisect_right(places, place)][::-1])
+
+
 def _depth(pickle: Opened, text: str, place: int, step: int) -> Iterator[int]:
     found = around(pickle.lines, b' ' * (4 * int(text) + 1), place, step)
     return (at for at in found if pickle.lines.at(at).marks >= int(text))
@@ -90,7 +101,8 @@ def dotted(name: Name) -> str:
 
 
 BREAKS: Dict[str, Callable[[Opened, str, int, int], Iterator[int]]] = {
-    'at': _at_place, 'opcode': _opcode, 'import': _reached(_IMPORTS), 'call': _reached(_CALLS), 'text': _text, 'memo': _memo, 'depth': _depth}
+    'at': _at_place, 'opcode': _opcode, 'import': _reached(_IMPORTS), 'call': _reached(_CALLS), 'text': _text, 'memo': _memo, 'store': _store,
+    'change': _change, 'depth': _depth}
 
 
 def next_break(pickle: Opened, breaks: 'list[Break]', place: int, step: int) -> Optional[int]:
@@ -101,3 +113,8 @@ def next_break(pickle: Opened, breaks: 'list[Break]', place: int, step: int) -> 
         if found is not None and (nearest is None or (found - nearest) * step < 0):
             nearest = found
     return nearest
+
+
+def is_hit(pickle: Opened, point: Break, place: int) -> bool:
+    """Whether a breakpoint is at a place."""
+    return point.is_on and next(BREAKS[point.what](pickle, point.text, place, 1), None) == place

@@ -12,11 +12,11 @@ from ..changes import changed
 from ..comparing import shown_value
 from ..errors import NoResult, Refused
 from ..python_source.shapes import BRACKETS
-from ..records import Global, Object, Reach, Ref
+from ..records import Global, Object, Reach, Ref, Where
 from ..replies import opcode_refused_in, words_of
 from ..session import SHIFTS
 from ..sources import Input, Source
-from ..texts import LinesError, behind_word, key_in, object_of
+from ..texts import LinesError, behind_word, count_held, end_of_texts, held_in, key_in, object_of
 from ..values import PLAIN_KINDS, kind_value
 from ..view.document import Document, Done, Reaches, places_edited
 from ..view.lines import CODE_BY_NAME, Line, Lines, OpcodeLines
@@ -529,6 +529,12 @@ class Opened(Document):
         """The edits that are not undone."""
         return tuple(self._edits)
 
+    def at_cursor(self) -> Where:
+        """Where the session is. From here on objects are shown as they are there."""
+        where = self.session.where()
+        self.place, self._heap = where.place, None
+        return where
+
     # --- Objects by their values ---
 
     def object_at(self, number: int) -> Optional[Object]:
@@ -545,6 +551,35 @@ class Opened(Document):
         """The number of the object that the opcode at a place makes, if it makes one."""
         number = self._makers.before(place)
         return number if number < min(len(self._final), self._makers.before(place + 1)) else None
+
+    def held(self, number: int) -> Iterator[Tuple[Optional[int], str, int]]:
+        """What an object holds: for each the object that is its key, if it has one, how it was put in, and its number."""
+        heap = self._objects()
+        begin, end = self._held_span(number)
+        keys: List[int] = []
+        is_dict = self._is_dict(number)
+        for place, held in enumerate(held_in(heap.text, begin, end)):
+            if held.how == 'key' or is_dict and not held.how and not place % 2:
+                keys.append(held.number)
+            else:
+                yield keys.pop() if keys else None, held.how, held.number
+
+    def held_count(self, number: int) -> int:
+        """How many there are of these."""
+        heap = self._objects()
+        begin, end = self._held_span(number)
+        return count_held(heap.text, begin, end, self._is_dict(number))
+
+    def _held_span(self, number: int) -> Tuple[int, int]:
+        """Where the line of an object names what it holds."""
+        heap = self._objects()
+        if not 0 <= number < len(heap):
+            return 0, 0
+        begin, end = heap.span(number)
+        return end_of_texts(heap.text, begin, end) + 1, end
+
+    def _is_dict(self, number: int) -> bool:
+        return self.brief(number).partition(' ')[0] == 'dict'
 
     def final_object(self, number: int) -> Optional[Object]:
         """An object as it is at the end, unless its line is long."""

@@ -21,13 +21,15 @@ from ..sources import Source
 from ..texts import LinesError, opcode_of
 from ..view.document import Done
 from ..view.lines import line_of
-from .breaks import BREAKS, Break, next_break
+from .breaks import BREAKS, OF_NUMBERS, Break, next_break
 from .between import Unknown, line_put
 from .edits import OPCODES, EditError, of_object, of_value, of_words, unquoted
 from .explain import EFFECTS, EXPLAINED, taken
+from .nests import behind_mark, behind_next
 from .opened import Edit, Opened
+from .plain import plainly
 from .renames import Renaming, names_of, renaming
-from .words import WORDS, help_page, help_pages, whole_word
+from .words import WORDS, help_page, help_pages, understood, whole_word
 
 __all__ = ['Shell', 'WordError']
 
@@ -37,6 +39,9 @@ _MOST_STACK = 3
 _MOST_TAKEN = 4
 _MOST_BYTES = 256
 _TAKES = {'opcode': 'the name of one', 'import': 'a pattern, as os.*', 'call': 'a pattern, as os.*'}
+# The cursor, as a place, and how other places are typed.
+_CURSOR = ('', '.', '$pc')
+_PLACE = re.compile(r'[@*]?(?:0x[0-9a-fA-F]+|[0-9]+)')
 # Words that do nothing without what comes after them.
 _NEED = frozenset('goto until go clear off on find who show replace insert set rename frame'.split())
 _SHOW_OBJECTS = frozenset('step back goto until run go where explain show stack memo objects'.split())
@@ -64,7 +69,7 @@ class Shell:
         """`container` is the file that the pickle was opened in, which is not written over."""
         self.pickle = Opened(pickle, path, many, unframed=unframed)
         self.pickle.container = container
-        self._modes: Dict[str, bool] = {'many': many, 'unframed': unframed}
+        self.modes: Dict[str, bool] = {'many': many, 'unframed': unframed}
         self._path = path
         self.ask = ask
         self._original = self.pickle.content()
@@ -107,12 +112,13 @@ class Shell:
         line = line.strip() or self._last
         if not line or line.startswith('#'):
             return ''
-        word, _, rest = line.partition(' ')
-        name, before = whole_word(word)
+        try:
+            name, text = understood(line)
+        except ValueError as error:
+            raise WordError(str(error)) from error
         if name not in self._words:
-            raise WordError(f'there is no word {word[:40]!r}; `help` shows them')
+            raise WordError(f'there is no word {name[:40]!r}; `help` shows them')
         self._last = line if WORDS[name].is_again else ''
-        text = f'{before} {rest}'.strip()
         if not text and name in _NEED or text and WORDS[name].usage == name:
             raise WordError(f'it is: {WORDS[name].usage}')
         try:
@@ -123,7 +129,7 @@ class Shell:
             self._check_names()  # (of a rename that was interrupted)
             return self._words[name](text) + self._note(name)
         except Refused as error:
-            raise WordError(f'refused: {error.text}') from error
+            raise WordError(f'refused: {plainly(error.text)}') from error
         except (EditError, ValueError, TypeError, OverflowError, OSError, PicklestepError) as error:
             raise WordError(str(error)) from error
         except Exception as error:  # (edits are not lost for what went wrong in one word)
@@ -146,6 +152,11 @@ class Shell:
                 self.pickle.session.goto(here)
                 raise
 
+    def settled(self) -> Opened:
+        """The pickle, once it is read after an edit."""
+        self._settle()
+        return self.pickle
+
     def _settle(self) -> None:
         """Waits until the pickle is read after an edit. Where that fails, the edit was taken back, and breaks are where they were."""
         (moves, shown, hidden), self._moved = self._moved, ([], [], [])
@@ -162,13 +173,12 @@ class Shell:
 
     def _place(self, text: str) -> int:
         """A place as it is typed: a number, an offset after @, or nothing for the cursor."""
-        if not text:
+        if text in _CURSOR:
             return self.pickle.session.where().place
-        match = re.fullmatch(r'(@?)([0-9]+)', text)
-        if match is None:
+        if _PLACE.fullmatch(text) is None:
             raise WordError(f'{text[:40]!r} is no place: give a number, or an offset after @')
-        number = int(match[2])
-        if not match[1]:
+        number = _number(text)
+        if not _is_offset(text):
             return number
         if number == len(self.pickle.content()):
             return len(self.pickle.lines)
@@ -198,8 +208,7 @@ class Shell:
 
     def _here(self, before: Optional[Tuple[int, int]] = None, why: str = '') -> str:
         """The place with its neighbours, the top of the stack, and what was made since the command began."""
-        where = self.pickle.session.where()
-        self.pickle.place, self.pickle._heap = where.place, None
+        where = self.pickle.at_cursor()
         rows = self._rows(where.place - _AROUND, where.place + _AROUND, where.place)
         if where.place == where.places:
             rows += [f'>  {where.place:>6} {where.offset:>5}: the end: {where.end.text}', *self.pickle.kept]
@@ -210,7 +219,7 @@ class Shell:
             rows += self._changed(*before, where.place, made)
         if where.results:
             rows.append(f'result: {self.pickle.described(where.results[-1])}')
-        return '\n'.join(([why] if why else []) + rows)
+        return '\n'.join(([plainly(why)] if why else []) + rows)
 
     def hints(self, offset: Optional[int] = None) -> List[str]:
         """Where else to look for what is not read here, as far as that is known at an offset."""
@@ -265,6 +274,19 @@ class Shell:
             self.pickle.session.back()
         return self._to(place - self._count(text))
 
+    def _do_over(self, text: str) -> str:
+        return self._on(behind_next)
+
+    def _do_out(self, text: str) -> str:
+        return self._on(behind_mark)
+
+    def _on(self, behind: Callable[[Opened, int], int]) -> str:
+        """Goes to the place that is behind something, or to a break before it."""
+        before = self._now()
+        if before[0] == self.pickle.session.where().places:
+            self.pickle.session.step()
+        return self._here(before, self.run(behind(self.pickle, before[0])))
+
     def _do_goto(self, text: str) -> str:
         before = self._now()
         self.pickle.session.goto(self._place(text))
@@ -280,12 +302,22 @@ class Shell:
         if text not in ('', 'back'):
             raise WordError(f'it is: {WORDS["run"].usage}')
         before = self._now()
-        found = next_break(self.pickle, self._breaks, before[0], -1 if text else 1)
         if text:
-            self.pickle.session.goto(0 if found is None else found)
-            return self._here(before, '' if found is not None else 'no break before this: the start')
-        stopped = self.pickle.run_to(found if found is not None else self.pickle.session.where().places)
-        return self._here(before, stopped)
+            return self._here(before, '' if self.run_back() else 'no break before this: the start')
+        return self._here(before, self.run())
+
+    def run(self, most: Optional[int] = None) -> str:
+        """Goes on to the next break, to a place if it comes before that, to an opcode that is refused, or to the end. Answers why it did not get there,
+        or nothing."""
+        where = self.pickle.session.where()
+        ends = [most, next_break(self.pickle, self._breaks, where.place, 1), where.places]
+        return self.pickle.run_to(min(end for end in ends if end is not None))
+
+    def run_back(self) -> bool:
+        """Goes back to the break before, or to the start. Answers whether there is one."""
+        found = next_break(self.pickle, self._breaks, self.pickle.session.where().place, -1)
+        self.pickle.session.goto(0 if found is None else found)
+        return found is not None
 
     def _do_go(self, text: str) -> str:
         return self._to(self._maker(text))
@@ -299,14 +331,22 @@ class Shell:
 
     # --- Breaks ---
 
+    @property
+    def breaks(self) -> Sequence[Break]:
+        """All breaks."""
+        return tuple(self._breaks)
+
     def _do_break(self, text: str) -> str:
         if not text:
             return '\n'.join(map(str, self._breaks)) or 'no breaks'
         what, _, rest = text.partition(' ')
         if what not in BREAKS:
             what, rest = 'at', str(self._place(text))
-        rest = rest.strip()
-        if what in ('depth', 'memo', 'at') and not rest.isdecimal():
+        return str(self.set_break(what, rest.strip()))
+
+    def set_break(self, what: str, rest: str) -> Break:
+        """Sets a break of a kind."""
+        if what in OF_NUMBERS and not rest.isdecimal():
             raise WordError(f'break {what} takes a number')
         if what == 'opcode':
             rest = rest.upper()
@@ -320,7 +360,12 @@ class Shell:
             raise WordError(f'break {what} takes {_TAKES.get(what, "a text")}')
         known = chain(self._breaks, *self._hidden, *self._hidden_back)
         self._breaks.append(Break(1 + max([point.number for point in known], default=0), what, rest))
-        return str(self._breaks[-1])
+        return self._breaks[-1]
+
+    def clear_break(self, number: int) -> None:
+        """Takes a break away, wherever it is: one whose opcode was deleted does not come back with it."""
+        for points in (self._breaks, *self._hidden, *self._hidden_back):
+            points[:] = [point for point in points if point.number != number]
 
     def _chosen(self, text: str) -> Break:
         number = self._count(text)
@@ -354,7 +399,7 @@ class Shell:
         words = text.split()
         goes_on = not words and self._listed[0] == here and self._listed[1] < len(self.pickle.lines)
         first = self._place(words[0]) if words else self._listed[1] if goes_on else max(0, here - _MOST_LINES // 2)
-        last = self._place(words[1]) + 1 if len(words) > 1 else first + _MOST_LINES
+        last = first + _MOST_LINES if len(words) < 2 else first + self._count(words[1][1:]) if words[1][:1] == '+' else self._place(words[1]) + 1
         if len(words) > 2 or first >= len(self.pickle.lines):
             raise WordError(f'it is: {WORDS["list"].usage}' if len(words) > 2 else f'there is no opcode at {first}')
         if last <= first:
@@ -388,15 +433,18 @@ class Shell:
         return '\n'.join(self._rows(found - 1, found + 2, here)) + f'\nat {found}'
 
     def _do_hex(self, text: str) -> str:
-        place = self._place(text)
+        words = text.split() or ['']
+        if len(words) > 2:
+            raise WordError(f'it is: {WORDS["hex"].usage}')
+        content = self.pickle.content()
+        if len(words) > 1 and _PLACE.fullmatch(words[0]) and _is_offset(words[0]):
+            return _bytes(content, _number(words[0]), _number(words[0]) + self._count(words[1]))
+        place = self._place(words[0])
         if place >= len(self.pickle.lines):
             raise WordError(f'there is no opcode at {place}')
         start = self.pickle.lines.offset(place)
-        content = self.pickle.content()
-        end = self.pickle.lines.offset(place + 1) if place + 1 < len(self.pickle.lines) else min(len(content), start + _MOST_BYTES)
-        shown = content[start:min(end, start + _MOST_BYTES)]
-        rows = [f'{start + at:>7}: {shown[at:at + 16].hex(" "):47}  {_letters(shown[at:at + 16])}' for at in range(0, len(shown), 16)]
-        return '\n'.join(rows + ([f'.. {end - start - len(shown)} bytes more'] if end - start > len(shown) else []))
+        after = self.pickle.lines.offset(place + 1) if place + 1 < len(self.pickle.lines) else min(len(content), start + _MOST_BYTES)
+        return _bytes(content, start, start + self._count(words[1]) if len(words) > 1 else after)
 
     def _do_explain(self, text: str) -> str:
         if text.upper() in EXPLAINED:
@@ -417,7 +465,7 @@ class Shell:
             else:
                 why = self.pickle.refusal() if is_there else ''
                 takes = EFFECTS[line.name][0] and (self._taken(line.name) if is_there and not why else EFFECTS[line.name][0])
-                rows += [f'it is refused here: {why}'] if why else [f'it takes {takes}'] if takes else []
+                rows += [f'it is refused here: {plainly(why)}'] if why else [f'it takes {takes}'] if takes else []
         return '\n'.join(rows)
 
     def _taken(self, name: str) -> str:
@@ -484,15 +532,15 @@ class Shell:
     def _do_source(self, text: str) -> str:
         if text not in ('', 'full'):
             raise WordError(f'it is: {WORDS["source"].usage}')
-        return source(self.pickle.content(), full=text == 'full', **self._modes).text.rstrip('\n')
+        return source(self.pickle.content(), full=text == 'full', **self.modes).text.rstrip('\n')
 
     # --- Edits ---
 
     def _was(self, place: int) -> str:
         return _shown(self.pickle.lines.raw(place))
 
-    def _edited(self, edits: List[Edit]) -> str:
-        """Makes edits, and says what each replaced."""
+    def edit(self, edits: List[Edit]) -> str:
+        """Makes edits, all or none, and says what each replaced."""
         known = []
         for edit in edits:
             if edit.place > len(self.pickle.lines) or (edit.word != 'insert' and edit.place == len(self.pickle.lines)):
@@ -545,29 +593,29 @@ class Shell:
 
     def _do_replace(self, text: str) -> str:
         place, rest = self._split(text)
-        return self._edited([of_words('replace', place, rest)])
+        return self.edit([of_words('replace', place, rest)])
 
     def _do_insert(self, text: str) -> str:
         place, rest = self._split(text)
-        return self._edited([of_words('insert', place, rest)])
+        return self.edit([of_words('insert', place, rest)])
 
     def _do_delete(self, text: str) -> str:
-        return self._edited([Edit('delete', self._place(text))])
+        return self.edit([Edit('delete', self._place(text))])
 
     def _do_frame(self, text: str) -> str:
         words = text.split()
         if len(words) != 2:
             raise WordError(f'it is: {WORDS["frame"].usage}')
-        return self._edited([Edit('frame', self._place(words[0]), members=self._count(words[1]))])
+        return self.edit([Edit('frame', self._place(words[0]), members=self._count(words[1]))])
 
     def _do_unframe(self, text: str) -> str:
-        return self._edited([Edit('unframe', self._place(text))])
+        return self.edit([Edit('unframe', self._place(text))])
 
     def _do_set(self, text: str) -> str:
         match = re.fullmatch(r'#?([0-9]+) to (.+)', text)
         if match is None:
             raise WordError(f'it is: {WORDS["set"].usage}')
-        return self._edited([of_object(self.pickle, int(match[1]), match[2])])
+        return self.edit([of_object(self.pickle, int(match[1]), match[2])])
 
     def _do_rename(self, text: str) -> str:
         words = text.split()
@@ -582,7 +630,7 @@ class Shell:
         shifts = [0, *accumulate(SHIFTS[edit.word] for edit in found.edits)]
         stays = [f'{place + shifts[bisect_right(places, place)]}: {self._was(place)} stays: it is data too' for place in found.stays]
         self._unchecked = found, self.pickle.edits_made
-        rows = [self._edited(found.edits), *stays]
+        rows = [self.edit(found.edits), *stays]
         self._settle()
         self._check_names()
         where = self.pickle.session.where()
@@ -627,10 +675,10 @@ class Shell:
         rows = [f'{len(self._original)} bytes -> {len(self.pickle.content())} bytes']
         rows += [self._row(place, -1) for place in sorted(self.pickle.edited)[:_MOST_LINES] if place < len(self.pickle.lines)]
         try:
-            differences = [*map(str, compare(self._original, self.pickle.content(), **self._modes))]
+            differences = [*map(str, compare(self._original, self.pickle.content(), **self.modes))]
         except NoResult as error:
             rows.append(f'the results cannot be compared: {reason(error)}')
-            differences = list(of_reaches(self._original, self.pickle.content(), self._modes['unframed']))
+            differences = list(of_reaches(self._original, self.pickle.content(), self.modes['unframed']))
         more = [f'.. {len(differences) - _MOST_LINES} more'] if len(differences) > _MOST_LINES else []
         return '\n'.join([*rows, *differences[:_MOST_LINES], *more, *self.pickle.kept])
 
@@ -660,6 +708,17 @@ class Shell:
         return help_page(name)
 
 
+def _is_offset(place: str) -> bool:
+    """Whether a place is typed as an offset: after @, or as gdb has addresses."""
+    return place.startswith(('@', '*', '0x'))
+
+
+def _number(place: str) -> int:
+    """The number in a place that is typed."""
+    digits = place.lstrip('@*')
+    return int(digits, 16 if digits.startswith('0x') else 10)
+
+
 def _latest(word: str, count: int, shown: List[str]) -> List[str]:
     """A line of the last of some things, and how many there are besides; none where there are none."""
     more = [f'{count - len(shown)} more'] if count > len(shown) else []
@@ -680,6 +739,14 @@ def _argument(line: str, shown: str) -> str:
         return shown
     is_value = not opcode.note and opcode.argument is not None and not isinstance(opcode.argument, tuple) and ' bytes more' not in shown
     return shown_value(opcode.value) if is_value else shown
+
+
+def _bytes(content: bytes, start: int, end: int) -> str:
+    """Bytes in hexadecimal and as letters, 16 in a line."""
+    shown = content[start:min(end, start + _MOST_BYTES)]
+    rows = [f'{start + at:>7}: {shown[at:at + 16].hex(" "):47}  {_letters(shown[at:at + 16])}' for at in range(0, len(shown), 16)]
+    more = min(end, len(content)) - start - len(shown)
+    return '\n'.join(rows + ([f'.. {more} bytes more'] if more > 0 else [])) or f'there are {len(content)} bytes'
 
 
 def _names(text: str) -> List[str]:

@@ -2,9 +2,10 @@
 
 from __future__ import annotations
 
+import re
 from typing import Dict, List, NamedTuple, Tuple
 
-__all__ = ['SAMPLE', 'WORDS', 'Word', 'examples', 'help_page', 'help_pages', 'whole_word']
+__all__ = ['OTHERS', 'SAMPLE', 'WORDS', 'Word', 'examples', 'help_page', 'help_pages', 'understood', 'whole_word']
 
 # The pickle of the examples: a call of a function of a module that was renamed.
 SAMPLE = b'\x80\x02coldapp.tasks\nsend\nq\x00X\x03\x00\x00\x00bobq\x01K\x03\x86q\x02Rq\x03.'
@@ -23,24 +24,27 @@ class Word(NamedTuple):
 WORDS: Dict[str, Word] = {
     'step': Word('go', 'step [N]', 'Goes over one opcode, or N. It stops before an opcode that is refused.', ('step', 'step 5'), True),
     'back': Word('go', 'back [N]', 'Goes back over one opcode, or N: stack, memo and objects are as they were.', ('step 5', 'back 2'), True),
+    'over': Word('go', 'over', 'Goes over one opcode; from one that sets a mark, past the opcode that takes this mark.', ('over',), True),
+    'out': Word('go', 'out', 'Goes past the opcode that takes the mark which was set last.', ('out',), True),
     'goto': Word('go', 'goto PLACE', 'Goes to a place. A place is the number of an opcode, or its offset after @.', ('goto 8', 'goto @2')),
     'until': Word('go', 'until PLACE', 'Goes on to a place ahead, or to an opcode before it that is refused.', ('until @33',)),
     'run': Word('go', 'run, run back', 'Goes on to the next break, a refused opcode or the end; `run back` to the break before, or the start.',
                 ('break call *', 'run', 'run back'), True),
     'go': Word('go', 'go N', 'Goes to the opcode that makes object N.', ('go 3',)),
-    'break': Word('break', 'break [PLACE | opcode NAME | import PATTERN | call PATTERN | text TEXT | memo KEY | depth N]',
-                  'Sets a break, or shows all. PATTERN is a module and a name, as os.* (or #4), and N a number of open marks.',
-                  ('break 8', 'break opcode REDUCE', 'break import oldapp.*', 'break')),
+    'break': Word('break', 'break [PLACE | opcode NAME | import PATTERN | call PATTERN | text TEXT | memo KEY | store KEY | change N | depth N]',
+                  'Sets a break, or shows all. PATTERN is a module and a name, as os.* (or #4), N an object, or a number of open marks. At `store` '
+                  'the key of the memo is set, at `memo` it is set or read.',
+                  ('break 8', 'break opcode REDUCE', 'break import oldapp.*', 'break change 3', 'break')),
     'clear': Word('break', 'clear N', 'Takes break N away.', ('break 8', 'clear 1')),
     'off': Word('break', 'off N', 'Switches break N off.', ('break 8', 'off 1', 'run')),
     'on': Word('break', 'on N', 'Switches break N on again.', ('break 8', 'off 1', 'on 1')),
     'where': Word('look', 'where', 'Shows the place with its neighbours, and the top of the stack.', ('where',)),
-    'list': Word('look', 'list [PLACE [PLACE]]', 'Shows opcodes, 20 where no end is given, each with what it imports or calls; again those behind them.',
+    'list': Word('look', 'list [PLACE [PLACE | +N]]', 'Shows opcodes, up to a place or N of them, else 20, each with what it imports or calls; again those behind them.',
              ('list 0 3',), True),
     'calls': Word('look', 'calls [N]', 'Shows what the pickle imports and calls, from line N on.', ('calls',)),
     'find': Word('look', 'find TEXT', 'Finds the next opcode that has a text in its line or argument, or an offset; again the one behind it.',
                  ('find bob',), True),
-    'hex': Word('look', 'hex [PLACE]', 'Shows the bytes of an opcode.', ('hex 1',)),
+    'hex': Word('look', 'hex [PLACE [COUNT]]', 'Shows the bytes of an opcode, or so many from its first.', ('hex 1', 'hex @2 32')),
     'explain': Word('look', 'explain [PLACE | NAME]', 'Says what an opcode does, and what it takes and makes here.', ('goto 8', 'explain')),
     'who': Word('look', 'who N', 'Shows the opcode that made object N, and each that changed it.', ('who 3',)),
     'show': Word('look', 'show N', 'Shows object N, and what it holds.', ('goto 7', 'show 3')),
@@ -71,17 +75,60 @@ WORDS: Dict[str, Word] = {
 }
 
 _SHORT: Dict[str, Tuple[str, str]] = {
-    's': ('step', ''), 'b': ('break', ''), 'c': ('run', ''), 'continue': ('run', ''), 'r': ('run', ''), 'rs': ('back', ''), 'rc': ('run', 'back'),
-    'g': ('goto', ''), 'u': ('until', ''), 'l': ('list', ''), 'p': ('show', ''), 'x': ('explain', ''), 'w': ('where', ''), 'q': ('quit', ''),
-    'h': ('help', ''), '?': ('help', ''), 'f': ('find', ''), 'items': ('list', ''), 'exit': ('quit', '')}
+    's': ('step', ''), 'n': ('over', ''), 'b': ('break', ''), 'c': ('run', ''), 'continue': ('run', ''), 'r': ('run', ''), 'rs': ('back', ''),
+    'rc': ('run', 'back'), 'g': ('goto', ''), 'u': ('until', ''), 'l': ('list', ''), 'p': ('show', ''), 'x': ('explain', ''), 'w': ('where', ''),
+    'q': ('quit', ''), 'h': ('help', ''), '?': ('help', ''), 'f': ('find', ''), 'items': ('list', ''), 'exit': ('quit', '')}
+
+# Words of gdb and pdb, and the shell's for them. (`info` and `x/` take what is behind them, too.)
+OTHERS: Dict[str, Tuple[str, str]] = {
+    'next': ('over', ''), **dict.fromkeys(('stepi', 'si', 'nexti', 'ni'), ('step', '')), **dict.fromkeys(('finish', 'return'), ('out', '')),
+    **dict.fromkeys(('reverse-step', 'reverse-stepi', 'reverse-next', 'reverse-nexti', 'rsi', 'rn', 'rni'), ('back', '')),
+    'reverse-continue': ('run', 'back'), 'cont': ('run', ''), 'start': ('goto', '0'), 'jump': ('goto', ''), 'advance': ('until', ''),
+    **dict.fromkeys(('print', 'pp', 'inspect', 'ptype', 'whatis'), ('show', '')), **dict.fromkeys(('disassemble', 'disas', 'll'), ('list', '')),
+    **dict.fromkeys(('backtrace', 'bt'), ('stack', '')), 'watch': ('break', 'change'), 'rwatch': ('break', 'memo'), 'disable': ('off', ''),
+    'enable': ('on', ''), 'search': ('find', '')}
+
+# Those that `help` shows.
+_SHOWN = ('next', 'finish', 'reverse-step', 'reverse-continue', 'print', 'disassemble', 'bt', 'watch', 'disable', 'enable')
+# What `info` shows, by the word after it or a beginning of this.
+_INFO: Dict[str, str] = {
+    'breakpoints': 'break', 'watchpoints': 'break', 'stack': 'stack', 'frame': 'where', 'line': 'where', 'program': 'where', 'registers': 'where',
+    'locals': 'stack', 'variables': 'memo', 'functions': 'calls', 'source': 'source'}
+_INFO_IS = 'info breakpoints, info stack, info frame, info variables or info functions'
+# Bytes of a unit, as `x/8xw` has it.
+_UNITS = {'b': 1, 'h': 2, 'w': 4, 'g': 8}
+_EXAMINE = re.compile(r'x/([0-9]{0,6})([a-z]{0,2})')
+
+
+def understood(line: str) -> Tuple[str, str]:
+    """The word of a line and what comes after it, both as the shell has them. Raises ValueError where `info` has nothing to show.
+
+    >>> understood('x/16xb @23'), understood('info b'), understood('reverse-continue')
+    (('hex', '@23 16'), ('break', ''), ('run', 'back'))
+    """
+    word, _, rest = line.partition(' ')
+    rest = rest.strip()
+    examined = _EXAMINE.fullmatch(word)
+    if examined is not None:
+        count, place = int(examined[1] or 1), rest or '.'
+        if 'i' in examined[2]:
+            return 'list', f'{place} +{count}'
+        return 'hex', f'{place} {count * max([_UNITS.get(letter, 1) for letter in examined[2]], default=1)}'
+    if word == 'info':
+        found = [name for known, name in _INFO.items() if rest and known.startswith(rest)]
+        if not found:
+            raise ValueError(f'it is: {_INFO_IS}')
+        return found[0], ''
+    name, before = whole_word(word)
+    return name, f'{before} {rest}'.strip()
 
 
 def whole_word(word: str) -> Tuple[str, str]:
-    """The word that a short one stands for, and what comes before its rest: a beginning that only one word has will do."""
+    """The word that a short one stands for, or one of gdb and pdb, and what comes before its rest: a beginning that only one word has will do."""
     if word in WORDS:
         return word, ''
-    if word in _SHORT:
-        return _SHORT[word]
+    if word in _SHORT or word in OTHERS:
+        return _SHORT.get(word) or OTHERS[word]
     known = [name for name in WORDS if name.startswith(word)]
     return (known[0], '') if len(known) == 1 else (word, '')
 
@@ -92,7 +139,9 @@ def help_pages() -> str:
     for group in ('go', 'break', 'look', 'edit', 'file'):
         rows.append(f'{group:6} ' + ', '.join(name for name, word in WORDS.items() if word.group == group))
     short = ', '.join(f'{short} {" ".join(whole).strip()}' for short, whole in _SHORT.items() if len(short) < 3)
-    return '\n'.join([*rows, f'short: {short}', 'Enter does the last one again. `help WORD` shows its page.'])
+    others = ', '.join(f'{other} {" ".join(whole).strip()}' for other, whole in OTHERS.items() if other in _SHOWN)
+    return '\n'.join([*rows, f'short: {short}', f'as gdb: {others}, info, x/16xb @OFFSET, x/5i @OFFSET',
+                      'Enter does the last one again. `help WORD` shows its page.'])
 
 
 def help_page(name: str) -> str:

@@ -1,0 +1,79 @@
+"""The shell's words in an editor's console, and what is shown where the editor points at."""
+
+from __future__ import annotations
+
+import re
+from typing import Callable, Dict
+
+from ..shell.complete import completions
+from ..shell.explain import EXPLAINED
+from ..shell.shell import WordError
+from ..shell.words import WORDS, understood
+from .arguments import Arguments, RequestError
+from .target import Target
+from .variables import Variables
+from .wire import Fields
+
+__all__ = ['Console']
+
+_OBJECT = re.compile(r'#([0-9]+)')
+
+
+def _is_look(line: str) -> bool:
+    """Whether a line shows something, and changes nothing."""
+    try:
+        name, _ = understood(line)
+    except ValueError:
+        return False
+    return name in WORDS and WORDS[name].group == 'look'
+
+
+class Console:
+    """Does what is typed. `moved` is told where the pickle was before a line that let it go elsewhere."""
+
+    def __init__(self, target: Target, variables: Variables, moved: Callable[[int], None]) -> None:
+        self._target = target
+        self._variables = variables
+        self._moved = moved
+        self.requests: Dict[str, Callable[[Arguments], Fields]] = {'evaluate': self._evaluate, 'completions': self._completions}
+
+    def _evaluate(self, arguments: Arguments) -> Fields:
+        line, context = arguments.text('expression').strip(), arguments.text('context', 'repl')
+        found = _OBJECT.fullmatch(line)
+        if found is not None:
+            return self._object(int(found[1]))
+        if context == 'hover' and line.upper() in EXPLAINED:
+            return {'result': EXPLAINED[line.upper()], 'variablesReference': 0}
+        if context != 'repl' and not _is_look(line):
+            raise RequestError('outside of the console only an object (#3) or a word that shows something is evaluated')
+        if '\n' in line:
+            raise RequestError('one line at a time is done')
+        return {'result': self._obey(line), 'variablesReference': 0}
+
+    def _object(self, number: int) -> Fields:
+        self._target.here()
+        if not 0 <= number < self._target.pickle.made_before(self._target.pickle.place)[0]:
+            raise RequestError(f'object #{number} is not made yet')
+        shown = self._variables.shown(self._variables.of_object(f'#{number}', number))
+        return {'result': shown.pop('value'), **{name: value for name, value in shown.items() if name not in ('name', 'evaluateName')}}
+
+    def _obey(self, line: str) -> str:
+        """What the shell answers to a line. The editor is told of what changes by it."""
+        shell, before = self._target.shell, self._target.here().place
+        edits = self._target.pickle.edits_made
+        try:
+            return shell.obey(line)
+        finally:
+            if self._target.pickle.edits_made != edits:
+                self._target.edited()
+            if self._target.here().place != before:
+                self._moved(before)
+            if shell.is_over:
+                self._target.send('terminated', {})
+
+    def _completions(self, arguments: Arguments) -> Fields:
+        text = arguments.text('text')
+        column = min(max(0, arguments.number('column') - self._target.first_column), len(text))
+        begun = text[:column].rpartition(' ')[2]
+        found = completions(self._target.pickle, text[:column])
+        return {'targets': [{'label': each, 'start': column - len(begun) + self._target.first_column, 'length': len(begun)} for each in found]}

@@ -1,0 +1,127 @@
+"""How an editor goes through the pickle: forwards, back, and to places."""
+
+from __future__ import annotations
+
+from typing import Callable, Dict, List, Sequence
+
+from ..errors import PicklestepError, Refused
+from ..replies import is_mark, number_in_word, opcode_refused_in, words_of
+from ..shell.breaks import is_hit
+from ..shell.nests import behind_mark, behind_next
+from ..shell.plain import plainly
+from ..shell.shell import WordError
+from .arguments import Arguments, RequestError
+from .breakpoints import Breakpoints
+from .target import Target
+from .wire import Fields
+
+__all__ = ['MOVES', 'Moves', 'THREAD']
+
+# The one thread that there is.
+THREAD = 1
+
+
+class Moves:
+    """Goes where the editor says, and tells it where that ended. The frames are the open marks, with the pickle below them."""
+
+    def __init__(self, target: Target, breakpoints: Breakpoints) -> None:
+        self._target = target
+        self._breakpoints = breakpoints
+        self._refused = ''  # why the opcode is refused at which it has stopped
+        self.requests: Dict[str, Callable[[Arguments], Fields]] = {
+            'threads': self._threads, 'stackTrace': self._stack_trace, 'gotoTargets': self._goto_targets, 'exceptionInfo': self._exception_info}
+
+    # --- Going ---
+
+    def move(self, command: str, arguments: Arguments) -> None:
+        """Does a request after which the pickle is somewhere else, and tells where."""
+        begin = self._target.here().place
+        reason, why = 'step', ''
+        try:
+            reason, why = MOVES[command](self, arguments)
+        except Refused as error:
+            why = error.text
+        except (RequestError, WordError, PicklestepError) as error:
+            self._target.say(str(error), 'stderr')
+        self.stopped(reason, why, begin)
+
+    def stopped(self, reason: str, why: str = '', begin: int = -1) -> None:
+        """Tells where the pickle is, after it moved from a place."""
+        where = self._target.here()
+        self._refused = opcode_refused_in(why)
+        hit = [point for point in self._target.shell.breaks if where.place != begin and is_hit(self._target.pickle, point, where.place)]
+        reason = 'exception' if self._refused else self._breakpoints.reason(hit) if hit else reason
+        ends = {0: 'You are at the start.', where.places: f'You are at the end: {where.end.text}.'}
+        said = f'The next opcode is refused: {plainly(self._refused)}' if self._refused else ends.get(where.place, '')
+        self._target.send('stopped', {
+            'reason': reason, 'threadId': THREAD, 'allThreadsStopped': True, **({'description': said} if said else {}),
+            **({'text': self._refused} if self._refused else {}), **({'hitBreakpointIds': self._breakpoints.numbers(hit)} if hit else {})})
+
+    def _next(self, arguments: Arguments) -> 'tuple[str, str]':
+        place = self._target.here().place
+        is_one = arguments.text('granularity', 'statement') == 'instruction'
+        return 'step', self._target.shell.run(place + 1 if is_one else behind_next(self._target.pickle, place))
+
+    def _step_in(self, arguments: Arguments) -> 'tuple[str, str]':
+        return 'step', self._target.shell.run(self._target.here().place + 1)
+
+    def _step_out(self, arguments: Arguments) -> 'tuple[str, str]':
+        return 'step', self._target.shell.run(behind_mark(self._target.pickle, self._target.here().place))
+
+    def _step_back(self, arguments: Arguments) -> 'tuple[str, str]':
+        self._target.pickle.session.goto(max(0, self._target.here().place - 1))
+        return 'step', ''
+
+    def _go_on(self, arguments: Arguments) -> 'tuple[str, str]':
+        return 'pause', self._target.shell.run()
+
+    def _go_back(self, arguments: Arguments) -> 'tuple[str, str]':
+        self._target.shell.run_back()
+        return 'pause', ''
+
+    def _goto(self, arguments: Arguments) -> 'tuple[str, str]':
+        place, here = arguments.number('targetId'), self._target.here()
+        if not 0 <= place <= here.places:
+            raise RequestError(f'there is no target {place}')
+        if place > here.place:
+            return 'goto', self._target.pickle.run_to(place)
+        self._target.pickle.session.goto(place)
+        return 'goto', ''
+
+    # --- Where it is ---
+
+    def _threads(self, arguments: Arguments) -> Fields:
+        return {'threads': [{'id': THREAD, 'name': self._target.name}]}
+
+    def _stack_trace(self, arguments: Arguments) -> Fields:
+        frames = self._frames()
+        start, levels = max(0, arguments.number('startFrame', 0)), arguments.number('levels', 0)
+        return {'stackFrames': frames[start:start + levels if levels > 0 else None], 'totalFrames': len(frames)}
+
+    def _frames(self) -> List[Fields]:
+        """The frames, the innermost first. Each is where the next one inside it was set, the innermost where the pickle is."""
+        here = self._target.here().place
+        marks = [number_in_word(word) for word in words_of(self._target.pickle.session.ask('stack')) if is_mark(word)]
+        return [self._frame(depth, marks, place) for depth, place in enumerate([*marks, here])][::-1]
+
+    def _frame(self, depth: int, marks: Sequence[int], place: int) -> Fields:
+        name = f'mark of {marks[depth - 1]}' if depth else self._target.name
+        return {'id': depth + 1, 'name': name, **self._target.shown_at(place), 'instructionPointerReference': self._target.address(place)}
+
+    def _goto_targets(self, arguments: Arguments) -> Fields:
+        line = arguments.number('line')
+        try:
+            place = self._target.place_of_line(arguments.inner('source'), line)
+        except RequestError:
+            return {'targets': []}
+        return {'targets': [{'id': place, 'label': f'opcode {place}', 'line': line, 'instructionPointerReference': self._target.address(place)}]}
+
+    def _exception_info(self, arguments: Arguments) -> Fields:
+        if not self._refused:
+            raise RequestError('the next opcode is not refused')
+        return {'exceptionId': self._refused.partition(' ')[0], 'description': plainly(self._refused), 'breakMode': 'always'}
+
+
+MOVES: 'Dict[str, Callable[[Moves, Arguments], tuple[str, str]]]' = {
+    'next': Moves._next, 'stepIn': Moves._step_in, 'stepOut': Moves._step_out, 'stepBack': Moves._step_back, 'continue': Moves._go_on,
+    'reverseContinue': Moves._go_back, 'goto': Moves._goto}
