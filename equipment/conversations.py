@@ -42,7 +42,7 @@ REFUSALS: dict[str, tuple[str, ...]] = {
     "objects": REFUSED,
     "calls": (*REFUSED, "kept: ", "unsure: ", "warning: "),
     "form": ("not in form: ",),
-    "gate": ("not in form: ", "not allowed: "),
+    "gate": ("not in form: ", "not allowed: ", "'"),  # (what is said of a member begins with its name)
     "members": ("not in form: ",),
     "reach": ("reached at ", "too many ways "),
 }

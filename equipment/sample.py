@@ -19,9 +19,9 @@ TABLES = ("conversations.txt", "texts.txt", "calls.txt")
 # The words of the command line that the rows ask, each with a page of help that has its options. (That of `debug` has its words, too.)
 WORDS = (*REFUSALS, "debug")
 CODE = re.compile(r"\b[CEFSUVWX]\d+\b")
-# A row of the table of docs/CODES.md: what is printed, and by which words. In it N is a number, and .. any text.
+# A row of the table of docs/CODES.md: what is printed, and by which words. In it N is a number, 'NAME' a name, and .. any text.
 PRINTED = re.compile(r"(?m)^\| (`.*?) \| (`.*?) \|")
-NUMBER_OR_TEXT = re.compile(r"\bN\b|\.\.")
+NUMBER_OR_TEXT = re.compile(r"\bN\b|'NAME'|\.\.")
 # Codes and refusals that no row meets, since what they refuse is too large for a row.
 TOO_LARGE = frozenset(("E7", "E8", "X7", "too many ways to read the bytes"))
 
