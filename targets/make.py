@@ -263,7 +263,8 @@ def make_all(to: Path) -> None:
         for file in MADE:
             (made / file).parent.mkdir(parents=True, exist_ok=True)
         kept = os.environ.get('PICKLESTEP_MODULES')  # (a folder of them, while one works on this file)
-        modules = {crate: Path(kept, f'{crate}.bc') if kept else keep_module(crate, folder) for crate in CRATES}
+        with ThreadPoolExecutor() as pool:
+            modules = dict(zip(CRATES, pool.map(lambda crate: Path(kept, f'{crate}.bc') if kept else keep_module(crate, folder), CRATES)))
         maker = Maker(folder, *(plain_text(module, folder, crate) for crate, module in modules.items()))
         makes = [(maker.make_static, PROGRAMS[0]), (maker.make_arm, PROGRAMS[1]), (maker.make_wasm, PROGRAMS[2]), (maker.make_library_wasm, PROGRAMS[3]),
                  *((functools.partial(maker.make_library, target), file) for target, file in LIBRARIES.items())]
