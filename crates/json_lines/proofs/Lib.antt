@@ -1,0 +1,7 @@
+-- Lemmas that the proofs of several functions cite.
+pub mod Strings
+pub mod Lines
+mod Units
+mod Tokens
+mod Trees
+pub mod Fields

@@ -1,0 +1,4 @@
+-- The definitions that contracts cite.
+pub mod Json
+pub mod Line
+pub mod Readable

@@ -1,0 +1,80 @@
+-- The line of an item: its fields.
+-- Source: what an argument says is `pickletools`' descriptor of it; the names of fields are own.
+use Rattle.std.specs.Prelude.{ℕ, nat_le, if◌then◌else◌, List, [], length, codes, Option, None, Some}
+use Rattle.json.specs.Json.{string}
+use Rattle.pickle_ops.specs.declared.form.Form.{Form}
+use Rattle.pickle_ops.specs.declared.form.Form.TheVariants as form
+use Rattle.pickle_ops.specs.Argument.{number_of, signed_of, long_of, payload, first_text, second_text}
+use Rattle.pickle_ops.specs.Spelling.{Operation}
+use Rattle.pickle_ops.specs.Table.{name_of, form_of}
+use Rattle.pickle_ops.specs.Text.{is_long}
+use Rattle.json_lines.specs.Line.{Field, field, ◌⊕◌, whole, integer, hex, bytes_field, line}
+use Rattle.pickle_json.specs.declared.note.Note.{Note}
+use Rattle.pickle_json.specs.declared.note.Note.TheVariants as note
+
+-- ---- arguments
+
+-- a number of an argument
+unfoldable pub number_fields : ℕ → List Field
+number_fields n = field (codes "argument") (whole n)
+
+-- bytes that an argument holds: as text where they are UTF-8, else in hexadecimal
+unfoldable pub payload_fields : List ℕ → List Field
+payload_fields bytes = bytes_field (codes "argument") (codes "argument_hex") bytes
+
+-- bytes that are no text
+unfoldable pub hex_fields : List ℕ → List Field
+hex_fields bytes = field (codes "argument_hex") (hex bytes)
+
+-- a number in two's complement: up to sixteen bytes as the number, more by its bytes, the lowest first
+unfoldable pub long_fields : List ℕ → List Field
+long_fields bytes = if nat_le (length bytes) 16 then field (codes "argument") (integer (long_of bytes)) else hex_fields bytes
+
+-- a module and a name
+unfoldable pub two_fields : List ℕ → List Field
+two_fields arg =
+    bytes_field (codes "module") (codes "module_hex") (first_text arg) ⊕ bytes_field (codes "name") (codes "name_hex") (second_text arg)
+
+abbrev pub form_fields : Form → List ℕ → List Field
+form_fields form.Empty arg = []
+form_fields form.U1 arg = number_fields (number_of form.U1 arg)
+form_fields form.U2 arg = number_fields (number_of form.U2 arg)
+form_fields form.U4 arg = number_fields (number_of form.U4 arg)
+form_fields form.U8 arg = number_fields (number_of form.U8 arg)
+form_fields form.S4 arg = field (codes "argument") (integer (signed_of arg))
+form_fields form.R8 arg = hex_fields (payload form.R8 arg)
+form_fields form.Line arg = payload_fields (payload form.Line arg)
+form_fields form.Quoted arg = payload_fields (payload form.Quoted arg)
+form_fields form.Decimal arg = number_fields (number_of form.Decimal arg)
+form_fields form.Two arg = two_fields arg
+form_fields form.B1 arg = payload_fields (payload form.B1 arg)
+form_fields form.B4 arg = payload_fields (payload form.B4 arg)
+form_fields form.B8 arg = payload_fields (payload form.B8 arg)
+form_fields form.Bs4 arg = payload_fields (payload form.Bs4 arg)
+
+unfoldable pub arg_fields : Operation → List Field
+arg_fields op =
+    if is_long op.opcode then long_fields (payload (form_of op.opcode) op.arg)
+    else form_fields (form_of op.opcode) op.arg
+
+-- ---- items
+
+-- the mark that is taken, by the offset where it was set; the key under which the memo gets the top
+abbrev pub note_fields : Option Note → List Field
+note_fields None = []
+note_fields (Some (note.MarkAt offset)) = field (codes "mark") (whole offset)
+note_fields (Some (note.As key)) = field (codes "memo") (whole key)
+
+-- where it is, and its opcode
+unfoldable pub head_fields : Operation → ℕ → List Field
+head_fields o offset = field (codes "offset") (whole offset) ⊕ field (codes "opcode") (string (name_of o.opcode))
+
+-- its argument, how many marks are open before it, and its note
+unfoldable pub rest_fields : Operation → ℕ → Option Note → List Field
+rest_fields o marks n = arg_fields o ⊕ field (codes "marks") (whole marks) ⊕ note_fields n
+
+abbrev pub item_fields : Operation → ℕ → ℕ → Option Note → List Field
+item_fields o offset marks n = head_fields o offset ⊕ rest_fields o marks n
+
+unfoldable pub item_line : Operation → ℕ → ℕ → Option Note → List ℕ
+item_line o offset marks n = line (codes "opcode") (item_fields o offset marks n)

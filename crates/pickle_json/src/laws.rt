@@ -1,0 +1,13 @@
+//! Laws of the definitions. The functions do nothing: what they ensure holds of all lines.
+
+ghost use Rattle.pickle_json.specs.Readable.{ItemLinesReadBack, EndLinesReadBack};
+
+/// The line of each opcode is read back as its object.
+pub fn item_lines_read_back()
+    ensures { ItemLinesReadBack }
+{}
+
+/// The line of what a STOP left and the last line are read back as their objects.
+pub fn end_lines_read_back()
+    ensures { EndLinesReadBack }
+{}
