@@ -23,8 +23,8 @@ IMPORTS = {"GLOBAL", "STACK_GLOBAL", "INST", "EXT1", "EXT2", "EXT4"}
 CALLS = {"INST", "REDUCE", "OBJ", "NEWOBJ", "NEWOBJ_EX", "BUILD"}
 FILLS = {"APPEND", "APPENDS", "SETITEM", "SETITEMS", "ADDITEMS"}
 OPAQUE = IMPORTS | (CALLS - {"BUILD"}) | {"PERSID", "BINPERSID", "NEXT_BUFFER"}
-# Those that import what leads to the unpickler, or by a name that the bytes do not say.
-WARNED = {"names_from_a_call", "build_on_a_module"}
+# Those that import what leads to the unpickler, or by a name that the bytes do not say or that cannot be read.
+WARNED = {"names_from_a_call", "build_on_a_module", "name_outside_ascii"}
 BY_NAME = {opcode.name: opcode for opcode in pickletools.opcodes}
 
 

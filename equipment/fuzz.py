@@ -60,7 +60,8 @@ IMPORT_LINE = re.compile(r"^ *\d+: (?:import|inst) ", re.M)
 HEADING = re.compile(r"^a loader .*may go on:$", re.M)
 # (a STOP inside a frame, where the strict lines end and `objects` goes on)
 UNSURE_LINE = re.compile(r"^unsure: U[12] .*\n", re.M)
-WARNING_LINE = re.compile(r"^warning: W1 #\d+ leads to the unpickler\n", re.M)
+MIXED_LINE = re.compile(r"^unsure: U3 .*\n\Z", re.M)
+WARNING_LINE = re.compile(r"^warning: #\d+ leads to the unpickler\n", re.M)
 CALL_LINE = re.compile(r"^ *\d+: (?:inst|call|new|state|append|set|add) ", re.M)
 WHERE = re.compile(r"at (\d+) of (\d+), offset (\d+), buffers (\d+), result (none|#\d+(?: #\d+)*), end (.*)")
 VIEW = "where\nitems\nstack\nmemo\nobjects\n"
@@ -444,7 +445,7 @@ class Case:
         # (`calls` reads all pickles by itself, and `objects` only with --many)
         first = [] if self.is_many else ["--first"]
         calls, status = self.answers(["calls", *first, str(self.file)])
-        text = HEADING.split(calls, maxsplit=1)[0]
+        text = HEADING.split(MIXED_LINE.sub("", calls), maxsplit=1)[0]
         unsure = UNSURE_LINE.search(text)
         made, opaque = MADE_LINE.findall(text), OPAQUE_LINE.findall(report)
         is_open = bool(wanted or unsure or WARNING_LINE.search(text) or "\nkept: " in f"\n{text}")

@@ -18,10 +18,12 @@ HERE = Path(__file__).resolve().parent
 TABLES = ("conversations.txt", "texts.txt", "calls.txt")
 # The words of the command line that the rows ask, each with a page of help that has its options. (That of `debug` has its words, too.)
 WORDS = (*REFUSALS, "debug")
-CODE = re.compile(r"\b[CEFSUVWX]\d+\b")
+CODE = re.compile(r"\b[CEFSUVX]\d+\b")
 # A row of the table of docs/CODES.md: what is printed, and by which words. In it N is a number, 'NAME' a name, and .. any text.
 PRINTED = re.compile(r"(?m)^\| (`.*?) \| (`.*?) \|")
 NUMBER_OR_TEXT = re.compile(r"\bN\b|'NAME'|\.\.")
+# Options that no row gives: a trial of its own saves, and the package explains by itself.
+ELSEWHERE = frozenset(("--save", "--explain"))
 # Codes and refusals that no row meets, since what they refuse is too large for a row.
 TOO_LARGE = frozenset(("E7", "E8", "X7", "too many ways to read the bytes"))
 
@@ -101,7 +103,7 @@ def named(root: Path) -> set[tuple[str, str]]:
     met |= {pair for pair in refusals_of(root) if pair[1] not in TOO_LARGE}
     pages = {word: (root / f"python/picklestep/help/{word}.txt").read_text("utf-8") for word in WORDS}
     for word, page in pages.items():
-        met |= {(word, option) for option in re.findall(r"(?m)^  (--[a-z-]+)", page) if option != "--save"}
+        met |= {(word, option) for option in re.findall(r"(?m)^  (--[a-z-]+)", page) if option not in ELSEWHERE}
     lines = re.findall(r"(?m)^  ([a-z].*?)(?:   .*)?$", pages["debug"])
     return met | {(f"debug> {name}", "") for line in lines for name in re.findall(r"\b[a-z]+\b", line)}
 

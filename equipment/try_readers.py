@@ -93,12 +93,13 @@ def pythons() -> dict[str, str]:
     return {".".join(map(str, version)): path for version, path in ordered}
 
 
-def is_known(reader: str, text: str) -> str:
+def is_known(reader: str, text: str, is_one: bool) -> str:
     """The kind of act without a line that the pages name, or an empty text where they name none."""
     answer = Calls(text)
-    # (where a frame may be crossed or left early: from a file that shows some bytes ahead a loader may then do what no line shows)
+    # (from a file that shows some bytes ahead a loader may do what no line shows where U3 says so; and one unpickler that loads again where a
+    # frame may be crossed or left early)
     is_at_frame = answer.end.code in AT_FRAMES or "unsure: U2 " in text or any(part.heading in (BUFFERED, HELD) for part in answer.parts)
-    if reader in SHOW_SOME and is_at_frame:
+    if reader in SHOW_SOME and (answer.mixed is not None or (is_one and is_at_frame)):
         return "mixes of frames"
     return "short reads" if reader == CUT_SHORT else ""
 
@@ -110,7 +111,7 @@ class Tally:
     known: collections.Counter[str] = field(default_factory=collections.Counter)
     found: list[str] = field(default_factory=list)
 
-    def add(self, text: str, loads: Sequence[tuple[str, Acts]], case: bytes) -> None:
+    def add(self, text: str, loads: Sequence[tuple[str, Acts]], case: bytes, is_one: bool) -> None:
         """Judges what the readers do with one case. Most do the same."""
         judged: dict[str, str] = {}
         for reader, acts in loads:
@@ -118,7 +119,7 @@ class Tally:
             key = json.dumps(acts)
             if key not in judged:
                 judged[key] = without_line(text, acts) if text else "the program gives no answer"
-            known = is_known(reader, text) if judged[key] and text else ""
+            known = is_known(reader, text, is_one) if judged[key] and text else ""
             if known:
                 self.known[known] += 1
             elif judged[key]:
@@ -134,7 +135,7 @@ def try_python(loads: Loads, version: str, python: str, seed: int, count: int, r
         given = list(kind.make(seed, round(count * kind.share), real))
         cases += len(given)
         for case, done in zip(given, loads.done(f"readers {version} {name}", given, ["--all", *kind.options], python)):
-            tally.add(loads.text(case, kind.words()), done, case)
+            tally.add(loads.text(case, kind.words()), done, case, bool(kind.words()))
     shown = "; ".join(sorted(tally.found, key=len)[:MOST_SHOWN])
     why = f"{len(tally.found)} differences, first {shown}" if tally.found else ""
     # (A trial that never meets a mix would not see one that is new.)

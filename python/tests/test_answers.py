@@ -458,13 +458,13 @@ class Parts(unittest.TestCase):
 
     def test_a_warning_is_no_end(self) -> None:
         """Each section may have one, behind its last line."""
-        warned = 'warning: W1 #0 leads to the unpickler\n'
+        warned = 'warning: #0 leads to the unpickler\n'
         for closing, end in (('', End('stopped')), ('fault: F5 bad argument at 12\n', End('fault', 'F5', 'F5 bad argument at 12', 12))):
             answer = Calls(f"    0: import 'gc' 'collect' as #0\n1 imports, 0 calls\n{closing}{warned}")
-            self.assertEqual((len(answer), answer.end, answer.warning), (1, end, 'W1 #0 leads to the unpickler'))
+            self.assertEqual((len(answer), answer.end, answer.warning), (1, end, '#0 leads to the unpickler'))
         under = "a loader may go on:\n   16: import 'os' 'x' as #1\n1 imports, 0 calls\nit ends: STOP\n"
         answer = Calls(f'0 imports, 0 calls\nfault: F5 bad argument at 12\n{under}{warned}')
-        self.assertEqual((answer.warning, answer.parts[0].warning, answer.parts[0].end), (None, 'W1 #0 leads to the unpickler', End('stopped')))
+        self.assertEqual((answer.warning, answer.parts[0].warning, answer.parts[0].end), (None, '#0 leads to the unpickler', End('stopped')))
         self.assertIsNone(Calls(f'1 imports, 0 calls\nfault: F5 bad argument at 12\n{warned}{under}').parts[0].warning)
 
     def test_a_text_is_no_heading(self) -> None:

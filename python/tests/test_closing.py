@@ -11,8 +11,9 @@ from typing import Dict, Iterator, List, NamedTuple, Optional, Sequence, Tuple
 import picklestep
 from picklestep import End
 from picklestep.answers import Calls, Listing, Objects, Reached
-from picklestep.texts import (ITEMS, OBJECTS, OPCODES, REACH, SHOWN, before_headings, begins_with_offset, behind_word, closing_of, container_in,
-                              counts_in, headings_in, left_in, lines_with_offsets, results_in, without_left)
+from picklestep.texts import (ITEMS, OBJECTS, OPCODES, SHOWN, begins_with_offset, behind_word, closing_of, container_in, left_in, lines_with_offsets,
+                              results_in, without_left)
+from picklestep.texts_of_calls import REACH, before_headings, counts_in, headings_in
 from pickles import ROOT, real_pickles
 
 _NUMBER = '(?:0|[1-9][0-9]*)'
@@ -46,11 +47,12 @@ _FORMS: Dict[str, Dict[str, str]] = {
     'calls': {**_EVENT, **_FAULT_LINE, **_KEPT, **_REFUSED_ITEM, 'T': f'(?P<imports>{_NUMBER}) imports, (?P<calls>{_NUMBER}) calls',
               'B': f'begins like an? (?P<container>{_NAMES}): picklestep scan looks into it',
               'U': f'unsure: (?P<unsure>(?:U1 frame goes on behind STOP|U2 rest of a frame is lost) at (?P<offset>{_NUMBER}))',
-              'W': f'warning: (?P<warning>W1 #{_NUMBER} leads to the unpickler)',
+              'M': f'unsure: (?P<mixed>U3 frames may be mixed at (?P<offset>{_NUMBER}))',
+              'W': f'warning: (?P<warning>#{_NUMBER} leads to the unpickler)',
               'H': f'(?P<heading>(?:{_READINGS}) may go on):',
               'E': f'it ends: (?:STOP|{_REFUSED_ITEM["R"]}|{_FAULT_LINE["F"]})'}}
 # In which order they stand. A text that is refused for bytes to leave out, which are not there, is that line alone.
-_ORDERS = {'list': '(?:oL?)*(?:K?|F|R)P?', 'objects': 'o*T*(?:F|R)?', 'calls': 'o*B?T(?:KW?|UW?|(?:F|R)?W?U?)(?:Ho+TEW?)*'}
+_ORDERS = {'list': '(?:oL?)*(?:K?|F|R)P?', 'objects': 'o*T*(?:F|R)?', 'calls': 'o*B?T(?:KW?|UW?|(?:F|R)?W?U?)(?:Ho+TEW?)*M?'}
 _OUTSIDE = re.compile(f'refused: (?P<words>hole {_NUMBER}:{_NUMBER} ends behind the last of {_NUMBER} bytes)\n')
 _PATTERNS = {what: {letter: re.compile(form) for letter, form in forms.items()} for what, forms in _FORMS.items()}
 

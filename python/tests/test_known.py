@@ -8,7 +8,6 @@ import gzip
 import io
 import json
 import pickle
-import re
 import tarfile
 import unittest
 import zipfile
@@ -20,7 +19,6 @@ from picklestep.scan.known import known_names
 from picklestep.scan.looking import look_at_bytes
 from picklestep.scan.names import Names
 from picklestep.scan.results import from_json, to_json
-from pickles import ROOT
 from scan_support import HARMLESS, HOSTILE, MODELS, ScanCase
 
 DATA = MODELS.parent
@@ -283,16 +281,6 @@ class TheList(unittest.TestCase):
             self.assertIsNotNone(known_names().note(name), name)
         for name in ('enum.types.DynamicClassAttribute', 'a._system.b', 'torch._utils._rebuild'):
             self.assertIsNone(known_names().note(name), name)
-
-    def test_what_leads_to_the_unpickler(self) -> None:
-        """What the program warns of is marked, by the program's own table."""
-        table = (ROOT / 'crates/pickle_further/src/leads.rt').read_text('utf-8').split('static LEADING', 1)[1].split('];', 1)[0]
-        rows = re.findall(r'\("([^"]*)", "([^"]*)"\)', table)
-        self.assertGreaterEqual(len(rows), 40)
-        for module, parts in rows:
-            names = [f'{module}.{parts}'.replace('__builtin__', 'builtins')] if module else [f'a.{parts}', f'a.{parts}.b', f'a.b.{parts}.c']
-            for name in names:
-                self.assertIsNotNone(known_names().note(name), name)
 
     def test_a_long_name_takes_no_long_time(self) -> None:
         self.assertIsNone(Names(known_names_lines()).note('a.' * 200_000 + 'b'))

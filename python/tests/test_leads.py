@@ -1,17 +1,20 @@
 """Pickles that reach the unpickler which loads them: a real one calls what no line shows, and `calls` warns of it. Where a Python or a library is not
-there, the pickle is only asked about."""
+there, the pickle is only asked about. And the names that lead there: the program, the page and `scan` have the same."""
 
 from __future__ import annotations
 
 import os
+import re
 import subprocess
 import sys
 import tempfile
 import unittest
 from pathlib import Path
-from typing import List
+from typing import Iterator, List, Tuple
 
 import picklestep
+from picklestep.scan import Judge, look_at_bytes
+from picklestep.scan.known import known_names
 from pickles import ROOT
 
 # (of a folder of several Pythons those that the package runs in)
@@ -74,7 +77,7 @@ class ReachesTheUnpickler(unittest.TestCase):
     def check(self, data: bytes, statement: str, first: int, pythons: List[str]) -> None:
         """A real unpickler calls what no line shows, and the program warns of the first import that led there."""
         answer = picklestep.calls(data)
-        self.assertEqual((answer.warning, answer.end.is_stopped), (f'W1 #{first} leads to the unpickler', True))
+        self.assertEqual((answer.warning, answer.end.is_stopped), (f'#{first} leads to the unpickler', True))
         self.assertFalse(any(reach.what == 'call' and reach.name is not None and b'getpid' in repr(reach.name).encode() for reach in answer))
         for python in pythons:
             self.assertEqual(says(python, statement, data), 'True', python)
@@ -117,6 +120,66 @@ class ReachesTheUnpickler(unittest.TestCase):
             for data, status in ((TURNED, 1), (GIVEN_A_MEMO, 1), (IN_A_FRAME, 1), (sought(9), 1), (OF_JOBLIB, 1), (found(b'os', b'getpid') + b'.', 0)):
                 file.write_bytes(data)
                 self.assertEqual(subprocess.run([str(ROOT / 'picklestep'), 'calls', str(file)], capture_output=True).returncode, status)
+
+
+def names_of_the_program() -> List[str]:
+    """The rows of the program's own table."""
+    table = (ROOT / 'crates/pickle_further/src/leads.rt').read_text('utf-8').partition('static LEADING')[2].partition('];')[0]
+    return re.findall(r'^ *"([^"]+)",$', table, re.MULTILINE)
+
+
+def names_of_the_page() -> List[str]:
+    """The names of the table of docs/LOADERS.md."""
+    section = (ROOT / 'docs/LOADERS.md').read_text('utf-8').partition('### Imports that reach the unpickler\n')[2].partition('\n## ')[0]
+    return [name for cell in re.findall(r'^\| (`[^|]*) \|', section, re.MULTILINE) for name in re.findall('`([^`]+)`', cell)]
+
+
+def imports_of(name: str) -> Iterator[Tuple[str, str]]:
+    """Imports, by a module and a member, of which a name is a part: alone, through another module, and of what is below it."""
+    module, _, member = name.rpartition('.')
+    if module:
+        yield from ((module, member), (module, f'{member}.b'))
+    yield from (('a', name), ('a', f'b.{name}.c'), (f'a.{name}', 'b'))
+
+
+class NamesThatLeadThere(unittest.TestCase):
+
+    def test_the_page_has_the_table_of_the_program(self) -> None:
+        self.assertGreaterEqual(len(names_of_the_program()), 80)
+        self.assertEqual(sorted(names_of_the_page()), sorted(names_of_the_program()))
+
+    def test_the_program_warns_of_each_name_of_the_page(self) -> None:
+        for name in names_of_the_page():
+            for module, member in imports_of(name):
+                self.assertEqual(picklestep.calls(f'c{module}\n{member}\n.'.encode()).warning, '#0 leads to the unpickler', (module, member))
+
+    def test_it_does_not_warn_of_names_that_only_look_so(self) -> None:
+        data = b''.join(f'c{module}x\n{member}\n0ca\nx{name}\n0ca\n{name}x\n0'.encode()
+                        for name in names_of_the_page() for module, _, member in (name.rpartition('.'),) if module)
+        self.assertIsNone(picklestep.calls(data + b'N.').warning)
+
+    def test_scan_marks_each_import(self) -> None:
+        """By the names that `scan` has of the program's lines, which are those that Python 3 imports."""
+        data = b''.join(f'c{module}\n{member}\n0'.encode() for name in names_of_the_page() for module, member in imports_of(name))
+        found = look_at_bytes('a.pkl', data + b'N.').pickles[0].imports
+        self.assertGreaterEqual(len(found), 3 * len(names_of_the_page()))
+        for each in found:
+            self.assertIsNotNone(known_names().note(each.name), each.name)
+
+    def test_names_that_cannot_be_read_may_be_any(self) -> None:
+        """Those of GLOBAL and INST, a STRING, a SHORT_BINSTRING and a SHORT_BINUNICODE."""
+        for data in (b'ca\n\xff\n', b'c\xff\na\n', b'(i\xff\na\n', b'(i\xc3\xa9\na\n', b'Va\nS"\xff"\n\x93', b'U\x01\xffVa\n\x93',
+                     text(b'a') + text(b'\xff') + b'\x93'):
+            self.assertIsNotNone(picklestep.calls(data + b'.').warning, data)
+        for data in ('ca\n\xe9\n'.encode(), b'V\xe9\nVa\n\x93', text('\xe9'.encode()) + text(b'a') + b'\x93'):
+            self.assertIsNone(picklestep.calls(data + b'.').warning, data)
+
+    def test_scan_marks_them_where_they_cannot_be_read(self) -> None:
+        data = b''.join(b'ca\n' + name.encode() + b'.\xff\n0' for name in names_of_the_page())
+        found = look_at_bytes('a.pkl', data + b'N.').pickles[0].imports
+        self.assertEqual(len(found), len(names_of_the_page()))
+        for each in found:
+            self.assertEqual((Judge().mark(each.name, each.member) or ('',))[0], 'known', each.name)
 
 
 if __name__ == '__main__':

@@ -7,6 +7,7 @@ pub mod Goings
 pub mod Tales
 pub mod Partly
 pub mod Documents
+pub mod Mixing
 pub mod Kept
 pub mod Behind
 pub mod Searches

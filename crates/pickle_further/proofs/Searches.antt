@@ -13,25 +13,25 @@ use Rattle.pickle_further.specs.Inside.{standing_of, Goes, HasRoom, IsNext, Find
 
 -- ---- one step
 
-found : (x : Sought) (w : Way) (n : ℕ) (p : Standing) (gone : Gone) (t : State) → Goes (going w p) gone t → is_sought x gone ≡ true → search x (suc n) w p ≡ Some p
+found : (x : Sought) (w : Way) (n : ℕ) (p : Standing) (gone : Gone) (t : State) → Goes (going w p) gone t → is_sought x w.frames p.at.left p.rest gone ≡ true → search x (suc n) w p ≡ Some p
 unfolding search
 found x w n p gone t g sought =
-    let is : is_sought x (going w p).gone ≡ true = ap (is_sought x) (sym g.is) ∙ sought in
+    let is : is_sought x w.frames p.at.left p.rest (going w p).gone ≡ true = ap (is_sought x w.frames p.at.left p.rest) (sym g.is) ∙ sought in
     rw is refl
 
-over : (x : Sought) (w : Way) (n : ℕ) (p : Standing) (gone : Gone) (t : State) → Goes (going w p) gone t → is_sought x gone ≡ false → is_some gone.closing ≡ true
+over : (x : Sought) (w : Way) (n : ℕ) (p : Standing) (gone : Gone) (t : State) → Goes (going w p) gone t → is_sought x w.frames p.at.left p.rest gone ≡ false → is_some gone.closing ≡ true
     → search x (suc n) w p ≡ None
 unfolding search
 over x w n p gone t g other ends =
-    let is : is_sought x (going w p).gone ≡ false = ap (is_sought x) (sym g.is) ∙ other in
+    let is : is_sought x w.frames p.at.left p.rest (going w p).gone ≡ false = ap (is_sought x w.frames p.at.left p.rest) (sym g.is) ∙ other in
     let closes : is_some (going w p).gone.closing ≡ true = ap (λ (y : Gone). is_some y.closing) (sym g.is) ∙ ends in
     rw (is, closes) refl
 
-none : (x : Sought) (w : Way) (n : ℕ) (p : Standing) (gone : Gone) (t : State) → Goes (going w p) gone t → is_sought x gone ≡ false → is_some gone.closing ≡ false → n ≡ 0
+none : (x : Sought) (w : Way) (n : ℕ) (p : Standing) (gone : Gone) (t : State) → Goes (going w p) gone t → is_sought x w.frames p.at.left p.rest gone ≡ false → is_some gone.closing ≡ false → n ≡ 0
     → search x (suc n) w p ≡ None
 unfolding search
 none x w n p gone t g other goes last =
-    let is : is_sought x (going w p).gone ≡ false = ap (is_sought x) (sym g.is) ∙ other in
+    let is : is_sought x w.frames p.at.left p.rest (going w p).gone ≡ false = ap (is_sought x w.frames p.at.left p.rest) (sym g.is) ∙ other in
     let closes : is_some (going w p).gone.closing ≡ false = ap (λ (y : Gone). is_some y.closing) (sym g.is) ∙ goes in
     rw (last, is, closes) refl
 
@@ -45,11 +45,11 @@ no_closing (Some c) e = cc
 abbrev comes_to : Gone → State → Going
 comes_to gone t = record { gone = gone; state = t }
 
-next : (x : Sought) (w : Way) (n : ℕ) (p : Standing) (gone : Gone) (t : State) → Goes (going w p) gone t → is_sought x gone ≡ false → is_some gone.closing ≡ false
+next : (x : Sought) (w : Way) (n : ℕ) (p : Standing) (gone : Gone) (t : State) → Goes (going w p) gone t → is_sought x w.frames p.at.left p.rest gone ≡ false → is_some gone.closing ≡ false
     → search x (suc n) w p ≡ search x n w (stands_after p (comes_to gone t))
 unfolding search
 next x w n p gone t g other goes =
-    let is : is_sought x (going w p).gone ≡ false = ap (is_sought x) (sym g.is) ∙ other in
+    let is : is_sought x w.frames p.at.left p.rest (going w p).gone ≡ false = ap (is_sought x w.frames p.at.left p.rest) (sym g.is) ∙ other in
     let closes : is_some (going w p).gone.closing ≡ false = ap (λ (y : Gone). is_some y.closing) (sym g.is) ∙ goes in
     elim g.state [
       | inl same ↦ rw (same, g.is, is, closes) refl
@@ -76,7 +76,7 @@ search_begins x w first begun room = record {
   small = omega arith;
 }
 
-pub finds_it : (x : Sought) (w : Way) (first item : Visited) (begun now : State) (more : ℕ) → InSearch x w first begun item now more → is_sought x item.gone ≡ true
+pub finds_it : (x : Sought) (w : Way) (first item : Visited) (begun now : State) (more : ℕ) → InSearch x w first begun item now more → is_sought x w.frames item.at.left item.rest.now item.gone ≡ true
     → (s : State) → Goes (going w (standing_of s first)) first.gone begun → Finds w (search_from x w (standing_of s first)) (Some item) now
 finds_it x w first item begun now more k sought s g =
     let still : StillSought x w (search_from x w (standing_of s first)) item now more = k.still s g in
@@ -84,14 +84,14 @@ finds_it x w first item begun now more k sought s g =
     still.is ∙ found x w more (standing_of still.before item) item.gone now still.goes sought in
     rw is (still.before, refl, still.goes)
 
-pub finds_none : (x : Sought) (w : Way) (first item : Visited) (begun now : State) (more : ℕ) → InSearch x w first begun item now more → is_sought x item.gone ≡ false
+pub finds_none : (x : Sought) (w : Way) (first item : Visited) (begun now : State) (more : ℕ) → InSearch x w first begun item now more → is_sought x w.frames item.at.left item.rest.now item.gone ≡ false
     → is_some item.gone.closing ≡ true → (s : State) → Goes (going w (standing_of s first)) first.gone begun → Finds w (search_from x w (standing_of s first)) None now
 finds_none x w first item begun now more k other ends s g =
     let still : StillSought x w (search_from x w (standing_of s first)) item now more = k.still s g in
     let is : search_from x w (standing_of s first) ≡ None = still.is ∙ over x w more (standing_of still.before item) item.gone now still.goes other ends in
     rw is tt
 
-pub finds_no_more : (x : Sought) (w : Way) (first item : Visited) (begun now : State) (more : ℕ) → InSearch x w first begun item now more → is_sought x item.gone ≡ false
+pub finds_no_more : (x : Sought) (w : Way) (first item : Visited) (begun now : State) (more : ℕ) → InSearch x w first begun item now more → is_sought x w.frames item.at.left item.rest.now item.gone ≡ false
     → is_some item.gone.closing ≡ false → more ≡ 0 → (s : State) → Goes (going w (standing_of s first)) first.gone begun → Finds w (search_from x w (standing_of s first)) None now
 finds_no_more x w first item begun now more k other goes last s g =
     let still : StillSought x w (search_from x w (standing_of s first)) item now more = k.still s g in
@@ -99,7 +99,7 @@ finds_no_more x w first item begun now more k other goes last s g =
     rw is tt
 
 -- it goes on behind this item
-pub search_goes : (x : Sought) (w : Way) (first item after : Visited) (begun now t : State) (more : ℕ) → InSearch x w first begun item now more → is_sought x item.gone ≡ false
+pub search_goes : (x : Sought) (w : Way) (first item after : Visited) (begun now t : State) (more : ℕ) → InSearch x w first begun item now more → is_sought x w.frames item.at.left item.rest.now item.gone ≡ false
     → is_some item.gone.closing ≡ false → 0 < more → IsNext w now item t after → HasRoom t after → length after.rest.now < length item.rest.now
     → InSearch x w first begun after t (more - 1)
 search_goes x w first item after begun now t more k other goes some is room less = record {

@@ -18,9 +18,11 @@ use Rattle.pickle_machine.specs.declared.loader.LoaderMove.{LoaderMove}
 use Rattle.pickle_machine.specs.State.{State}
 use Rattle.pickle_machine.specs.Move.{fresh}
 use Rattle.pickle_machine.specs.Loader.{loader_move, move_as, cleared}
+use Rattle.pickle_lenient.specs.declared.taken.Frames.{Frames}
 use Rattle.pickle_lenient.specs.declared.taken.Taken.{Taken}
 use Rattle.pickle_lenient.specs.Row.{is_far}
 use Rattle.pickle_lenient.specs.Stream.{taken}
+use Rattle.pickle_further.specs.Splits.{splits}
 use Rattle.pickle_further.specs.Leads.{or_first, event_leads}
 use Rattle.pickle_io.specs.declared.hole.Hole.{Hole}
 use Rattle.pickle_io.specs.Holes.{in_file}
@@ -176,17 +178,19 @@ tale_of holes w p = tale holes (suc (length p.rest)) w p
 
 -- ---- the first item of a kind
 
-abbrev pub is_sought : Sought → Gone → Bool
-is_sought sought.Event g = is_some g.event
-is_sought sought.Lost g = g.lost
+-- of an item with so many bytes in the buffer, before these bytes
+abbrev pub is_sought : Sought → Frames → ℕ → List ℕ → Gone → Bool
+is_sought sought.Event f left rest g = is_some g.event
+is_sought sought.Lost f left rest g = g.lost
+is_sought sought.Split f left rest g = splits f left rest
 
-abbrev pub search_on : Sought → Gone → Standing → Option Standing → Option Standing
-search_on x g p more = if is_sought x g then Some p else (if is_some g.closing then None else more)
+abbrev pub search_on : Sought → Way → Gone → Standing → Option Standing → Option Standing
+search_on x w g p more = if is_sought x w.frames p.at.left p.rest g then Some p else (if is_some g.closing then None else more)
 
 -- of at most n items, where it stands before the first that is sought; none if it ends before
 unfoldable pub search : Sought → ℕ → Way → Standing → Option Standing
 search x zero w p = None
-search x (suc n) w p = search_on x (going w p).gone p (search x n w (stands_after p (going w p)))
+search x (suc n) w p = search_on x w (going w p).gone p (search x n w (stands_after p (going w p)))
 
 -- of all items
 abbrev pub search_from : Sought → Way → Standing → Option Standing

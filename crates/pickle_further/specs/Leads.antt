@@ -8,6 +8,9 @@ use Rattle.std.specs.Option.{option_map_or}
 use Rattle.std.specs.List.{list_all, list_any}
 use Rattle.std.specs.Str.{bytes_eq}
 use Rattle.pickle_io.specs.Text.{◌⧺◌}
+use Rattle.pickle_names.specs.declared.coding.Coding.{Coding}
+use Rattle.pickle_names.specs.declared.coding.Coding.TheVariants as coding
+use Rattle.pickle_names.specs.Value.{decode_all}
 use Rattle.pickle_ops.specs.declared.kind.Kind.{Kind}
 use Rattle.pickle_ops.specs.declared.kind.Kind.TheVariants as kind
 use Rattle.pickle_ops.specs.Object.{Object}
@@ -40,13 +43,22 @@ begins_behind parts (c ∷ name) = (is_point c && begins parts name) || begins_b
 abbrev pub has_parts : List ℕ → List ℕ → Bool
 has_parts parts name = begins parts name || begins_behind parts name
 
--- by a row: these parts stand in the name of a module or of its member; or where the row has a module, this is it, and the member begins with these parts
-abbrev pub row_leads : List ℕ → List ℕ → List ℕ → List ℕ → Bool
-row_leads module_name parts from name =
-    if length module_name == 0 then has_parts parts from || has_parts parts name else bytes_eq from module_name && begins parts name
+-- the parts behind a point begin a dotted name
+abbrev pub rest_begins : List ℕ → List ℕ → Bool
+rest_begins [] name = false
+rest_begins (c ∷ parts) name = is_point c && begins parts name
+
+-- the first of these parts are a whole module, and the others begin the name of its member
+abbrev pub begins_over : List ℕ → List ℕ → List ℕ → Bool
+begins_over parts from name =
+    if nat_lt (length parts) (length from) then false else bytes_eq (take (length from) parts) from && rest_begins (drop (length from) parts) name
+
+-- by a row: these parts stand side by side in the name of a module or of its member, or the module's name and the member's begin with them
+abbrev pub row_leads : List ℕ → List ℕ → List ℕ → Bool
+row_leads parts from name = has_parts parts from || has_parts parts name || begins_over parts from name
 
 unfoldable pub names_lead : List ℕ → List ℕ → Bool
-names_lead from name = list_any (λ r. row_leads r.0.now r.1.now from name) LEADING
+names_lead from name = list_any (λ r. row_leads r.now from name) LEADING
 
 -- ---- imports
 
@@ -56,12 +68,20 @@ is_no_backslash c = not (c == 92)
 abbrev pub if_plain : List ℕ → Option (List ℕ)
 if_plain text = if list_all is_no_backslash text then Some text else None
 
--- the name that a text is; none where it is spelled with escapes, as no pickler spells a name, or is no text
+-- a text that can be read: CPython raises at any other, but a program may choose how errors are handled, and so may a pickle (codecs.register_error)
+abbrev pub if_read : Coding → List ℕ → Option (List ℕ)
+if_read c text = if (decode_all c text).good then Some text else None
+
+abbrev pub and_read : Coding → Option (List ℕ) → Option (List ℕ)
+and_read c (Some text) = if_read c text
+and_read c None = None
+
+-- the name that a text is; none where it cannot be read, is spelled with escapes, as no pickler spells a name, or is no text
 abbrev pub name_of : Kind → Option (List ℕ)
-name_of (kind.Text text) = Some text
+name_of (kind.Text text) = if_read coding.AnyUtf8 text
 name_of (kind.TextLine text) = if_plain text
-name_of (kind.LegacyString text) = Some text
-name_of (kind.LegacyLine line) = if_plain (inner line)
+name_of (kind.LegacyString text) = if_read coding.Ascii text
+name_of (kind.LegacyLine line) = and_read coding.Ascii (if_plain (inner line))
 name_of _ = None
 
 abbrev pub name_at : List Object → Option ℕ → Option (List ℕ)
@@ -74,10 +94,13 @@ pair_leads (Some from) (Some name) = names_lead from name
 pair_leads (Some from) None = true
 pair_leads None name = true
 
+abbrev pub coded_lead : Coding → List ℕ → List ℕ → Bool
+coded_lead c from name = pair_leads (if_read c from) (if_read c name)
+
 -- an import by two lines, which INST calls at once
 abbrev pub lines_lead : Kind → Bool
-lines_lead (kind.Global names) = names_lead names.first names.second
-lines_lead (kind.Inst names) = names_lead names.first names.second
+lines_lead (kind.Global names) = coded_lead coding.Utf8 names.first names.second
+lines_lead (kind.Inst names) = coded_lead coding.Ascii names.first names.second
 lines_lead _ = false
 
 abbrev pub is_by_parts : Kind → Bool
@@ -120,7 +143,7 @@ event_leads heap None = None
 -- ---- the line
 
 unfoldable pub warning_words : List ℕ
-warning_words = codes "warning: W1 "
+warning_words = codes "warning: "
 
 unfoldable pub leads_words : List ℕ
 leads_words = codes " leads to the unpickler"

@@ -1,6 +1,6 @@
 -- What loaders may do behind the end of the lines, as texts.
 -- Source: own.
-use Rattle.std.specs.Prelude.{ℕ, Bool, true, false, List, [], drop, codes, if◌then◌else◌, Option, Some, None}
+use Rattle.std.specs.Prelude.{ℕ, ◌==◌, ◌||◌, nat_lt, Bool, true, false, List, [], drop, codes, decimal, if◌then◌else◌, Option, Some, None}
 use Rattle.pickle_io.specs.Text.{◌⧺◌}
 use Rattle.pickle_doc.specs.Document.{Contents, document_bytes}
 use Rattle.pickle_doc.specs.Place.{ops_of, offset_of}
@@ -15,7 +15,9 @@ use Rattle.pickle_show.specs.declared.end.Ending.TheVariants as ending
 use Rattle.pickle_show.specs.Column.{newline}
 use Rattle.pickle_show.specs.Report.{closing_line}
 use Rattle.pickle_show.specs.CallsLine.{totals_line}
+use Rattle.std.specs.List.{list_any}
 use Rattle.pickle_io.specs.declared.hole.Hole.{Hole}
+use Rattle.pickle_io.specs.Holes.{in_file}
 use Rattle.pickle_show.specs.declared.naming.Detail.{Detail}
 use Rattle.pickle_show.specs.Manner.{Manner, closing_in}
 use Rattle.pickle_show.specs.Naming.{begin}
@@ -23,9 +25,10 @@ use Rattle.pickle_show.specs.Calls.{CallsEnd, calls_end, naming_at}
 use Rattle.pickle_further.specs.declared.way.Pickles.{Pickles}
 use Rattle.pickle_further.specs.declared.way.Pickles.TheVariants as pickles
 use Rattle.pickle_further.specs.declared.way.Way.{Way}
+use Rattle.pickle_further.specs.declared.going.Gone.{Gone}
 use Rattle.pickle_further.specs.declared.seek.Sought.TheVariants as sought
 use Rattle.pickle_further.specs.Leads.{warning_text}
-use Rattle.pickle_further.specs.Going.{Standing, Tale, tale_of, search_from}
+use Rattle.pickle_further.specs.Going.{Standing, going, Tale, tale_of, search_from}
 
 -- ---- the last lines of a part
 
@@ -123,8 +126,38 @@ loss_at how w bytes = search_from sought.Lost w (standing_first how w.pickles by
 abbrev pub lost_by : Manner → Way → List ℕ → List ℕ
 lost_by how w bytes = found_text how.holes w (loss_at how.detail w bytes)
 
+-- where loaders first part that keep frames in a buffer and that were shown them, if they do
+abbrev pub split_at : Detail → Way → List ℕ → Option Standing
+split_at how w bytes = search_from sought.Split w (standing_first how w.pickles bytes)
+
+-- a byte that may be FRAME
+abbrev pub is_frame_code : ℕ → Bool
+is_frame_code byte = byte == 149
+
+-- with an item before these bytes, or behind it, another frame may begin; or bytes are in the buffer behind it
+abbrev pub mixed_there : Gone → List ℕ → ℕ → Option ℕ
+mixed_there g rest offset = if nat_lt 0 g.left || list_any is_frame_code rest then Some offset else None
+
+-- from there on a loader that takes one frame in one way and another in the other may do what no part shows
+abbrev pub mixed_from : Way → Option Standing → Option ℕ
+mixed_from w (Some q) = mixed_there (going w q).gone q.rest q.at.offset
+mixed_from w None = None
+
+abbrev pub first_mixed : Detail → Pickles → List ℕ → Option ℕ
+first_mixed how p bytes = mixed_from (buffering p) (split_at how (buffering p) bytes)
+
+unfoldable pub mixed_words : List ℕ
+mixed_words = codes "unsure: U3 frames may be mixed at "
+
+unfoldable pub mixed_line : ℕ → List ℕ
+mixed_line offset = mixed_words ⧺ decimal offset ⧺ newline
+
+abbrev pub mixed_text : List Hole → Option ℕ → List ℕ
+mixed_text holes (Some offset) = mixed_line (in_file holes offset)
+mixed_text holes None = []
+
 abbrev pub lost_text : Manner → Pickles → List ℕ → List ℕ
-lost_text how p bytes = lost_by how (buffering p) bytes
+lost_text how p bytes = lost_by how (buffering p) bytes ⧺ mixed_text how.holes (first_mixed how.detail p bytes)
 
 -- ---- both
 

@@ -6,75 +6,116 @@ ghost use Rattle.std.specs.Option.{option_map};
 ghost use Rattle.pickle_io.specs.Device.{Writes};
 ghost use Rattle.pickle_ops.specs.KindRef.{kind_view};
 ghost use Rattle.pickle_show.specs.Naming.{inner};
-ghost use Rattle.pickle_further.specs.Leads.{is_point, ends_part, begins, begins_behind, has_parts, row_leads, names_lead, is_no_backslash, if_plain, name_of, name_at, pair_leads, lines_lead, is_by_parts, parts_lead, kind_leads, leads_at, or_first, if_leads, first_leading, event_leads, warning_words, leads_words, warning_line, warning_text, warned_status};
+ghost use Rattle.pickle_further.specs.Leads.{is_point, ends_part, begins, begins_behind, has_parts, rest_begins, begins_over, row_leads, names_lead, is_no_backslash, if_plain, if_read, and_read, name_of, name_at, pair_leads, coded_lead, lines_lead, is_by_parts, parts_lead, kind_leads, leads_at, or_first, if_leads, first_leading, event_leads, warning_words, leads_words, warning_line, warning_text, warned_status};
 
 use pickle_io::{Failed, Page, write_all};
 use pickle_machine::Inspect;
+use pickle_names::{Coding, read};
 use pickle_ops::{KindRef, ObjId};
 use pickle_show::{Event, write_id};
 
-/// What leads to the unpickler: a module, or none for any, and parts that stand side by side in the name of a member; where there is no module
-/// they may stand in a module's name too.
-static LEADING: [(&str, &str); 52] = [
+/// What leads to the unpickler: parts that stand side by side in the dotted name of a module or of its member, or with which both names together begin.
+/// The names are those that a pickle says, which Python 3 may take for those of Python 2. Modules have other names in modules that import them.
+static LEADING: [&str; 91] = [
     // The unpickler: its modules, its classes, what is made of them, and other libraries' own ones.
-    ("", "pickle"),
-    ("", "cPickle"),
-    ("_pickle", "load"),
-    ("_pickle", "loads"),
-    ("", "Unpickler"),
-    ("", "_Unpickler"),
-    ("", "_Unframer"),
-    ("", "UnpicklerMemoProxy"),
-    ("", "NumpyUnpickler"),
-    ("", "ZipNumpyUnpickler"),
-    ("", "pickle_compat"),
-    ("", "_weights_only_unpickler"),
-    // Any object that there is.
-    ("", "gc"),
-    // The frames of its caller.
-    ("", "_getframe"),
-    ("", "_current_frames"),
-    ("", "_current_exceptions"),
-    ("", "settrace"),
-    ("", "setprofile"),
-    ("", "currentframe"),
-    ("", "walk_stack"),
-    ("inspect", "stack"),
-    ("inspect", "trace"),
-    ("inspect", "getouterframes"),
-    ("inspect", "getinnerframes"),
-    ("", "f_locals"),
-    ("", "f_globals"),
-    ("", "gi_frame"),
-    ("", "tb_frame"),
+    "pickle",
+    "cPickle",
+    "_pickle.load",
+    "_pickle.loads",
+    "Unpickler",
+    "_Unpickler",
+    "_Unframer",
+    "UnpicklerMemoProxy",
+    "NumpyUnpickler",
+    "ZipNumpyUnpickler",
+    "pickle_compat",
+    "_weights_only_unpickler",
+    // Any object, or any class, that there is.
+    "gc",
+    "__subclasses__",
+    // The frames of its caller, or what is called in them.
+    "_getframe",
+    "_current_frames",
+    "_current_exceptions",
+    "settrace",
+    "setprofile",
+    "settrace_all_threads",
+    "setprofile_all_threads",
+    "_settraceallthreads",
+    "_setprofileallthreads",
+    "sys.monitoring",
+    "_sys.monitoring",
+    "signal.signal",
+    "_signal.signal",
+    "currentframe",
+    "walk_stack",
+    "inspect.stack",
+    "inspect.trace",
+    "getouterframes",
+    "getinnerframes",
+    "exc_info",
+    "f_locals",
+    "f_globals",
+    "f_builtins",
+    "f_back",
+    "gi_frame",
+    "cr_frame",
+    "ag_frame",
+    "tb_frame",
     // What EXT imports.
-    ("", "_extension_registry"),
-    ("", "_inverted_registry"),
-    ("", "_extension_cache"),
-    ("", "add_extension"),
+    "_extension_registry",
+    "_inverted_registry",
+    "_extension_cache",
+    "add_extension",
     // What names come to.
-    ("sys", "modules"),
-    ("", "sys.modules"),
-    ("", "_compat_pickle"),
-    ("", "__dict__"),
-    ("", "__globals__"),
-    ("", "__builtins__"),
+    "sys.modules",
+    "_sys.modules",
+    "sys.path",
+    "_sys.path",
+    "meta_path",
+    "path_hooks",
+    "path_importer_cache",
+    "_compat_pickle",
+    "__dict__",
+    "__globals__",
+    "__builtins__",
+    "__self__",
+    // How names are read that are no text, or by another encoding.
+    "register_error",
+    "codecs.register",
+    "_codecs.register",
     // The file that is loaded, by its number.
-    ("", "lseek"),
-    ("", "dup2"),
-    ("", "set_blocking"),
-    ("", "closerange"),
-    ("os", "read"),
-    ("posix", "read"),
-    ("nt", "read"),
-    ("", "fdopen"),
-    ("", "FileIO"),
-    ("builtins", "open"),
-    ("__builtin__", "open"),
-    ("io", "open"),
-    ("_io", "open"),
+    "lseek",
+    "dup2",
+    "set_blocking",
+    "closerange",
+    "os.close",
+    "_os.close",
+    "posix.close",
+    "nt.close",
+    "os.read",
+    "_os.read",
+    "posix.read",
+    "nt.read",
+    "readv",
+    "sendfile",
+    "fdopen",
+    "FileIO",
+    "builtins.open",
+    "__builtin__.open",
+    "_builtins.open",
+    "bltns.open",
+    "_builtin_open",
+    "bltn_open",
+    "io.open",
+    "_io.open",
+    "_pyio.open",
+    "codecs.open",
+    "StringIO.open",
+    "cStringIO.open",
     // Memory.
-    ("", "ctypes"),
+    "ctypes",
+    "_ctypes",
 ];
 
 /// Whether a part of a name ends before these bytes.
@@ -117,23 +158,40 @@ fn has_parts(parts: &[u8], name: &[u8]) -> bool
     begins(parts, name) || begins_behind(parts, name)
 }
 
-/// Whether names lead to the unpickler by a row of this whole module, which is empty for any, and these parts.
-fn row_leads(whole: &[u8], parts: &[u8], from: &[u8], name: &[u8]) -> bool
-    ensures { result ≡ row_leads whole.now parts.now from.now name.now }
+/// Whether the parts behind a point begin a dotted name.
+fn rest_begins(rest: &[u8], name: &[u8]) -> bool
+    ensures { result ≡ rest_begins rest.now name.now }
 {
-    if whole.len() == 0 {
-        has_parts(parts, from) || has_parts(parts, name)
-    } else {
-        from == whole && begins(parts, name)
+    match rest.split_first() {
+        Some((byte, parts)) => *byte == b'.' && begins(parts, name),
+        None => false,
     }
 }
 
+/// Whether the first of these parts are a whole module, and the others begin the name of its member.
+fn begins_over(parts: &[u8], from: &[u8], name: &[u8]) -> bool
+    ensures { result ≡ begins_over parts.now from.now name.now }
+{
+    if parts.len() < from.len() {
+        return false;
+    }
+    let (front, rest) = parts.split_at(from.len());
+    front == from && rest_begins(rest, name)
+}
+
+/// Whether names lead to the unpickler by a row of these parts.
+fn row_leads(parts: &[u8], from: &[u8], name: &[u8]) -> bool
+    ensures { result ≡ row_leads parts.now from.now name.now }
+{
+    has_parts(parts, from) || has_parts(parts, name) || begins_over(parts, from, name)
+}
+
 /// Whether they do by one of these rows.
-fn rows_lead(rows: &[(&'static str, &'static str)], from: &[u8], name: &[u8]) -> bool
-    ensures { result ≡ list_any (λ r. row_leads r.0.now r.1.now from.now name.now) rows.now }
+fn rows_lead(rows: &[&'static str], from: &[u8], name: &[u8]) -> bool
+    ensures { result ≡ list_any (λ r. row_leads r.now from.now name.now) rows.now }
 {
     for row in rows {
-        if row_leads(row.0.as_bytes(), row.1.as_bytes(), from, name) {
+        if row_leads(row.as_bytes(), from, name) {
             return true;
         }
     }
@@ -173,6 +231,27 @@ fn if_plain(text: &[u8]) -> Option<&[u8]>
     }
 }
 
+/// A text, if it can be read.
+fn if_read(coding: Coding, text: &[u8]) -> Option<&[u8]>
+    ensures { option_map (λ t. t.now) result ≡ if_read coding text.now }
+{
+    if read(coding, text.len(), text).good {
+        Some(text)
+    } else {
+        None
+    }
+}
+
+/// The same of a text that there may be.
+fn and_read(coding: Coding, text: Option<&[u8]>) -> Option<&[u8]>
+    ensures { option_map (λ t. t.now) result ≡ and_read coding (option_map (λ t. t.now) text.entry) }
+{
+    match text {
+        Some(text) => if_read(coding, text),
+        None => None,
+    }
+}
+
 /// What is between the quotes of a line.
 fn inner(line: &[u8]) -> &[u8]
     ensures { result.now ≡ inner line.now }
@@ -188,10 +267,10 @@ fn name_of<'a>(kind: KindRef<'a>) -> Option<&'a [u8]>
     ensures { option_map (λ t. t.now) result ≡ name_of (kind_view kind.entry) }
 {
     match kind {
-        KindRef::Text(text) => Some(text),
+        KindRef::Text(text) => if_read(Coding::AnyUtf8, text),
         KindRef::TextLine(text) => if_plain(text),
-        KindRef::LegacyString(text) => Some(text),
-        KindRef::LegacyLine(line) => if_plain(inner(line)),
+        KindRef::LegacyString(text) => if_read(Coding::Ascii, text),
+        KindRef::LegacyLine(line) => and_read(Coding::Ascii, if_plain(inner(line))),
         _ => None,
     }
 }
@@ -230,13 +309,20 @@ fn pair_leads(from: Option<&[u8]>, name: Option<&[u8]>) -> bool
     }
 }
 
+/// Whether an import by two lines of this coding does.
+fn coded_lead(coding: Coding, from: &[u8], name: &[u8]) -> bool
+    ensures { result ≡ coded_lead coding from.now name.now }
+{
+    pair_leads(if_read(coding, from), if_read(coding, name))
+}
+
 /// Whether an object of this kind is an import by two lines that does.
 fn lines_lead(kind: KindRef<'_>) -> bool
     ensures { result ≡ lines_lead (kind_view kind.entry) }
 {
     match kind {
-        KindRef::Global(names) => names_lead(names.first(), names.second()),
-        KindRef::Inst(names) => names_lead(names.first(), names.second()),
+        KindRef::Global(names) => coded_lead(Coding::Utf8, names.first(), names.second()),
+        KindRef::Inst(names) => coded_lead(Coding::Ascii, names.first(), names.second()),
         _ => false,
     }
 }
@@ -335,7 +421,7 @@ pub fn or_first(found: Option<ObjId>, next: Option<ObjId>) -> Option<ObjId>
 fn warning_words() -> &'static str
     ensures { result.now ≡ warning_words }
 {
-    "warning: W1 "
+    "warning: "
 }
 
 /// The words behind it.

@@ -13,6 +13,7 @@ mod leads;
 mod machine;
 mod parts;
 mod seek;
+mod splits;
 mod texts;
 mod way;
 

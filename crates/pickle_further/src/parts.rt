@@ -2,12 +2,13 @@
 //! those in the file.
 
 ghost use Rattle.std.specs.Prelude.{◌≡◌, ◌≤◌, ◌^◌, length, Some, IfOk, IfErr};
+ghost use Rattle.std.specs.List.{list_any};
 ghost use Rattle.pickle_io.specs.Device.{Writes};
 ghost use Rattle.pickle_io.specs.Text.{◌⧺◌};
 ghost use Rattle.pickle_further.specs.Leads.{warning_text};
 ghost use Rattle.pickle_further.specs.CallsText.{PutsText};
 ghost use Rattle.pickle_further.specs.Going.{search_from};
-ghost use Rattle.pickle_further.specs.Parts.{stop_words, stop_line, ends_line, part_end, ignored_words, buffered_words, held_words, header_words, header, tale_text, part_text, text_from, found_text};
+ghost use Rattle.pickle_further.specs.Parts.{stop_words, stop_line, ends_line, part_end, ignored_words, buffered_words, held_words, header_words, header, tale_text, part_text, text_from, found_text, is_frame_code, mixed_there, mixed_from};
 ghost use Rattle.pickle_machine.specs.State.{State};
 ghost use Rattle.pickle_show.specs.Naming.{begin};
 ghost use Rattle.pickle_further.specs.Inside.{standing, standing_begun, standing_of, loss_from, tale_at, IsGoneOver, HasRoom, Finds, FindsRoom};
@@ -223,17 +224,18 @@ pub fn write_from<S: Page>(
     write_visited(alloc, holes, way, item, machine, page)
 }
 
-/// The first item whose reading loses bytes, if there is one. The machine has done nothing yet.
-fn first_lost<'a>(
+/// The first item that is looked for, if there is one. The machine has done nothing yet.
+fn first_sought<'a>(
     alloc: Global,
     detail: Detail,
     way: Way,
+    sought: Sought,
     bytes: &'a [u8],
     machine: &mut LoaderMachine,
 ) -> Result<Option<Visited<'a>>, TextStop>
     requires few { length bytes.now ≤ 2 ^ 30 }
     requires heap { length machine.old.state.heap ≤ 2 ^ 30 }
-    ensures finds { IfOk result (λ found. Finds way (search_from Sought.Lost way (standing_begun machine.old.state bytes.now detail)) found machine.new.state) }
+    ensures finds { IfOk result (λ found. Finds way (search_from sought way (standing_begun machine.old.state bytes.now detail)) found machine.new.state) }
     ensures room { IfOk result (FindsRoom machine.new.state) }
     ensures err { IfErr result (λ e. e ≡ TextStop.Memory) }
 {
@@ -250,7 +252,7 @@ fn first_lost<'a>(
         naming,
         gone,
     };
-    seek(alloc, way, Sought::Lost, first, machine)
+    seek(alloc, way, sought, first, machine)
 }
 
 /// Writes what loaders may do from the first item on whose reading loses bytes, where it or one behind it has an event. The machine has
@@ -269,7 +271,7 @@ pub fn write_found<S: Page>(
     ensures { PutsText (S.told page.old) (S.told page.new)
         (found_text holes.now way (search_from Sought.Lost way (standing_begun machine.old.state bytes.now detail))) result }
 {
-    match first_lost(alloc, detail, way, bytes, machine)? {
+    match first_sought(alloc, detail, way, Sought::Lost, bytes, machine)? {
         Some(found) => write_visited(alloc, holes, way, found, machine, page),
         None => Ok(()),
     }
@@ -288,8 +290,51 @@ pub fn find_loss(
     ensures ok { IfOk result (λ x. x ≡ loss_from way (standing_begun machine.old.state bytes.now detail)) }
     ensures err { IfErr result (λ e. e ≡ TextStop.Memory) }
 {
-    match first_lost(alloc, detail, way, bytes, machine)? {
+    match first_sought(alloc, detail, way, Sought::Lost, bytes, machine)? {
         Some(found) => Ok(Some(found.at.offset)),
+        None => Ok(None),
+    }
+}
+
+/// Whether a byte may be FRAME.
+fn has_frame(bytes: &[u8]) -> bool
+    ensures { result ≡ list_any is_frame_code bytes.now }
+{
+    for byte in bytes {
+        if *byte == 149 {
+            return true;
+        }
+    }
+    false
+}
+
+/// Where an item is at which loaders part, if another frame may follow.
+fn mixed_there(item: Visited<'_>) -> Option<u64>
+    ensures { result ≡ mixed_there item.entry.gone item.entry.rest.now item.entry.at.offset }
+{
+    let frame = has_frame(item.rest);
+    if 0 < item.gone.left || frame {
+        Some(item.at.offset)
+    } else {
+        None
+    }
+}
+
+/// From where frames may be mixed, if they may be. The machine has done nothing yet.
+pub fn find_mixed(
+    alloc: Global,
+    detail: Detail,
+    way: Way,
+    bytes: &[u8],
+    machine: &mut LoaderMachine,
+) -> Result<Option<u64>, TextStop>
+    requires few { length bytes.now ≤ 2 ^ 30 }
+    requires heap { length machine.old.state.heap ≤ 2 ^ 30 }
+    ensures ok { IfOk result (λ x. x ≡ mixed_from way (search_from Sought.Split way (standing_begun machine.old.state bytes.now detail))) }
+    ensures err { IfErr result (λ e. e ≡ TextStop.Memory) }
+{
+    match first_sought(alloc, detail, way, Sought::Split, bytes, machine)? {
+        Some(found) => Ok(mixed_there(found)),
         None => Ok(None),
     }
 }

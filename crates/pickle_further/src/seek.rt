@@ -1,6 +1,6 @@
 //! The first item of a kind.
 
-ghost use Rattle.std.specs.Prelude.{◌≡◌, ◌<◌, None, length, IfOk, IfErr};
+ghost use Rattle.std.specs.Prelude.{◌≡◌, ◌<◌, ◌^◌, None, length, IfOk, IfErr};
 ghost use Rattle.pickle_machine.specs.State.{State};
 ghost use Rattle.pickle_further.specs.Going.{is_sought, search_from};
 ghost use Rattle.pickle_further.specs.Inside.{HasRoom, IsGoneOver, standing_of, IsNext, Finds, FindsRoom};
@@ -8,6 +8,7 @@ ghost use Rattle.pickle_further.specs.Inside.{HasRoom, IsGoneOver, standing_of, 
 use crate::engine::spot_after;
 use crate::going::{Gone, go};
 use crate::machine::LoaderMachine;
+use crate::splits::splits;
 use crate::way::{Spot, Way};
 use pickle_machine::Inspect;
 use pickle_show::{Naming, TextStop};
@@ -20,6 +21,8 @@ pub enum Sought {
     Event,
     /// An item whose reading loses bytes.
     Lost,
+    /// An item at which loaders part, as they have bytes of a frame in a buffer or not.
+    Split,
 }
 
 /// An item that was gone over.
@@ -36,12 +39,15 @@ pub struct Visited<'a> {
 }
 
 /// Whether it is looked for.
-fn is_sought(sought: Sought, gone: Gone) -> bool
-    ensures { result ≡ is_sought sought gone }
+fn is_sought(alloc: Global, sought: Sought, way: Way, item: Visited<'_>) -> Result<bool, TextStop>
+    requires { length item.rest.now < 2 ^ 62 }
+    ensures ok { IfOk result (λ x. x ≡ is_sought sought way.frames item.entry.at.left item.entry.rest.now item.entry.gone) }
+    ensures err { IfErr result (λ e. e ≡ TextStop.Memory) }
 {
     match sought {
-        Sought::Event => gone.event.is_some(),
-        Sought::Lost => gone.lost,
+        Sought::Event => Ok(item.gone.event.is_some()),
+        Sought::Lost => Ok(item.gone.lost),
+        Sought::Split => splits(alloc, way.frames, item.at.left, item.rest),
     }
 }
 
@@ -88,7 +94,7 @@ pub fn seek<'a>(
     let mut item = first;
     let mut more = first.rest.len();
     'items: loop {
-        if is_sought(sought, item.gone) {
+        if is_sought(alloc, sought, way, item)? {
             return Ok(Some(item));
         }
         if item.gone.closing.is_some() {

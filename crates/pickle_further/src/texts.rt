@@ -5,7 +5,7 @@ ghost use Rattle.pickle_io.specs.Device.{Told, Writes};
 ghost use Rattle.pickle_doc.specs.Document.{size_limit};
 ghost use Rattle.pickle_show.specs.Manner.{manner};
 ghost use Rattle.pickle_show.specs.Ran.{IsRun};
-ghost use Rattle.pickle_further.specs.Parts.{are_many, ignoring, text_from, is_open, lost_by, parts};
+ghost use Rattle.pickle_further.specs.Parts.{are_many, ignoring, text_from, is_open, lost_by, lost_text, first_mixed, mixed_words, mixed_line, mixed_text, parts};
 ghost use Rattle.pickle_further.specs.Inside.{standing_behind};
 ghost use Rattle.pickle_further.specs.CallsText.{CompletesText, CutsCallsText, CompletesDocument, CutsDocument, PutsText, first_loss, loss_words, loss_line, loss_text, kept_behind, kept_status};
 
@@ -13,7 +13,7 @@ use crate::engine::write_items;
 use crate::going::go;
 use crate::leads::{first_leading, warned_status, write_warning};
 use crate::machine::LoaderMachine;
-use crate::parts::{find_loss, write_found, write_from};
+use crate::parts::{find_loss, find_mixed, write_found, write_from};
 use crate::way::{Pickles, Spot, Way};
 use pickle_doc::Items;
 use pickle_io::{Failed, Holes, Page, write_all, write_decimal};
@@ -59,6 +59,75 @@ fn write_lost<S: Page>(
 {
     let mut machine = LoaderMachine::new(alloc, Machine::start(alloc, are_many(way.pickles)));
     write_found(alloc, detail, holes, way, bytes, &mut machine, page)
+}
+
+/// From where frames may be mixed, if they may be.
+fn first_mixed(
+    alloc: Global,
+    detail: Detail,
+    pickles: Pickles,
+    bytes: &[u8],
+) -> Result<Option<u64>, TextStop>
+    requires { length bytes.now ≤ size_limit }
+    ensures ok { IfOk result (λ x. x ≡ first_mixed detail pickles bytes.now) }
+    ensures err { IfErr result (λ e. e ≡ TextStop.Memory) }
+{
+    let way = Way {
+        pickles,
+        frames: Frames::Buffered,
+    };
+    let mut machine = LoaderMachine::new(alloc, Machine::start(alloc, are_many(pickles)));
+    find_mixed(alloc, detail, way, bytes, &mut machine)
+}
+
+/// The words of the line that says from where frames may be mixed.
+#[tactic(auto, unfolding(crate::specs::Parts::mixed_words))]
+fn mixed_words() -> &'static str
+    ensures { result.now ≡ mixed_words }
+{
+    "unsure: U3 frames may be mixed at "
+}
+
+/// Writes that frames may be mixed from this offset on.
+#[tactic(auto, using(pickle_io::proofs::Devices::text_steps), unfolding(crate::specs::Parts::mixed_line))]
+fn write_mixed_line<S: Page>(offset: u64, page: &mut S) -> Result<(), Failed>
+    ensures { Writes (S.told page.old) (S.told page.new) result (mixed_line offset) }
+{
+    write_all(page, mixed_words().as_bytes())?;
+    write_decimal(offset, page)?;
+    write_all(page, b"\n")
+}
+
+/// Writes it, if they may be.
+fn write_mixed<S: Page>(holes: &Holes, mixed: Option<u64>, page: &mut S) -> Result<(), Failed>
+    ensures { Writes (S.told page.old) (S.told page.new) result (mixed_text holes.now mixed) }
+{
+    match mixed {
+        Some(offset) => write_mixed_line(holes.in_file(offset), page),
+        None => Ok(()),
+    }
+}
+
+/// Writes what loaders may do that lose bytes of frames, and from where others may mix frames.
+fn write_lossy<S: Page>(
+    alloc: Global,
+    detail: Detail,
+    holes: &Holes,
+    pickles: Pickles,
+    bytes: &[u8],
+    page: &mut S,
+) -> Result<(), TextStop>
+    requires { length bytes.now ≤ size_limit }
+    ensures { PutsText (S.told page.old) (S.told page.new) (lost_text (manner detail holes.now) pickles bytes.now) result }
+{
+    let way = Way {
+        pickles,
+        frames: Frames::Buffered,
+    };
+    write_lost(alloc, detail, holes, way, bytes, page)?;
+    let mixed = first_mixed(alloc, detail, pickles, bytes)?;
+    write_mixed(holes, mixed, page)?;
+    Ok(())
 }
 
 /// Writes what loaders may do that ignore frames, behind the items that were run. Their machine has all that the objects hold, which the
@@ -124,11 +193,7 @@ fn write_parts<S: Page>(
         return Ok(());
     }
     write_ignoring(alloc, holes, pickles, bytes, ran, slim, page)?;
-    let way = Way {
-        pickles,
-        frames: Frames::Buffered,
-    };
-    write_lost(alloc, detail, holes, way, bytes, page)
+    write_lossy(alloc, detail, holes, pickles, bytes, page)
 }
 
 /// Writes the text of the document that the bytes read as.

@@ -148,7 +148,7 @@ framed_settled : (bytes : List ℕ) (r after : Reader) (left n : ℕ) (l : Lenie
 framed_settled bytes r after left n l b e = framed_by bytes r after left n l (nat_le n left) (nat_le n (length bytes - (l.size + 0 + left))) (begun bytes r after left n l b e) refl refl
 
 -- a number of 0 begins nothing
-nothing_framed : (bytes : List ℕ) (t : Taken) (n : ℕ) → n ≡ 0 → framed bytes t n ≡ t
+pub nothing_framed : (bytes : List ℕ) (t : Taken) (n : ℕ) → n ≡ 0 → framed bytes t n ≡ t
 nothing_framed bytes t n e =
     ap (λ (b : Bool). if b then t else (if nat_le n (length bytes - (t.size + t.left)) then refilled n t else refilled (length bytes - (t.size + t.left)) t)) (le-leb n t.left (omega (arith, e)))
 

@@ -67,11 +67,19 @@ pub record NamedSo (w : Way) (q : Standing) (y : Option Standing) : Type 0 where
   pub other : Standing
   pub there : y ≡ Some other
   pub goes : going w other ≡ going w q
+  pub rest : other.rest ≡ q.rest
+  pub at : other.at ≡ q.at
 
 named_some : (w : Way) (x y : Option Standing) (q : Standing) → Named x y → x ≡ Some q → NamedSo w q y
 named_some w (Some r) (Some p) q (m, e) is =
     let same : r ≡ q = cc in
-    record { other = p; there = refl; goes = ap (going w) e ∙ going_said w m r ∙ ap (going w) same }
+    record {
+      other = p;
+      there = refl;
+      goes = ap (going w) e ∙ going_said w m r ∙ ap (going w) same;
+      rest = ap (λ (x : Standing). x.rest) e ∙ ap (λ (x : Standing). x.rest) same;
+      at = ap (λ (x : Standing). x.at) e ∙ ap (λ (x : Standing). x.at) same;
+    }
 named_some w (Some r) None q h is = absurd h
 named_some w None y q h is = absurd cc
 

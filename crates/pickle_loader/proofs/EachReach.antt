@@ -40,7 +40,7 @@ use Rattle.pickle_further.specs.Going.{Standing, Going, event_by, then_as, moved
 use Rattle.pickle_further.specs.Parts.{ignoring, buffering, are_many, is_open, standing_at, standing_first}
 use Rattle.pickle_loader.specs.Environment.{Value, Plain}
 use Rattle.pickle_loader.specs.Onward.{stands, begins_anew, unbuffered}
-use Rattle.pickle_loader.specs.Text.{line_gone, lines_from, lines_if, behind_lines, lost_lines, parts_lines, document_last, document_lines, IsAmong}
+use Rattle.pickle_loader.specs.Text.{line_gone, lines_from, lines_if, behind_lines, lost_lines, mixed_lines, parts_lines, document_last, document_lines, IsAmong}
 use Rattle.pickle_loader.proofs.Still.{move_to}
 use Rattle.pickle_loader.proofs.Leads.{event_fresh, moved_on_fresh}
 use Rattle.pickle_loader.proofs.Lines.{all_reached}
@@ -201,7 +201,7 @@ stop_closes q r o t m stop last e =
     let wrong : Some closing.Stopped ≡ None = sym closes ∙ e in absurd cc
 
 -- the one pickle is over with its STOP
-first_over : (how : Manner) (d : Contents) (k : ℕ) (o : Operation) (q : Standing) → IsReadSo pickles.First d → (x : IsOver d) → length (ops_of d) ≡ suc k → item_at d k ≡ Some o → is_stop o.opcode ≡ true
+pub first_over : (how : Manner) (d : Contents) (k : ℕ) (o : Operation) (q : Standing) → IsReadSo pickles.First d → (x : IsOver d) → length (ops_of d) ≡ suc k → item_at d k ≡ Some o → is_stop o.opcode ≡ true
     → stands (ignoring pickles.First) (First how pickles.First d) (suc k) ≡ Some q → ⊥
 first_over how d k o q r x size here stop there =
     let s = stood_before (ignoring pickles.First) (stands (ignoring pickles.First) (First how pickles.First d) k) q (sym (stands_next (ignoring pickles.First) (First how pickles.First d) k) ∙ there) in
@@ -252,8 +252,9 @@ behind_end how p d n q true goes r x most there ev =
     let behind : stands (ignoring p) at.0 (n - e.place) ≡ Some q = sym (onward (ignoring p) (First how p d) at.0 e.place (n - e.place) at.1) ∙ ap (stands (ignoring p) (First how p d)) sum ∙ there in
     let lines : IsAmong line (lines_from how.holes (ignoring p) (standing_at how.detail d e.place x.state)) = subst (λ (y : Standing). IsAmong line (lines_from how.holes (ignoring p) y)) same (among_from how.holes (ignoring p) at.0 (n - e.place) q behind ev) in
     let first : IsAmong line (behind_lines how p d e.place (run (start d.many) (ops_of d) e.place)) = subst (λ (y : Option State). IsAmong line (behind_lines how p d e.place y)) (sym x.reached) lines in
-    subst (λ (b : Bool). IsAmong line (if b then behind_lines how p d e.place (run (start d.many) (ops_of d) e.place) ++ lost_lines how (buffering p) (document_bytes d) else [])) (sym goes)
-    (among_left line (behind_lines how p d e.place (run (start d.many) (ops_of d) e.place)) (lost_lines how (buffering p) (document_bytes d)) first)
+    let lossy : List (List ℕ) = lost_lines how (buffering p) (document_bytes d) ++ mixed_lines how p (document_bytes d) in
+    subst (λ (b : Bool). IsAmong line (if b then behind_lines how p d e.place (run (start d.many) (ops_of d) e.place) ++ lossy else [])) (sym goes)
+    (among_left line (behind_lines how p d e.place (run (start d.many) (ops_of d) e.place)) lossy first)
 
 pub ignoring_reach : (how : Manner) (p : Pickles) (d : Contents) (n : ℕ) (q : Standing) → IsReadSo p d → stands (ignoring p) (First how p d) n ≡ Some q → HasEvent (ignoring p) q
     → IsAmong (line_gone how.holes q (going (ignoring p) q)) (document_lines how p d)
@@ -283,6 +284,14 @@ none_lost how p d n q r x tail there =
     let turn = turn_of how.detail no_value p d n q r.formed r.small r.anew (r.mode, r.framing) t w.0 w.1 w.2 in
     ap (λ (g : Going). g.gone.lost) (going_of p d n q turn).0 ∙ turn.lost
 
+-- what is behind the first part, where loaders go on
+pub in_lossy : (how : Manner) (p : Pickles) (d : Contents) (line : List ℕ) → is_open (calls_end d).ending ≡ true → IsAmong line (lost_lines how (buffering p) (document_bytes d) ++ mixed_lines how p (document_bytes d)) → IsAmong line (parts_lines how p d (calls_end d))
+in_lossy how p d line goes h =
+    let e : CallsEnd = calls_end d in
+    let lossy : List (List ℕ) = lost_lines how (buffering p) (document_bytes d) ++ mixed_lines how p (document_bytes d) in
+    subst (λ (b : Bool). IsAmong line (if b then behind_lines how p d e.place (run (start d.many) (ops_of d) e.place) ++ lossy else [])) (sym goes)
+    (among_right line (behind_lines how p d e.place (run (start d.many) (ops_of d) e.place)) lossy h)
+
 -- what is behind the first loss stands in its part, where loaders go on
 pub lost_in_parts : (how : Manner) (p : Pickles) (d : Contents) (n : ℕ) (q : Standing) → is_open (calls_end d).ending ≡ true → IsBehindLoss how.detail (buffering p) (document_bytes d) n q → HasEvent (buffering p) q
     → IsAmong (line_gone how.holes q (going (buffering p) q)) (parts_lines how p d (calls_end d))
@@ -291,8 +300,7 @@ lost_in_parts how p d n q goes l ev =
     let e : CallsEnd = calls_end d in
     let lines : IsAmong line (lost_lines how (buffering p) (document_bytes d)) =
     subst (λ (y : Option Standing). IsAmong line (lines_if how.holes (buffering p) y)) (sym l.found) (among_from how.holes (buffering p) l.first (n - l.place) q l.there ev) in
-    subst (λ (b : Bool). IsAmong line (if b then behind_lines how p d e.place (run (start d.many) (ops_of d) e.place) ++ lost_lines how (buffering p) (document_bytes d) else [])) (sym goes)
-    (among_right line (behind_lines how p d e.place (run (start d.many) (ops_of d) e.place)) (lost_lines how (buffering p) (document_bytes d)) lines)
+    in_lossy how p d line goes (among_left line (lost_lines how (buffering p) (document_bytes d)) (mixed_lines how p (document_bytes d)) lines)
 
 behind_loss : (how : Manner) (d : Contents) (n : ℕ) (q : Standing) (b : Bool) → is_open (calls_end d).ending ≡ b → IsReadSo pickles.All d → (x : EndIs d (calls_end d)) → IsBehindLoss how.detail (buffering pickles.All) (document_bytes d) n q
     → HasEvent (buffering pickles.All) q → IsAmong (line_gone how.holes q (going (buffering pickles.All) q)) (parts_lines how pickles.All d (calls_end d))

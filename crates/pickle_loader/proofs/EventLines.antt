@@ -13,6 +13,7 @@ use Rattle.pickle_doc.specs.Document.{Contents, ReadsAs, document_bytes}
 use Rattle.pickle_doc.specs.Place.{ops_of, item_at, offset_of}
 use Rattle.pickle_machine.specs.State.{State, start}
 use Rattle.pickle_machine.specs.Run.{run}
+use Rattle.pickle_io.specs.declared.hole.Hole.{Hole}
 use Rattle.pickle_io.specs.Holes.{in_file}
 use Rattle.pickle_lenient.specs.declared.taken.Frames.{Frames}
 use Rattle.pickle_lenient.specs.declared.taken.Frames.TheVariants as frames
@@ -40,11 +41,11 @@ use Rattle.pickle_further.specs.declared.way.Pickles.{Pickles}
 use Rattle.pickle_further.specs.declared.way.Pickles.TheVariants as pickles
 use Rattle.pickle_further.specs.declared.way.Way.{Way}
 use Rattle.pickle_further.specs.Going.{Standing, going, stands_after, is_sought, Tale, tale_of, search, search_from}
-use Rattle.pickle_further.specs.Parts.{stop_words, stop_line, ends_line, ignored_words, buffered_words, held_words, header, ignoring, buffering, holding, are_many, is_open, standing_at, standing_first, loss_at}
+use Rattle.pickle_further.specs.Parts.{stop_words, stop_line, ends_line, ignored_words, buffered_words, held_words, header, ignoring, buffering, holding, are_many, is_open, standing_at, standing_first, loss_at, first_mixed, mixed_words, mixed_line, mixed_text}
 use Rattle.pickle_further.specs.Leads.{warning_words, warning_line, warning_text}
 use Rattle.pickle_further.specs.CallsText.{document_leads, loss_words, loss_line, first_loss, IsCallsText}
 use Rattle.pickle_loader.specs.Onward.{stands}
-use Rattle.pickle_loader.specs.Text.{line_gone, line_on, lines_before, all_lines, part_end_lines, part_lines, lines_from, lines_if, behind_lines, lost_lines, parts_lines, document_last, document_lines, kept_first, kept_closing, kept_last, kept_parts, kept_lines, IsAmong, is_in_text}
+use Rattle.pickle_loader.specs.Text.{line_gone, line_on, lines_before, all_lines, part_end_lines, part_lines, lines_from, lines_if, behind_lines, lost_lines, mixed_lines, parts_lines, document_last, document_lines, kept_first, kept_closing, kept_last, kept_parts, kept_lines, IsAmong, is_in_text}
 use Rattle.pickle_loader.specs.EventLine.{BeginsWithOffset, LacksOffset, IsStart, IsOfItem, EventLinesApart}
 use Rattle.pickle_loader.proofs.Losses.{shifted}
 use Rattle.pickle_loader.proofs.Reaches.{onward}
@@ -182,6 +183,10 @@ warning_begins : (id : ℕ) → Begins 119 (warning_line id)
 unfolding warning_line warning_words ◌⧺◌
 warning_begins id = (_, refl)
 
+mixed_begins : (offset : ℕ) → Begins 117 (mixed_line offset)
+unfolding mixed_line mixed_words ◌⧺◌
+mixed_begins offset = (_, refl)
+
 unsure_begins : (offset : ℕ) → Begins 117 (unsure_line offset)
 unfolding unsure_line unsure_words ◌⧺◌
 unsure_begins offset = (_, refl)
@@ -214,6 +219,10 @@ loss_apart offset = no_letter 117 (loss_line offset) (omega arith) (loss_begins 
 warning_apart : (leads : Option ℕ) → LacksOffset (warning_text leads)
 warning_apart None = lacks_colon [] refl
 warning_apart (Some id) = no_letter 119 (warning_line id) (omega arith) (warning_begins id)
+
+mixed_apart : (holes : List Hole) (mixed : Option ℕ) → LacksOffset (mixed_text holes mixed)
+mixed_apart holes None = lacks_colon [] refl
+mixed_apart holes (Some offset) = no_letter 117 (mixed_line (in_file holes offset)) (omega arith) (mixed_begins (in_file holes offset))
 
 unsure_apart : (offset : ℕ) → LacksOffset (unsure_line offset)
 unsure_apart offset = no_letter 117 (unsure_line offset) (omega arith) (unsure_begins offset)
@@ -307,6 +316,9 @@ no_last a bytes imports calls e h = elim (among_split a.line (if_any (begins_tex
 no_warning : (a : Asked) (leads : Option ℕ) → IsAmong a.line (if_any (warning_text leads)) → Answer a
 no_warning a leads h = not_asked a (warning_text leads) (warning_apart leads) (among_if a.line (warning_text leads) h)
 
+no_mixed : (a : Asked) (mixed : Option ℕ) → IsAmong a.line (if_any (mixed_text a.how.holes mixed)) → Answer a
+no_mixed a mixed h = not_asked a (mixed_text a.how.holes mixed) (mixed_apart a.how.holes mixed) (among_if a.line (mixed_text a.how.holes mixed) h)
+
 -- ---- the lines of a reading
 
 in_reading : (a : Asked) (w : Way) (from : Standing) (k : ℕ) (p : Standing) (m : ℕ) → (w.pickles ≡ a.pickles) × (is_in_text w.pickles w.frames ≡ true) → IsStart a.how a.pickles a.bytes from → stands w from k ≡ Some p → IsAmong a.line (lines_before a.how.holes w p m) → Answer a
@@ -341,7 +353,7 @@ record Stood (w : Way) (p q : Standing) : Type 0 where
 search_stands : (x : Sought) (n : ℕ) (w : Way) (p q : Standing) → search x n w p ≡ Some q → Stood w p q
 unfolding search stands
 search_stands x zero w p q e = absurd cc
-search_stands x (suc n) w p q e = go (is_sought x (going w p).gone) (is_some (going w p).gone.closing) (search_stands x n w (stands_after p (going w p)) q) refl e
+search_stands x (suc n) w p q e = go (is_sought x w.frames p.at.left p.rest (going w p).gone) (is_some (going w p).gone.closing) (search_stands x n w (stands_after p (going w p)) q) refl e
   where
     go : (b c : Bool) → (search x n w (stands_after p (going w p)) ≡ Some q → Stood w (stands_after p (going w p)) q) → is_some (going w p).gone.closing ≡ c
         → (if b then Some p else (if c then None else search x n w (stands_after p (going w p)))) ≡ Some q → Stood w p q
@@ -444,14 +456,19 @@ in_behind a d k (Some s) reads is h =
     in_part a (ignoring a.pickles) q 0 q (refl, ignored_in_text a.pickles) (inr (d, k, s, reads, is, refl)) (stands_here (ignoring a.pickles) q) h
 
 in_parts : (a : Asked) (d : Contents) (b : Bool) → ReadsAs (are_many a.pickles) a.bytes d
-    → IsAmong a.line (if b then behind_lines a.how a.pickles d (calls_end d).place (run (start d.many) (ops_of d) (calls_end d).place) ++ lost_lines a.how (buffering a.pickles) (document_bytes d) else []) → Answer a
+    → IsAmong a.line (if b then behind_lines a.how a.pickles d (calls_end d).place (run (start d.many) (ops_of d) (calls_end d).place) ++ (lost_lines a.how (buffering a.pickles) (document_bytes d) ++ mixed_lines a.how a.pickles (document_bytes d)) else [])
+    → Answer a
 in_parts a d false reads h = among_none a.line h
 in_parts a d true reads h =
     let first : List (List ℕ) = behind_lines a.how a.pickles d (calls_end d).place (run (start d.many) (ops_of d) (calls_end d).place) in
     let lost : List (List ℕ) = lost_lines a.how (buffering a.pickles) (document_bytes d) in
-    elim (among_split a.line first lost h) [
+    let mixed : List (List ℕ) = mixed_lines a.how a.pickles (document_bytes d) in
+    elim (among_split a.line first (lost ++ mixed) h) [
       | inl behind ↦ in_behind a d (calls_end d).place (run (start d.many) (ops_of d) (calls_end d).place) reads refl behind
-      | inr more ↦ in_lost a (buffering a.pickles) (refl, buffered_in_text a.pickles) (subst (λ (l : List ℕ). IsAmong a.line (lost_lines a.how (buffering a.pickles) l)) reads.whole more)
+      | inr lossy ↦ elim (among_split a.line lost mixed lossy) [
+        | inl more ↦ in_lost a (buffering a.pickles) (refl, buffered_in_text a.pickles) (subst (λ (l : List ℕ). IsAmong a.line (lost_lines a.how (buffering a.pickles) l)) reads.whole more)
+        | inr last ↦ no_mixed a (first_mixed a.how.detail a.pickles (document_bytes d)) last
+      ]
     ]
 
 in_document : (a : Asked) (d : Contents) → IsReadSo a.pickles d → ReadsAs (are_many a.pickles) a.bytes d → IsAmong a.line (document_lines a.how a.pickles d) → Answer a
@@ -524,6 +541,7 @@ event_lines_apart = record {
   unsure = unsure_apart;
   loss = loss_apart;
   warning = warning_apart;
+  mixed = mixed_apart;
   heading = heading_apart;
   ends = ends_apart;
   other = no_other;

@@ -50,7 +50,7 @@ quiet_of_many d k o none here stop many =
     let few : left_behind false (left_at d k) o ≤ 0 = ltb-false 0 (left_behind false (left_at d k) o) kept in
     omega (arith, few)
 
-quiet_listed : (p : Pickles) (d : Contents) (most : ℕ) → IsFormed d → d.loose ≡ false → length (document_bytes d) < 2 ^ 64 → most ≤ length (ops_of d) → most ≤ (calls_end d).place → Quiet p d most
+pub quiet_listed : (p : Pickles) (d : Contents) (most : ℕ) → IsFormed d → d.loose ≡ false → length (document_bytes d) < 2 ^ 64 → most ≤ length (ops_of d) → most ≤ (calls_end d).place → Quiet p d most
 quiet_listed p d most formed framed small within listed k o before here stop anew = by d.many refl
   where
     by : (b : Bool) → d.many ≡ b → left_behind false (left_at d k) o ≡ 0

@@ -33,7 +33,7 @@ use Rattle.pickle_loader.proofs.Still.{fresh_running}
 use Rattle.pickle_loader.proofs.Wholes.{whole_start}
 use Rattle.pickle_loader.proofs.Items.{IsItem, are_items, take_some, none_taken}
 use Rattle.pickle_loader.proofs.Leads.{moved_on_fresh, only_stop, moved_still, once_led}
-use Rattle.pickle_loader.proofs.Onwards.{OnWay, Begins, Along, HoldsBehind, failed_ends, Turn, read_on, read_turn, once, state_heap}
+use Rattle.pickle_loader.proofs.Onwards.{OnWay, Ready, Begins, Along, HoldsBehind, failed_ends, Turn, read_on, read_turn, once, state_heap}
 
 -- ---- one item more
 
@@ -371,6 +371,15 @@ along_last w way bytes n = elim (cases_lt n (suc (length bytes))) [
       let place : suc (length bytes) + k ≡ n = omega (arith, far) in
       subst (λ (vs : List Value). AlongAt w way bytes (λ (id : ℕ). get_or vs id (Plain kind.None)) n) (ap (values w way bytes) (sym place) ∙ values_last w way bytes k) (along_way w way bytes n n (omega arith))
 ]
+
+-- as long as more is read, the bytes that are left are those of the lines
+pub ready_at : (w : World) (way : Way) (bytes : List ℕ) (n : ℕ) (q : Standing) → stands_at way bytes n ≡ Some q → reads_on way.pickles (load_way w way bytes n).now ≡ true → Ready way.pickles q (load_way w way bytes n)
+ready_at w way bytes n q e on =
+    let V : ℕ → Value = value_of w way bytes (suc (length bytes)) in
+    let p : Standing = standing_first detail.Cut way.pickles bytes in
+    let along : Along w V way.pickles (acts_before V way p n) (protocol way p n) (Some q) (load_way w way bytes n) =
+    subst (λ (o : Option Standing). Along w V way.pickles (acts_before V way p n) (protocol way p n) o (load_way w way bytes n)) e (along_last w way bytes n) in
+    along.1 on
 
 -- ---- values
 

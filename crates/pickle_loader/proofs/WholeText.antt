@@ -33,11 +33,11 @@ use Rattle.pickle_further.specs.declared.way.Pickles.{Pickles}
 use Rattle.pickle_further.specs.declared.way.Pickles.TheVariants as pickles
 use Rattle.pickle_further.specs.declared.way.Way.{Way}
 use Rattle.pickle_further.specs.Going.{Standing, Going, going, stands_after, Tale, tale_over, tale, tale_of, search_from}
-use Rattle.pickle_further.specs.Parts.{stop_words, stop_line, ends_line, part_end, ignored_words, buffered_words, held_words, header, tale_text, part_text, text_from, ignoring, buffering, holding, standing_at, standing_first, behind_at, found_text, loss_at, lost_by, is_open, parts}
+use Rattle.pickle_further.specs.Parts.{stop_words, stop_line, ends_line, part_end, ignored_words, buffered_words, held_words, header, tale_text, part_text, text_from, ignoring, buffering, holding, standing_at, standing_first, behind_at, found_text, loss_at, lost_by, first_mixed, mixed_words, mixed_line, mixed_text, lost_text, is_open, parts}
 use Rattle.pickle_further.specs.Leads.{warning_words, leads_words, warning_line, warning_text}
 use Rattle.pickle_further.specs.CallsText.{document_leads, document_calls, loss_words, loss_line, first_loss, loss_text, kept_behind, kept_calls}
 use Rattle.pickle_loader.specs.Onward.{stands_behind, stands}
-use Rattle.pickle_loader.specs.Text.{line_gone, line_on, lines_before, part_lines, lines_from, lines_if, behind_lines, lost_lines, parts_lines, document_lines, kept_first, kept_closing, kept_parts, kept_lines, WholeTextIsItsLines}
+use Rattle.pickle_loader.specs.Text.{line_gone, line_on, lines_before, part_lines, lines_from, lines_if, behind_lines, lost_lines, mixed_lines, parts_lines, document_lines, kept_first, kept_closing, kept_parts, kept_lines, WholeTextIsItsLines}
 use Rattle.pickle_loader.proofs.Losses.{shifted, over}
 
 -- ---- texts that end with a newline
@@ -178,8 +178,8 @@ header_is_line frames.Held = line_of_body (codes "a loader that keeps its buffer
 warning_is_line : (id : ℕ) → IsLine (warning_line id)
 unfolding warning_line warning_words leads_words
 warning_is_line id =
-    line_of_body (codes "warning: W1 " ⧺ id_text id ⧺ codes " leads to the unpickler")
-    (then_stays (codes "warning: W1 " ⧺ id_text id) (codes " leads to the unpickler") (then_stays (codes "warning: W1 ") (id_text id) refl (id_stays id)) refl)
+    line_of_body (codes "warning: " ⧺ id_text id ⧺ codes " leads to the unpickler")
+    (then_stays (codes "warning: " ⧺ id_text id) (codes " leads to the unpickler") (then_stays (codes "warning: ") (id_text id) refl (id_stays id)) refl)
 
 warning_has : (leads : Option ℕ) → HasLine (warning_text leads)
 warning_has None = inl refl
@@ -242,6 +242,21 @@ behind_ends : (how : Manner) (p : Pickles) (d : Contents) (k : ℕ) (x : Option 
 behind_ends how p d k None = inl refl
 behind_ends how p d k (Some s) = from_ends how.holes (ignoring p) (standing_at how.detail d k s)
 
+mixed_is_line : (offset : ℕ) → IsLine (mixed_line offset)
+unfolding mixed_line mixed_words
+mixed_is_line offset = line_of_body (mixed_words ⧺ decimal offset) (then_stays mixed_words (decimal offset) refl (decimal_stays offset))
+
+mixed_has : (holes : List Hole) (mixed : Option ℕ) → HasLine (mixed_text holes mixed)
+mixed_has holes None = inl refl
+mixed_has holes (Some offset) = inr (mixed_is_line (in_file holes offset))
+
+cut_lossy : (how : Manner) (p : Pickles) (bytes : List ℕ) → cut_lines (lost_text how p bytes) ≡ lost_lines how (buffering p) bytes ++ mixed_lines how p bytes
+unfolding ◌⧺◌
+cut_lossy how p bytes =
+    let mixed : List ℕ = mixed_text how.holes (first_mixed how.detail p bytes) in
+    cut_join (lost_by how (buffering p) bytes) mixed (found_ends how.holes (buffering p) (loss_at how.detail (buffering p) bytes))
+    ∙ ap₂ (λ (a b : List (List ℕ)). a ++ b) (cut_found how.holes (buffering p) (loss_at how.detail (buffering p) bytes)) (cut_last mixed (mixed_has how.holes (first_mixed how.detail p bytes)))
+
 cut_parts : (how : Manner) (p : Pickles) (d : Contents) → cut_lines (parts how p d) ≡ parts_lines how p d (calls_end d)
 unfolding parts ◌⧺◌
 cut_parts how p d = go (is_open (calls_end d).ending)
@@ -256,12 +271,12 @@ cut_parts how p d = go (is_open (calls_end d).ending)
     first = behind_at how p d (calls_end d).place (run (start d.many) (ops_of d) (calls_end d).place)
 
     more : List ℕ
-    more = lost_by how (buffering p) (document_bytes d)
+    more = lost_text how p (document_bytes d)
 
-    go : (b : Bool) → cut_lines (if b then first ++ more else []) ≡ (if b then behind_lines how p d e.place x ++ lost_lines how (buffering p) (document_bytes d) else [])
+    go : (b : Bool) → cut_lines (if b then first ++ more else []) ≡ (if b then behind_lines how p d e.place x ++ (lost_lines how (buffering p) (document_bytes d) ++ mixed_lines how p (document_bytes d)) else [])
     go true =
         cut_join first more (behind_ends how p d e.place x)
-        ∙ ap₂ (λ (a b : List (List ℕ)). a ++ b) (cut_behind how p d e.place x) (cut_found how.holes (buffering p) (loss_at how.detail (buffering p) (document_bytes d)))
+        ∙ ap₂ (λ (a b : List (List ℕ)). a ++ b) (cut_behind how p d e.place x) (cut_lossy how p (document_bytes d))
     go false = cut_nothing
 
 -- ---- the text of a document

@@ -10,6 +10,7 @@ use Rattle.pickle_doc.specs.Place.{ops_of}
 use Rattle.pickle_machine.specs.State.{State, start}
 use Rattle.pickle_machine.specs.Run.{run}
 use Rattle.pickle_lenient.specs.declared.taken.Frames.{Frames}
+use Rattle.pickle_io.specs.declared.hole.Hole.{Hole}
 use Rattle.pickle_show.specs.declared.event.Event.{Event}
 use Rattle.pickle_show.specs.declared.naming.Naming.{Naming}
 use Rattle.pickle_show.specs.declared.report.Closing.{Closing}
@@ -24,7 +25,7 @@ use Rattle.pickle_show.specs.LineLaws.{cut_lines}
 use Rattle.pickle_further.specs.declared.way.Pickles.{Pickles}
 use Rattle.pickle_further.specs.declared.way.Way.{Way}
 use Rattle.pickle_further.specs.Going.{Standing, going}
-use Rattle.pickle_further.specs.Parts.{ends_line, header, are_many, standing_at, standing_first}
+use Rattle.pickle_further.specs.Parts.{ends_line, header, mixed_text, are_many, standing_at, standing_first}
 use Rattle.pickle_further.specs.Leads.{warning_text}
 use Rattle.pickle_further.specs.CallsText.{loss_line, IsCallsText}
 use Rattle.pickle_loader.specs.Onward.{stands}
@@ -70,6 +71,7 @@ pub record EventLinesApart : Type 0 where
   pub unsure : (offset : ℕ) → LacksOffset (unsure_line offset)
   pub loss : (offset : ℕ) → LacksOffset (loss_line offset)
   pub warning : (leads : Option ℕ) → LacksOffset (warning_text leads)
+  pub mixed : (holes : List Hole) (mixed : Option ℕ) → LacksOffset (mixed_text holes mixed)
   pub heading : (f : Frames) → LacksOffset (header f)
   pub ends : (c : Closing) → LacksOffset (ends_line c)
   pub other : (how : Manner) (p : Pickles) (bytes : List ℕ) (o : Output) → IsCallsText how p bytes o → length bytes < 2 ^ 64

@@ -23,7 +23,7 @@ use Rattle.pickle_further.specs.declared.way.Pickles.{Pickles}
 use Rattle.pickle_further.specs.declared.way.Pickles.TheVariants as pickles
 use Rattle.pickle_further.specs.declared.way.Way.{Way}
 use Rattle.pickle_further.specs.Going.{Standing, Going, going, Tale, tale_of, search_from}
-use Rattle.pickle_further.specs.Parts.{ends_line, header, ignoring, buffering, holding, is_open, standing_at, standing_first, loss_at}
+use Rattle.pickle_further.specs.Parts.{ends_line, header, ignoring, buffering, holding, is_open, standing_at, standing_first, loss_at, first_mixed, mixed_text}
 use Rattle.pickle_further.specs.Leads.{warning_text}
 use Rattle.pickle_further.specs.CallsText.{document_leads, loss_line, first_loss, IsCallsText}
 use Rattle.pickle_loader.specs.Environment.{Value}
@@ -74,9 +74,15 @@ behind_lines how p d k None = []
 abbrev pub lost_lines : Manner → Way → List ℕ → List (List ℕ)
 lost_lines how way bytes = lines_if how.holes way (loss_at how.detail way bytes)
 
+-- from where frames may be mixed
+abbrev pub mixed_lines : Manner → Pickles → List ℕ → List (List ℕ)
+mixed_lines how p bytes = if_any (mixed_text how.holes (first_mixed how.detail p bytes))
+
 abbrev pub parts_lines : Manner → Pickles → Contents → CallsEnd → List (List ℕ)
 parts_lines how p d e =
-    if is_open e.ending then behind_lines how p d e.place (run (start d.many) (ops_of d) e.place) ++ lost_lines how (buffering p) (document_bytes d) else []
+    if is_open e.ending
+    then behind_lines how p d e.place (run (start d.many) (ops_of d) e.place) ++ (lost_lines how (buffering p) (document_bytes d) ++ mixed_lines how p (document_bytes d))
+    else []
 
 -- ---- the lines of a text
 

@@ -155,7 +155,7 @@ kept_across ends bytes (Ok l) item e =
     subst (λ (i : Taken). i.lost ≡ false) same
     (kept_by l (ends && is_stop t.op.opcode) (is_frame t.op.opcode) (nat_le (frame_number t.op) t.left) (nat_le (frame_number t.op) (length bytes - (t.size + t.left))) (frame_number t.op) (length bytes - (t.size + t.left)))
 
-kept_empty : (p : Pickles) (bytes : List ℕ) (item : Taken) → taken (file_frames p) 0 bytes ≡ Ok item → item.lost ≡ false
+pub kept_empty : (p : Pickles) (bytes : List ℕ) (item : Taken) → taken (file_frames p) 0 bytes ≡ Ok item → item.lost ≡ false
 kept_empty p bytes item e = kept_across (ends_loads p) bytes (lenient (joined 0 bytes)) item (sym (taken_by p 0 bytes false refl) ∙ e)
 
 turn_keeps : (p : Pickles) (b : Bool) (y : COnward) (item : Taken) → reads_on p (seen_loaded y.now) ≡ true → taken (file_frames p) y.left y.rest ≡ Ok item → y.left ≡ 0 → turn_loses (file_turn p b) y ≡ false
@@ -234,7 +234,7 @@ fetched_found shows w p bytes shown x s level kept on (Nothing e) = subst (λ (f
 fetched_found shows w p bytes shown x s level kept on (Fetches o q j e at takes) =
     subst (λ (f : CFetched). Walked shows w p bytes (c_load_found w p x f)) (sym e) (taken_found shows w p bytes shown x s q o j level kept on at takes)
 
-no_more : (p : Pickles) (acts : List Act) → reads_on p (seen_loaded (CFailed acts)) ≡ true → ⊥
+pub no_more : (p : Pickles) (acts : List Act) → reads_on p (seen_loaded (CFailed acts)) ≡ true → ⊥
 no_more pickles.First acts e = cc
 no_more pickles.All acts e = cc
 no_more pickles.OneMemo acts e = cc

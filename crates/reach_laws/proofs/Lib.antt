@@ -15,3 +15,7 @@ mod Fetched
 mod Behind
 mod Filed
 mod Lossless
+mod NoFrames
+mod Splits
+mod Partings
+mod Told

@@ -28,23 +28,23 @@ use Rattle.reach_laws.proofs.Filed.{files_are_mixes, mix_of, same_acts, turn_is}
 
 -- ---- what is shown stays
 
-shown_now : (b : Bool) (x : COnward) → (c_as_shown b x).now ≡ x.now
+pub shown_now : (b : Bool) (x : COnward) → (c_as_shown b x).now ≡ x.now
 shown_now true x = refl
 shown_now false x = refl
 
-shown_rest : (b : Bool) (x : COnward) → (c_as_shown b x).rest ≡ x.rest
+pub shown_rest : (b : Bool) (x : COnward) → (c_as_shown b x).rest ≡ x.rest
 shown_rest true x = refl
 shown_rest false x = refl
 
 -- an item loads the same, however much of a buffer is left
-plain_more : (w : World) (p : Pickles) (item : Taken) (l : CLoaded) → c_load_more w p (plain_item item) l ≡ c_load_more w p item l
+pub plain_more : (w : World) (p : Pickles) (item : Taken) (l : CLoaded) → c_load_more w p (plain_item item) l ≡ c_load_more w p item l
 plain_more w p item (CGoing c) = refl
 plain_more w p item (CEnded v c) = refl
 plain_more w p item (CFailed acts) = refl
 
 -- ---- what ended
 
-off_turn : (w : World) (p : Pickles) (b : Bool) (x : COnward) → reads_on p (seen_loaded x.now) ≡ false → c_load_turn w (file_turn p b) x ≡ x
+pub off_turn : (w : World) (p : Pickles) (b : Bool) (x : COnward) → reads_on p (seen_loaded x.now) ≡ false → c_load_turn w (file_turn p b) x ≡ x
 off_turn w p b x off = ap (λ (c : Bool). if c then c_as_shown b (c_load_read w p x (taken (file_frames p) x.left x.rest)) else x) off
 
 failed_off : (p : Pickles) (l : CLoaded) (acts : List Act) → l ≡ CFailed acts → reads_on p (seen_loaded l) ≡ false
@@ -52,7 +52,7 @@ failed_off pickles.First l acts e = ap (λ (k : CLoaded). reads_on pickles.First
 failed_off pickles.All l acts e = ap (λ (k : CLoaded). reads_on pickles.All (seen_loaded k)) e
 failed_off pickles.OneMemo l acts e = ap (λ (k : CLoaded). reads_on pickles.OneMemo (seen_loaded k)) e
 
-failed_stays : (w : World) (p : Pickles) (shown : List Bool) (x : COnward) (acts : List Act) → x.now ≡ CFailed acts → (c_load_mixed w (file_mix p shown) x).now ≡ CFailed acts
+pub failed_stays : (w : World) (p : Pickles) (shown : List Bool) (x : COnward) (acts : List Act) → x.now ≡ CFailed acts → (c_load_mixed w (file_mix p shown) x).now ≡ CFailed acts
 unfolding c_load_mixed
 failed_stays w p [] x acts e = e
 failed_stays w p (b ∷ shown) x acts e =
@@ -64,7 +64,7 @@ failed_stays w p (b ∷ shown) x acts e =
 abbrev IsSoFar : World → Pickles → List ℕ → COnward → Type 0
 IsSoFar w p bytes x = (m : ℕ) × (acts_of (seen_loaded x.now) ≡ acts_of (seen_loaded (c_load_way w (ignoring p) bytes m).now))
 
-way_next : (w : World) (p : Pickles) (bytes : List ℕ) (k : ℕ) (item : Taken) → reads_on p (seen_loaded (c_load_way w (ignoring p) bytes k).now) ≡ true → taken frames.Ignored (c_load_way w (ignoring p) bytes k).left (c_load_way w (ignoring p) bytes k).rest ≡ Ok item
+pub way_next : (w : World) (p : Pickles) (bytes : List ℕ) (k : ℕ) (item : Taken) → reads_on p (seen_loaded (c_load_way w (ignoring p) bytes k).now) ≡ true → taken frames.Ignored (c_load_way w (ignoring p) bytes k).left (c_load_way w (ignoring p) bytes k).rest ≡ Ok item
     → c_load_way w (ignoring p) bytes (suc k) ≡ c_load_read w p (c_load_way w (ignoring p) bytes k) (Ok item)
 unfolding c_load_way
 way_next w p bytes k item on takes =
@@ -109,7 +109,7 @@ so_far w p bytes (b ∷ shown) x k now rest lost =
 
 -- ---- where no frame is shown
 
-abbrev reading : Pickles → Way
+abbrev pub reading : Pickles → Way
 reading p = record { pickles = p; frames = file_frames p }
 
 shown_none : (w : World) (p : Pickles) (bytes : List ℕ) (shown : List Bool) (x : COnward) (k : ℕ) → x ≡ c_load_way w (reading p) bytes k → All (λ (b : Bool). b ≡ false) shown
@@ -125,7 +125,7 @@ shown_none w p bytes (b ∷ shown) x k e none =
 -- ---- the laws
 
 -- it did what a reading did at some point
-abbrev DidSo : World → Pickles → List ℕ → Frames → COnward → Type 0
+abbrev pub DidSo : World → Pickles → List ℕ → Frames → COnward → Type 0
 DidSo w p bytes f x = (m : ℕ) × (acts_of (seen_loaded x.now) ≡ acts_of (seen_loaded (c_load_way w (way_of p f) bytes m).now))
 
 from_first : (w : World) (p : Pickles) (bytes : List ℕ) (shown : List Bool) → mix_loses w (file_mix p shown) (c_opened bytes) ≡ false → IsSoFar w p bytes (c_load_mixed w (file_mix p shown) (c_opened bytes))

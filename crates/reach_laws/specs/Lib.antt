@@ -2,3 +2,4 @@
 pub mod Mixed
 pub mod Reached
 pub mod Filed
+pub mod Told

@@ -2,6 +2,7 @@
 
 ghost use Rattle.reach_laws.specs.Reached.{NothingReached, NothingReachedInC, NothingReachedByFrames, WaysAreMixes};
 ghost use Rattle.reach_laws.specs.Filed.{FilesAreMixes, FilesThatShowAllAreBytes, NothingReachedInAFile, NothingReachedOfAPipe, EachActOfAFileHasItsLine};
+ghost use Rattle.reach_laws.specs.Told.{EachActOfAFileIsTold};
 
 /// Where `first_reach` answers nothing, the unpickler in Python reaches nothing, whatever mix of ways it reads by.
 pub fn nothing_reached()
@@ -46,4 +47,9 @@ pub fn nothing_reached_of_a_pipe()
 /// As long as it loses no byte of a frame, or shows no frame, each act of a load of a file has its line.
 pub fn each_act_of_a_file_has_its_line()
     ensures { EachActOfAFileHasItsLine }
+{}
+
+/// Each act of a load of a file has its line in the text of `calls`, or that says from where frames may be mixed.
+pub fn each_act_of_a_file_is_told()
+    ensures { EachActOfAFileIsTold }
 {}

@@ -18,4 +18,4 @@ returns-in_err-write_ignoring g c =
 pub returns : goal.returns
 returns g c =
     let on : is_open c.args.ran.ending ≡ true = sym c.is_open.ensures ∙ c.if-not-is_open.false in
-    λ a b w. rw (parts_open _ _ _ _ _ _ w on) (pieces _ _ _ _ _ _ c.in_ok-write_ignoring.ensures c.write_lost.ensures)
+    λ a b w. rw (parts_open _ _ _ _ _ _ w on) (pieces _ _ _ _ _ _ c.in_ok-write_ignoring.ensures c.write_lossy.ensures)

@@ -1,5 +1,5 @@
 use Rattle.std.proofs.lemmas.Result.{IfOk-weaker}
-use Rattle.pickle_further.proofs.parts.first_lost.Goals as goal
+use Rattle.pickle_further.proofs.parts.first_sought.Goals as goal
 
 pub returns-clause-finds : goal.returns-clause-finds
 returns-clause-finds c =

@@ -1,0 +1,229 @@
+-- Each act of a load of a file has its line, or the text says from where frames may be mixed.
+use Rattle.std.proofs.Common.{◌≡◌, ◌≢◌, ◌⊎◌, ℕ, zero, suc, ◌+◌, ◌^◌, ◌<◌, ◌≤◌, Bool, true, false, List, [], ◌∷◌, ◌++◌, length, drop, Option, Some, None, refl, sym, ap, subst, ◌∙◌, inl, inr, arith}
+use Rattle.std.specs.Prelude.{if◌then◌else◌}
+use Rattle.std.proofs.lemmas.Bool.{cases_Bool, cases_lt}
+use Rattle.pickle_ops.specs.Spelling.{Operation}
+use Rattle.pickle_doc.specs.Document.{Contents, ReadsAs, document_bytes, items_of}
+use Rattle.pickle_doc.specs.DocUnit.{bytes_of}
+use Rattle.pickle_doc.specs.Place.{ops_of, offset_of}
+use Rattle.pickle_doc.proofs.Ends.{stopped_last}
+use Rattle.pickle_io.specs.Text.{◌⧺◌}
+use Rattle.pickle_io.specs.Holes.{in_file}
+use Rattle.pickle_machine.specs.State.{start}
+use Rattle.pickle_machine.specs.Run.{run}
+use Rattle.pickle_lenient.specs.declared.taken.Frames.{Frames}
+use Rattle.pickle_lenient.specs.declared.taken.Frames.TheVariants as frames
+use Rattle.pickle_show.specs.LineLaws.{cut_lines, if_any}
+use Rattle.pickle_show.specs.Manner.{Manner}
+use Rattle.pickle_show.specs.Output.{Output}
+use Rattle.pickle_show.specs.declared.naming.Detail.TheVariants as detail
+use Rattle.pickle_show.specs.Calls.{calls_end}
+use Rattle.pickle_further.specs.declared.way.Pickles.{Pickles}
+use Rattle.pickle_further.specs.declared.way.Pickles.TheVariants as pickles
+use Rattle.pickle_further.specs.declared.way.Way.{Way}
+use Rattle.pickle_further.specs.Going.{Standing}
+use Rattle.pickle_further.specs.Parts.{ignoring, buffering, are_many, is_open, standing_first, split_at, mixed_from, first_mixed, mixed_words, mixed_line, mixed_text}
+use Rattle.pickle_further.specs.CallsText.{IsCallsText}
+use Rattle.pickle_loader.specs.Environment.{Value, Act, World}
+use Rattle.pickle_loader.specs.Dispatch.{acts_of}
+use Rattle.pickle_loader.specs.Listed.{listed_of}
+use Rattle.pickle_loader.specs.Onward.{Onward, stands, reads_on, load_way, begins_anew}
+use Rattle.pickle_loader.specs.Text.{document_lines, lost_lines, mixed_lines, IsAmong, way_of, is_in_text}
+use Rattle.pickle_loader.specs.ByFrames.{IsAct}
+use Rattle.pickle_loader.specs.CLoad.{CLoaded, seen_loaded, COnward, c_load_way, as_in_c}
+use Rattle.pickle_loader.specs.ShownFile.{CLoading, fetch, c_load_found, c_load_file}
+use Rattle.pickle_loader.proofs.ActLines.{each_act_in_c_has_its_line}
+use Rattle.pickle_loader.proofs.Bytes.{drop_all, last_stop, no_tail}
+use Rattle.pickle_loader.proofs.CLoads.{one_load}
+use Rattle.pickle_loader.proofs.EachReach.{First, IsReadSo, end_is, IsOver, first_over, in_parts, in_lossy}
+use Rattle.pickle_loader.proofs.FileLines.{quiet_listed}
+use Rattle.pickle_loader.proofs.OneMemo.{read_so}
+use Rattle.pickle_loader.proofs.Reaches.{among_right, among_any}
+use Rattle.pickle_loader.proofs.Readings.{rest_is}
+use Rattle.pickle_loader.proofs.ShownFiles.{Quiet, file_same}
+use Rattle.pickle_loader.proofs.Streams.{quiet_item}
+use Rattle.pickle_loader.proofs.Ways.{by_items}
+use Rattle.pickle_loader.proofs.WholeText.{whole_text_is_its_lines}
+use Rattle.reach_laws.specs.Mixed.{c_opened, c_load_mixed}
+use Rattle.reach_laws.specs.Filed.{file_frames, file_mix, frames_pass}
+use Rattle.reach_laws.specs.Told.{SaysMixed, HaveLines, EachActOfAFileIsTold}
+use Rattle.reach_laws.proofs.Filed.{files_are_mixes, same_acts}
+use Rattle.reach_laws.proofs.Lossless.{reading}
+use Rattle.reach_laws.proofs.Partings.{each_did}
+
+-- ---- where loaders go on behind the end
+
+-- the line is there
+mixed_some : (offset : ℕ) → mixed_line offset ≢ []
+unfolding mixed_line mixed_words ◌⧺◌
+mixed_some offset none = absurd cc
+
+says_mixed : (how : Manner) (p : Pickles) (d : Contents) (o : Output) (n : ℕ) → cut_lines o.text ≡ document_lines how p d → is_open (calls_end d).ending ≡ true → first_mixed how.detail p (document_bytes d) ≡ Some n → SaysMixed o
+says_mixed how p d o n lines goes is =
+    let line : List ℕ = mixed_line (in_file how.holes n) in
+    let here : IsAmong line (mixed_lines how p (document_bytes d)) =
+    subst (λ (x : Option ℕ). IsAmong line (if_any (mixed_text how.holes x))) (sym is) (among_any line (mixed_some (in_file how.holes n))) in
+    let lossy = among_right line (lost_lines how (buffering p) (document_bytes d)) (mixed_lines how p (document_bytes d)) here in
+    (in_file how.holes n, subst (IsAmong line) (sym lines) (in_parts how p d line (in_lossy how p d line goes lossy)))
+
+-- the acts of a load are told by one of both readings
+abbrev pub Told : Manner → World → (ℕ → ℕ) → Pickles → List ℕ → Output → Type 0
+Told how w shows p bytes o = (V : ℕ → Value) × (U : ℕ → Value)
+    × ((n : ℕ)
+    → HaveLines how V p frames.Ignored bytes o (listed_of (acts_of (seen_loaded (c_load_file w shows p bytes n).now)))
+    ⊎ HaveLines how U p frames.Buffered bytes o (listed_of (acts_of (seen_loaded (c_load_file w shows p bytes n).now))))
+
+-- at each point it did what a load in one of these ways did at some point
+abbrev DidAs : World → World → (ℕ → ℕ) → Pickles → List ℕ → Frames → ℕ → Type 0
+DidAs w v shows p bytes f n = (m : ℕ) × (acts_of (seen_loaded (c_load_file w shows p bytes n).now) ≡ acts_of (seen_loaded (c_load_way v (way_of p f) bytes m).now))
+
+told_by : (how : Manner) (w v : World) (shows : ℕ → ℕ) (p : Pickles) (bytes : List ℕ) (o : Output) → IsCallsText how p bytes o → length bytes < 2 ^ 64 → is_in_text p frames.Ignored ≡ true → is_in_text p frames.Buffered ≡ true
+    → ((n : ℕ) → DidAs w v shows p bytes frames.Ignored n ⊎ DidAs w v shows p bytes frames.Buffered n) → Told how w shows p bytes o
+told_by how w v shows p bytes o text small plainly kept does =
+    let first = each_act_in_c_has_its_line how v p frames.Ignored bytes o text small plainly in
+    let second = each_act_in_c_has_its_line how v p frames.Buffered bytes o text small kept in (
+      first.0,
+      second.0,
+      λ n. elim (does n) [
+        | inl did ↦ inl (λ a is. first.2 did.0 a (subst (λ (acts : List Act). IsAct a (listed_of acts)) did.1 is))
+        | inr did ↦ inr (λ a is. second.2 did.0 a (subst (λ (acts : List Act). IsAct a (listed_of acts)) did.1 is))
+      ],
+    )
+
+did_open : (how : Manner) (w : World) (shows : ℕ → ℕ) (p : Pickles) (bytes : List ℕ) → length bytes < 2 ^ 31 → file_frames p ≡ frames.Buffered → first_mixed how.detail p bytes ≡ None → (n : ℕ)
+    → DidAs w (frames_pass w) shows p bytes frames.Ignored n ⊎ DidAs w (frames_pass w) shows p bytes frames.Buffered n
+did_open how w shows p bytes small kept none n =
+    let mix = files_are_mixes w shows p bytes n small in
+    let y : COnward = c_load_mixed (frames_pass w) (file_mix p mix.0) (c_opened bytes) in
+    let same = same_acts (c_load_file w shows p bytes n).now y.now mix.1 in
+    let way : buffering p ≡ reading p = ap (λ (f : Frames). record { pickles = p; frames = f }) (sym kept) in
+    let none_so : mixed_from (reading p) (split_at how.detail (reading p) bytes) ≡ None = ap (λ (v : Way). mixed_from v (split_at how.detail v bytes)) (sym way) ∙ none in
+    elim (each_did how.detail (frames_pass w) p bytes mix.0 none_so) [
+      | inl did ↦
+          inr (did.0, same ∙ did.1 ∙ ap (λ (f : Frames). acts_of (seen_loaded (c_load_way (frames_pass w) (way_of p f) bytes did.0).now)) kept)
+      | inr did ↦ inl (did.0, same ∙ did.1)
+    ]
+
+-- ---- where the lines end with STOP
+
+-- it stays where it is once no more is read
+stays : (w : World) (shows : ℕ → ℕ) (p : Pickles) (bytes : List ℕ) (k n : ℕ) → reads_on p (seen_loaded (c_load_file w shows p bytes k).now) ≡ false → k ≤ n → c_load_file w shows p bytes n ≡ c_load_file w shows p bytes k
+unfolding c_load_file
+stays w shows p bytes k zero off less = let same : 0 ≡ k = omega (arith, less) in ap (c_load_file w shows p bytes) same
+stays w shows p bytes k (suc n) off less = elim (cases_lt n k) [
+  | inl before ↦ let same : suc n ≡ k = omega (arith, less, before) in ap (c_load_file w shows p bytes) same
+  | inr behind ↦
+      let same = stays w shows p bytes k n off behind in
+      let x : CLoading = c_load_file w shows p bytes n in
+      let still : reads_on p (seen_loaded x.now) ≡ false = ap (λ (y : CLoading). reads_on p (seen_loaded y.now)) same ∙ off in
+      ap (λ (b : Bool). if b then c_load_found w p x (fetch shows p x.input) else x) still ∙ same
+]
+
+record Closed (d : Contents) : Type 0 where
+  over : IsOver d
+  place : (calls_end d).place ≡ length (ops_of d)
+
+closed_of : (d : Contents) → is_open (calls_end d).ending ≡ false → Closed d
+closed_of d closed =
+    let x = end_is d in
+    let all = x.closed closed in
+    record { over = record { last = x.state; runs = ap (run (start d.many) (ops_of d)) (sym all.0) ∙ x.reached; quiet = all.1; stopped = all.2 }; place = all.0 }
+
+-- a load is that of the bytes at some point
+abbrev IsBytes : World → (ℕ → ℕ) → Pickles → List ℕ → ℕ → Type 0
+IsBytes w shows p bytes n = (m : ℕ) × ((c_load_file w shows p bytes n).now ≡ (c_load_way w (ignoring p) bytes m).now)
+
+-- where nothing is behind the last item
+bytes_whole : (w : World) (shows : ℕ → ℕ) (p : Pickles) (d : Contents) (n : ℕ) → IsReadSo p d → Closed d → d.tail ≡ [] → IsBytes w shows p (document_bytes d) n
+bytes_whole w shows p d n r x tail =
+    let quiet : Quiet p d n = λ k o before here stop anew. quiet_item d r.formed r.framing r.small x.over.quiet tail k o here stop in
+    (n, (file_same w shows p d n r.formed r.framing r.small quiet (inr tail) n (omega arith)).now)
+
+-- behind the one pickle that is read no more is read
+abbrev bare_first : Manner
+bare_first = record { detail = detail.Cut; holes = [] }
+
+none_when : (z y : Option Standing) → z ≡ y → ((q : Standing) → z ≡ Some q → ⊥) → z ≡ None
+none_when z None is none = is
+none_when z (Some q) is none = absurd (none q is)
+
+none_behind : (d : Contents) → IsReadSo pickles.First d → Closed d → stands (ignoring pickles.First) (standing_first detail.Cut pickles.First (document_bytes d)) (length (ops_of d)) ≡ None
+none_behind d r x =
+    let last = last_stop (items_of d) (stopped_last d r.formed x.over.stopped) in
+    let w : Way = ignoring pickles.First in
+    let first : Standing = standing_first detail.Cut pickles.First (document_bytes d) in
+    ap (stands w first) last.2
+    ∙ none_when (stands w first (suc last.0)) (stands w first (suc last.0)) refl (λ q there. first_over bare_first d last.0 last.1 q r x.over last.2 last.3 last.4 there)
+
+-- all bytes behind the items are those of the tail
+rest_tail : (d : Contents) → drop (offset_of d (length (ops_of d))) (document_bytes d) ≡ d.tail
+rest_tail d = rest_is (items_of d) d.tail (length (ops_of d)) ∙ ap (λ (l : List Operation). bytes_of l ++ d.tail) (drop_all (ops_of d))
+
+over_first : (w : World) (shows : ℕ → ℕ) (d : Contents) (b : ℕ) (rest : List ℕ) → IsReadSo pickles.First d → Closed d → d.tail ≡ b ∷ rest → reads_on pickles.First (seen_loaded (c_load_file w shows pickles.First (document_bytes d) (length (ops_of d))).now) ≡ false
+over_first w shows d b rest r x tail =
+    let p : Pickles = pickles.First in
+    let k : ℕ = length (ops_of d) in
+    let bytes : List ℕ = document_bytes d in
+    let s = file_same w shows p d k r.formed r.framing r.small (quiet_listed p d k r.formed r.framing r.small (omega arith) (omega (arith, x.place))) (inl (omega arith)) k (omega arith) in
+    let same = one_load w (ignoring p) bytes k in
+    let now : seen_loaded (c_load_file w shows p bytes k).now ≡ (load_way (as_in_c w) (ignoring p) bytes k).now = ap seen_loaded s.now ∙ ap (λ (z : Onward). z.now) same in
+    elim (cases_Bool (reads_on p (seen_loaded (c_load_file w shows p bytes k).now))) [
+      | inl on ↦ elim ((by_items (as_in_c w) (ignoring p) bytes).over k (none_behind d r x)) [
+        | inl off ↦ let wrong : true ≡ false = sym on ∙ ap (reads_on p) now ∙ off in absurd cc
+        | inr none ↦
+            let here : d.tail ≡ [] = sym (rest_tail d) ∙ sym (s.rest on) ∙ ap (λ (z : Onward). z.rest) same ∙ none in
+            let wrong : b ∷ rest ≡ [] = sym tail ∙ here in absurd cc
+      ]
+      | inr off ↦ off
+    ]
+
+bytes_first : (w : World) (shows : ℕ → ℕ) (d : Contents) (n : ℕ) (tail : List ℕ) → IsReadSo pickles.First d → Closed d → d.tail ≡ tail → IsBytes w shows pickles.First (document_bytes d) n
+bytes_first w shows d n [] r x is = bytes_whole w shows pickles.First d n r x is
+bytes_first w shows d n (b ∷ rest) r x is =
+    let p : Pickles = pickles.First in
+    let k : ℕ = length (ops_of d) in
+    let bytes : List ℕ = document_bytes d in
+    let quiet = quiet_listed p d k r.formed r.framing r.small (omega arith) (omega (arith, x.place)) in
+    elim (cases_lt n k) [
+      | inl less ↦ (n, (file_same w shows p d k r.formed r.framing r.small quiet (inl (omega arith)) n (omega (arith, less))).now)
+      | inr far ↦
+          let stay = stays w shows p bytes k n (over_first w shows d b rest r x is) far in
+          (k, ap (λ (y : CLoading). y.now) stay ∙ (file_same w shows p d k r.formed r.framing r.small quiet (inl (omega arith)) k (omega arith)).now)
+    ]
+
+bytes_closed : (w : World) (shows : ℕ → ℕ) (p : Pickles) (d : Contents) (n : ℕ) → IsReadSo p d → Closed d → IsBytes w shows p (document_bytes d) n
+bytes_closed w shows pickles.First d n r x = bytes_first w shows d n d.tail r x refl
+bytes_closed w shows pickles.All d n r x = bytes_whole w shows pickles.All d n r x (no_bytes d.tail (no_tail d r.formed r.mode x.over.stopped))
+  where
+    no_bytes : (l : List ℕ) → length l ≡ 0 → l ≡ []
+    no_bytes [] e = refl
+    no_bytes (b ∷ l) e = absurd (omega (arith, e))
+bytes_closed w shows pickles.OneMemo d n r x = let wrong : false ≡ true = r.anew in absurd cc
+
+did_closed : (w : World) (shows : ℕ → ℕ) (p : Pickles) (bytes : List ℕ) (d : Contents) → document_bytes d ≡ bytes → IsReadSo p d → is_open (calls_end d).ending ≡ false → (n : ℕ) → DidAs w w shows p bytes frames.Ignored n
+did_closed w shows p bytes d whole r closed n =
+    let same = subst (λ (l : List ℕ). IsBytes w shows p l n) whole (bytes_closed w shows p d n r (closed_of d closed)) in
+    (same.0, ap (λ (l : CLoaded). acts_of (seen_loaded l)) same.1)
+
+-- ---- the law
+
+of_document : (how : Manner) (w : World) (shows : ℕ → ℕ) (p : Pickles) (bytes : List ℕ) (o : Output) (d : Contents) (b : Bool) → IsCallsText how p bytes o → length bytes < 2 ^ 31 → begins_anew p ≡ true → ReadsAs (are_many p) bytes d → cut_lines o.text ≡ document_lines how p d
+    → is_in_text p frames.Ignored ≡ true → is_in_text p frames.Buffered ≡ true → file_frames p ≡ frames.Buffered → is_open (calls_end d).ending ≡ b → SaysMixed o ⊎ Told how w shows p bytes o
+of_document how w shows p bytes o d false text small anew reads lines plainly kept way closed =
+    inr (told_by how w w shows p bytes o text (omega (arith, small)) plainly kept (λ n. inl (did_closed w shows p bytes d reads.whole (read_so p bytes d reads (omega (arith, small)) anew) closed n)))
+of_document how w shows p bytes o d true text small anew reads lines plainly kept way goes = by (first_mixed how.detail p (document_bytes d)) refl
+  where
+    by : (x : Option ℕ) → first_mixed how.detail p (document_bytes d) ≡ x → SaysMixed o ⊎ Told how w shows p bytes o
+    by (Some n) is = inl (says_mixed how p d o n lines goes is)
+    by None is =
+        let none : first_mixed how.detail p bytes ≡ None = ap (first_mixed how.detail p) (sym reads.whole) ∙ is in
+        inr (told_by how w (frames_pass w) shows p bytes o text (omega (arith, small)) plainly kept (did_open how w shows p bytes small way none))
+
+pub each_act_of_a_file_is_told : EachActOfAFileIsTold
+each_act_of_a_file_is_told how w shows pickles.First bytes o text small anew =
+    let x = whole_text_is_its_lines how pickles.First bytes o text in
+    of_document how w shows pickles.First bytes o x.0 (is_open (calls_end x.0).ending) text small anew x.1 x.2 refl refl refl refl
+each_act_of_a_file_is_told how w shows pickles.All bytes o text small anew =
+    let x = whole_text_is_its_lines how pickles.All bytes o text in
+    of_document how w shows pickles.All bytes o x.0 (is_open (calls_end x.0).ending) text small anew x.1 x.2 refl refl refl refl
+each_act_of_a_file_is_told how w shows pickles.OneMemo bytes o text small anew = let wrong : false ≡ true = anew in absurd cc
