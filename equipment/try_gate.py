@@ -2,8 +2,9 @@
 
 The pickles come from gate_cases.py. The unpicklers of each Python that is there (load_worker.py, with things in the place of imports that note
 what is done with them) load them, and lists are made of what was done: all of it, all but something, names with stars, or anything. Each act has
-to be granted by each list with which the pickle passes, also where the load raises. The lists are read here once more, in another way than the
-program reads them. How many pass with acts is counted, and that an act is noticed once its grant is taken away.
+to be granted by each list with which the pickle passes, also where the load raises, and nothing is put into an object behind its state. The lists
+are read here once more, in another way than the program reads them. How many pass with acts is counted, and that an act is noticed once its grant
+is taken away.
 
     python3 -B try_gate.py PROGRAM SEED COUNT    other cases than the gate of the repository has; PYTHONS is as for try_readers.py
 """
@@ -73,6 +74,17 @@ def grants_of(acts: Acts, protocol: int) -> Iterator[Grant]:
                 yield name, is_made, "fill"
         else:
             yield name, is_made, what
+
+
+def behind_a_state(acts: Acts) -> str:
+    """The first act that fills what has its state, gives it another one, or makes a new instance of it."""
+    ready: set[int] = set()
+    for what, target, *_ in acts:
+        if target in ready and (what in FILLS or what in ("state", "new")):
+            return f"{what} of {target} behind its state"
+        if what == "state":
+            ready.add(target)
+    return ""
 
 
 # --- Lists ---
@@ -192,6 +204,7 @@ class Tries:
         (self.folder / "case").write_bytes(case)
         protocol = case[1] if case[:1] == b"\x80" and len(case) > 1 else 0
         grants = {loader: list(grants_of(acts, protocol)) for loader, acts in loads}
+        late = [f"{loader}: {found}" for loader, acts in loads for found in (behind_a_state(acts),) if found]
         every = list(dict.fromkeys(grant for given in grants.values() for grant in given))
         self.tally.counts["cases"] += 1
         for number, granted in enumerate(lists(self.chance, needed(every))):
@@ -200,6 +213,7 @@ class Tries:
                 continue
             self.tally.counts["passed"] += 1
             self._judge(case, granted, grants)
+            self.tally.found.extend(f"{found}: {case.hex()[:6000]}" for found in late)
             if every and not number:
                 self.tally.counts["passed with acts"] += 1
                 self.tally.counts["acts in these"] += max(map(len, grants.values()))

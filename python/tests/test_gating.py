@@ -4,6 +4,7 @@ from __future__ import annotations
 
 import collections
 import fractions
+import functools
 import io
 import itertools
 import json
@@ -56,6 +57,14 @@ class Called:
 
     def __reduce__(self) -> Tuple[Any, ...]:
         return self.reduced
+
+
+class Filled(List[int]):
+    """What gets items, and then a state."""
+
+    def __init__(self, *items: int) -> None:
+        super().__init__(items)
+        self.first: Tuple[object, ...] = items[:1]
 
 
 # Arguments, each with some words that take it; and words for any.
@@ -143,6 +152,29 @@ class Answers(unittest.TestCase):
             if picklestep.form(content) is None:
                 answer = picklestep.gate(content, allow=['plain'], names=['test_shapes.*: call'])
                 self.assertTrue(answer, (value, protocol, answer.line))
+
+    def test_an_object_gets_its_state_last(self) -> None:
+        """What is only imported is not called by what an unpickler looks up of an object that has it in its state."""
+        job, loads, dictionary = b'\x80\x02capp\nJob\n)\x81', b'cjson\nloads\n', b'ccollections\nOrderedDict\n)R'
+        names = ['app.Job: new made-new made-state made-fill', 'json.loads:', f'{NAME}: call made-fill']
+        for what, content in (('state', b'N}' + text('__setstate__') + loads + b's\x86b' + text('1') + b'b'),
+                              ('state', b'N}' + text('__dict__') + b'}' + text('__setstate__') + loads + b'ss\x86b' + text('1') + b'b'),
+                              ('state', b'N}' + text('__class__') + loads + b's\x86b}b'), ('state', dictionary + text('__setstate__') + loads + b'sb' + text('1') + b'b'),
+                              ('append', b'}' + text('append') + loads + b'sb' + text('1') + b'a'), ('append', b'}' + text('extend') + loads + b'sb(' + text('1') * 2 + b'e'),
+                              ('new', b'}' + text('__new__') + loads + b'sb)\x81')):
+            with self.subTest(content):
+                answer = picklestep.gate(job + content + b'.', names=names)
+                self.assertEqual((answer.kind, answer.offset, answer.reason.partition(' ')[0]), ('not allowed', len(job + content) - 1, what))
+                self.assertFalse(picklestep.gate(job + content + b'.', names=['**']))
+                self.assertTrue(picklestep.gate(job + content[:content.rindex(b'b', 0, -1) + 1] + b'.', names=names))
+
+    def test_picklers_write_a_state_last(self) -> None:
+        values: List[object] = [Filled(1, 2), [Filled(3), Filled(4)], Filled(), functools.partial(int, '1'), ValueError(Filled(5)), collections.ChainMap({1: Filled(6)})]
+        values.append([Filled(7), values])
+        for value, protocol in itertools.product(values, range(6)):
+            content = pickle._dumps(value, protocol)  # type: ignore[attr-defined]
+            self.assertIsNone(picklestep.form(content))
+            self.assertTrue(picklestep.gate(content, names=['**']), (value, protocol))
 
     def test_a_class_needs_a_word_through_copyreg(self) -> None:
         """The set `plain` makes objects of no class that a list only imports, or of which it limits the arguments."""

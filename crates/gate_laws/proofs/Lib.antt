@@ -7,6 +7,7 @@ pub mod Items
 pub mod Loads
 pub mod Law
 pub mod Uses
+pub mod States
 pub mod LawC
 pub mod Untouching
 pub mod Files

@@ -1,6 +1,6 @@
 //! Laws of the definitions. The functions do nothing: what they ensure holds of all lists, all bytes and all environments.
 
-ghost use Rattle.gate_laws.specs.Laws.{ImportsAreInTheList, UsesAreGranted, OnlyWhatIsAllowed, OnlyWhatIsAllowedInC, OnlyWhatIsAllowedInAFile, OnlyWhatIsAllowedOfAPipe};
+ghost use Rattle.gate_laws.specs.Laws.{ImportsAreInTheList, UsesAreGranted, OnlyWhatIsAllowed, OnlyWhatIsAllowedInC, OnlyWhatIsAllowedInAFile, OnlyWhatIsAllowedOfAPipe, StatesComeLast};
 ghost use Rattle.gate_laws.specs.Untouched.{NothingIsTouched, NothingIsTouchedInC};
 
 /// Among permitted acts each import is of a name in the list.
@@ -32,6 +32,11 @@ pub fn only_what_is_allowed_in_a_file()
 /// And so is whatever the one in Python does with a pipe, as long as no opcode is made of a short answer.
 pub fn only_what_is_allowed_of_a_pipe()
     ensures { OnlyWhatIsAllowedOfAPipe }
+{}
+
+/// In a pickle that passes an object gets its state once, after its items: behind it no item gives it a state or items, or makes a new instance of it.
+pub fn states_come_last()
+    ensures { StatesComeLast }
 {}
 
 /// Bytes that pass by a list of which no name leads to the unpickler are loaded as if no environment could reach it but by its answers, where the

@@ -6,5 +6,5 @@ mod laws;
 pub use laws::{
     imports_are_in_the_list, nothing_is_touched, nothing_is_touched_in_c, only_what_is_allowed,
     only_what_is_allowed_in_a_file, only_what_is_allowed_in_c, only_what_is_allowed_of_a_pipe,
-    uses_are_granted,
+    states_come_last, uses_are_granted,
 };

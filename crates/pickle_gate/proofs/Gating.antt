@@ -1,8 +1,8 @@
 -- The loop of the gate: what is kept while it goes over the items, and what it says.
-use Rattle.std.proofs.Common.{◌≡◌, ℕ, zero, suc, ◌+◌, ◌-◌, ◌≤◌, Bool, true, false, List, [], ◌∷◌, ◌++◌, length, map, drop, Option, Some, None, Ok, refl, sym, ap, subst, ◌∙◌, add-one, arith, length-append}
-use Rattle.std.specs.Prelude.{◌==◌, not, ⊤}
-use Rattle.std.proofs.lemmas.Bool.{lt-ltb, le-ltb, ne_eqb}
-use Rattle.std.proofs.lemmas.List.{drop_all, length-map, map-append}
+use Rattle.std.proofs.Common.{◌≡◌, ℕ, zero, suc, ◌+◌, ◌-◌, ◌<◌, ◌≤◌, Bool, true, false, List, [], ◌∷◌, ◌++◌, length, drop, Option, Some, None, Ok, refl, sym, ap, ap₂, subst, ◌∙◌, inl, inr, add-one, arith, length-append}
+use Rattle.std.specs.Prelude.{◌==◌, ◌||◌, not, slice_get, if◌then◌else◌, ⊤}
+use Rattle.std.proofs.lemmas.Bool.{lt-ltb, le-ltb, ne_eqb, or_cases, false_from_ne_true}
+use Rattle.std.proofs.lemmas.List.{drop_all}
 use Rattle.pickle_ops.specs.Spelling.{Operation, size_of}
 use Rattle.pickle_ops.specs.Object.{Object}
 use Rattle.pickle_ops.specs.Row.{row_of}
@@ -13,9 +13,10 @@ use Rattle.pickle_machine.specs.State.{State, start}
 use Rattle.pickle_machine.specs.Move.{move, next, fresh, refusal_at}
 use Rattle.pickle_machine.specs.Run.{run}
 use Rattle.pickle_show.specs.declared.event.Event.{Event}
+use Rattle.pickle_show.specs.declared.event.Event.TheVariants as event
 use Rattle.pickle_show.specs.declared.report.Closing.TheVariants as closing
 use Rattle.pickle_show.specs.declared.end.Ending.TheVariants as ending
-use Rattle.pickle_show.specs.Event.{before_of, event_of, made_event}
+use Rattle.pickle_show.specs.Event.{is_shown, made_as, made_event, before_of, event_of}
 use Rattle.pickle_show.specs.Calls.{left_at, is_inside, or_here, first_inside, CallsEnd, calls_end}
 use Rattle.pickle_show.specs.Listing.{reached}
 use Rattle.pickle_show.proofs.Walking.{event_by, accepted}
@@ -29,14 +30,15 @@ use Rattle.pickle_form.specs.Form.{Before, end_reason, after, reason_of, at_plac
 use Rattle.pickle_allow.specs.declared.list.Entry.{Entry}
 use Rattle.pickle_allow.specs.declared.grant.Grant.{Grant}
 use Rattle.pickle_allow.specs.Allow.{Source}
-use Rattle.pickle_allow.specs.Source.{source_of, with_more}
+use Rattle.pickle_allow.specs.Source.{source_at, source_of, with_more}
 use Rattle.pickle_gate.specs.declared.verdict.Verdict.TheVariants as verdict
 use Rattle.pickle_gate.specs.declared.judge.Made.TheVariants as made
-use Rattle.pickle_gate.specs.Gate.{protocol_said, protocol_of, sources, sources_behind, may_happen, is_allowed_on, is_allowed, first_forbidden}
-use Rattle.pickle_gate.specs.Kept.{kept_of, AreKept, judged_event, kept_to, protocol_here, judged, event_source}
+use Rattle.pickle_gate.specs.Gate.{protocol_said, protocol_of, sources, sources_behind, event_on, event_at, gives_state, has_state, may_happen, is_allowed_on, is_allowed, first_forbidden}
+use Rattle.pickle_gate.specs.Kept.{kept_of, if_ready, granted, AreKept, judged_event, ready_by, kept_behind, protocol_here, judged, event_source}
 use Rattle.pickle_gate.specs.Verdict.{in_form, verdict_by, verdict_to, verdict_of}
 use Rattle.pickle_gate.proofs.Judged.{kept_is_judged}
 use Rattle.pickle_gate.proofs.Growth.{Growth, Same, One, few_behind, grows, last_one, made_source}
+use Rattle.pickle_gate.proofs.Ready.{or_false, ready_length, ready_each, more_each, ready_within}
 
 -- ---- what is kept
 
@@ -45,25 +47,31 @@ abbrev pub HasProtocol : Contents → ℕ → ℕ → Type 0
 HasProtocol d zero proto = ⊤
 HasProtocol d (suc k) proto = proto ≡ protocol_of d
 
+-- what got its state is there
+abbrev pub AreThere : Contents → ℕ → Type 0
+AreThere d k = (id : ℕ) → has_state d k id ≡ true → id < length (sources d k)
+
 -- the first k items were run and are allowed; this is the state that they reach, and this is granted to its objects
 pub record Far (list : List Entry) (d : Contents) (k offset : ℕ) (s : State) (proto : ℕ) (grants : List Grant) : Type 0 where
   pub reached : run (start d.many) (ops_of d) k ≡ Some s
   pub stands : offset ≡ offset_of d k
   pub heap : length s.heap ≤ k
   pub protocol : HasProtocol d k proto
-  pub kept : AreKept list (sources d k) grants
+  pub kept : AreKept list (sources d k) (has_state d k) grants
   pub count : length (sources d k) ≡ length s.heap
+  pub ready : AreThere d k
   pub allowed : first_forbidden list d k ≡ None
 
 pub far_begins : (list : List Entry) (d : Contents) (proto : ℕ) → d.many ≡ false → Far list d 0 0 (start false) proto []
-unfolding sources first_forbidden
+unfolding sources has_state first_forbidden
 far_begins list d proto m = record {
   reached = run_nothing (start d.many) (ops_of d) ∙ ap (λ (b : Bool). Some (start b)) m;
   stands = refl;
   heap = omega arith;
   protocol = tt;
-  kept = refl;
+  kept = record { count = refl; each = λ id. refl };
   count = refl;
+  ready = λ id e. absurd cc;
   allowed = refl;
 }
 
@@ -83,23 +91,23 @@ event_is o k s t e = event_by s.stopped (row_of o) s t (accepted (refusal_at o s
 
 -- whether it is allowed
 allowed_is : (list : List Entry) (d : Contents) (k : ℕ) (o : Operation) (s t : State) → item_at d k ≡ Some o → run (start d.many) (ops_of d) k ≡ Some s → move o k s ≡ Ok t
-    → is_allowed list d k ≡ may_happen list (protocol_of d) t.heap (sources d k) (event_of (row_of o) (before_of s) t)
+    → is_allowed list d k ≡ may_happen list (protocol_of d) t.heap (sources d k) (has_state d k) (event_of (row_of o) (before_of s) t)
 unfolding is_allowed
 allowed_is list d k o s t e r m =
-    ap (λ (x : Option Operation). is_allowed_on list (protocol_of d) (sources d k) x (run (start d.many) (ops_of d) k) (run (start d.many) (ops_of d) (suc k))) e
-    ∙ ap (λ (y : Option State). is_allowed_on list (protocol_of d) (sources d k) (Some o) y (run (start d.many) (ops_of d) (suc k))) r
-    ∙ ap (λ (z : Option State). is_allowed_on list (protocol_of d) (sources d k) (Some o) (Some s) z) (runs_on d k o s t e r m)
-    ∙ ap (λ (x : Option Event). may_happen list (protocol_of d) t.heap (sources d k) x) (sym (event_is o k s t m))
+    ap (λ (x : Option Operation). is_allowed_on list (protocol_of d) (sources d k) (has_state d k) x (run (start d.many) (ops_of d) k) (run (start d.many) (ops_of d) (suc k))) e
+    ∙ ap (λ (y : Option State). is_allowed_on list (protocol_of d) (sources d k) (has_state d k) (Some o) y (run (start d.many) (ops_of d) (suc k))) r
+    ∙ ap (λ (z : Option State). is_allowed_on list (protocol_of d) (sources d k) (has_state d k) (Some o) (Some s) z) (runs_on d k o s t e r m)
+    ∙ ap (λ (x : Option Event). may_happen list (protocol_of d) t.heap (sources d k) (has_state d k) x) (sym (event_is o k s t m))
 
 -- what comes of its event
 judged_is : (list : List Entry) (d : Contents) (k : ℕ) (o : Operation) (s t : State) (proto : ℕ) (grants : List Grant) → item_at d k ≡ Some o
-    → run (start d.many) (ops_of d) k ≡ Some s → move o k s ≡ Ok t → proto ≡ protocol_of d → AreKept list (sources d k) grants
+    → run (start d.many) (ops_of d) k ≡ Some s → move o k s ≡ Ok t → proto ≡ protocol_of d → AreKept list (sources d k) (has_state d k) grants
     → judged_event list proto t.heap grants (event_of (row_of o) (before_of s) t)
     ≡ judged list (is_allowed list d k) (event_source (protocol_of d) t.heap (sources d k) (event_of (row_of o) (before_of s) t))
 judged_is list d k o s t proto grants e r m p kept =
     let x : Option Event = event_of (row_of o) (before_of s) t in
     ap (λ (n : ℕ). judged_event list n t.heap grants x) p
-    ∙ kept_is_judged list (protocol_of d) t.heap (sources d k) grants x kept
+    ∙ kept_is_judged list (protocol_of d) t.heap (sources d k) (has_state d k) grants x kept
     ∙ ap (λ (b : Bool). judged list b (event_source (protocol_of d) t.heap (sources d k) x)) (sym (allowed_is list d k o s t e r m))
 
 is_good : (list : List Entry) (b : Bool) (x : Option Source) (g : Grant) → made.Allowed g ≡ judged list b x → (b ≡ true) × (g ≡ kept_of list x)
@@ -116,47 +124,107 @@ sources_next : (d : Contents) (k : ℕ) (t : State) → run (start d.many) (ops_
 unfolding sources
 sources_next d k t e = ap (sources_behind (protocol_of d) (sources d k)) e
 
--- with the object that was made, if one was
-pub record Kept (list : List Entry) (d : Contents) (k : ℕ) (t : State) (grants : List Grant) : Type 0 where
-  pub kept : AreKept list (sources d k) grants
-  pub count : length (sources d k) ≡ length t.heap
+-- the event of the step is that of the item
+event_there : (d : Contents) (k : ℕ) (o : Operation) (s t : State) → item_at d k ≡ Some o → run (start d.many) (ops_of d) k ≡ Some s → move o k s ≡ Ok t
+    → event_at d k ≡ event_of (row_of o) (before_of s) t
+unfolding event_at
+event_there d k o s t e r m =
+    ap (λ (x : Option Operation). event_on x (run (start d.many) (ops_of d) k) (run (start d.many) (ops_of d) (suc k))) e
+    ∙ ap (λ (y : Option State). event_on (Some o) y (run (start d.many) (ops_of d) (suc k))) r
+    ∙ ap (λ (z : Option State). event_on (Some o) (Some s) z) (runs_on d k o s t e r m)
+    ∙ sym (event_is o k s t m)
 
-kept_same : (list : List Entry) (d : Contents) (k : ℕ) (t : State) (grants : List Grant) (g : Grant) → run (start d.many) (ops_of d) (suc k) ≡ Some t → AreKept list (sources d k) grants
-    → length (sources d k) ≡ length t.heap → Kept list d (suc k) t (kept_to (length t.heap) g grants)
-kept_same list d k t grants g r kept n =
+state_next : (d : Contents) (k id : ℕ) (x : Option Event) → event_at d k ≡ x → has_state d (suc k) id ≡ (has_state d k id || gives_state x id)
+unfolding has_state
+state_next d k id x e = ap (λ (y : Option Event). has_state d k id || gives_state y id) e
+
+-- the making of an object gives no state
+shown_gives : (b : Bool) (n id : ℕ) → gives_state (if b then Some (event.Made n) else None) id ≡ false
+shown_gives true n id = refl
+shown_gives false n id = refl
+
+made_gives : (heap : List Object) (n id : ℕ) (y : Option Object) → gives_state (made_as heap n y) id ≡ false
+made_gives heap n id None = refl
+made_gives heap n id (Some o) = shown_gives (is_shown heap o) n id
+
+-- with the object that was made, if one was, and the state that was given, if one was
+pub record Kept (list : List Entry) (d : Contents) (k : ℕ) (t : State) (grants : List Grant) : Type 0 where
+  pub kept : AreKept list (sources d k) (has_state d k) grants
+  pub count : length (sources d k) ≡ length t.heap
+  pub ready : AreThere d k
+
+-- what the step gives a state is there
+ready_next : (list : List Entry) (d : Contents) (k proto : ℕ) (t : State) (grants : List Grant) (g : Grant) (x : Option Event) → event_at d k ≡ x → AreKept list (sources d k) (has_state d k) grants → AreThere d k
+    → made.Allowed g ≡ judged_event list proto t.heap grants x → (id : ℕ) → has_state d (suc k) id ≡ true → id < length (sources d k)
+ready_next list d k proto t grants g x ev kept ready good id e =
+    elim (or_cases (has_state d k id) (gives_state x id) (sym (state_next d k id x ev) ∙ e)) [
+      | inl old ↦ ready id old
+      | inr new ↦ let there : id < length grants = ready_within list proto t.heap grants x g id good new in omega (arith, there, kept.count)
+    ]
+
+kept_same : (list : List Entry) (d : Contents) (k : ℕ) (t : State) (grants : List Grant) (g : Grant) (x : Option Event) → run (start d.many) (ops_of d) (suc k) ≡ Some t → event_at d k ≡ x
+    → AreKept list (sources d k) (has_state d k) grants → length (sources d k) ≡ length t.heap → ((id : ℕ) → has_state d (suc k) id ≡ true → id < length (sources d k))
+    → Kept list d (suc k) t (kept_behind (length t.heap) g x grants)
+kept_same list d k t grants g x r ev kept n ready =
     let none : drop (length (sources d k)) t.heap ≡ [] = drop_all (length (sources d k)) t.heap (omega (arith, n)) in
     let same : sources d (suc k) ≡ sources d k = sources_next d k t r ∙ ap (with_more (protocol_of d) t.heap (sources d k)) none in
-    let size : length grants ≡ length t.heap = ap length kept ∙ length-map (sources d k) (kept_of list) ∙ n in
-    let stay : kept_to (length t.heap) g grants ≡ grants = rw (le-ltb (length grants) (length t.heap) (omega (arith, size))) refl in
-    record { kept = rw (same, stay) kept; count = rw same n }
+    let stay : kept_behind (length t.heap) g x grants ≡ ready_by x grants = rw (le-ltb (length grants) (length t.heap) (omega (arith, n, kept.count))) refl in
+    record {
+      kept = record {
+        count = ap length stay ∙ ready_length x grants ∙ kept.count ∙ ap length (sym same);
+        each = λ id.
+            ap (λ (l : List Grant). granted l id) stay
+            ∙ ready_each list (sources d k) (has_state d k) grants x kept id
+            ∙ ap₂ (λ (b : Bool) (from : List (Option Source)). if_ready b (kept_of list (source_at from id))) (sym (state_next d k id x ev)) (sym same);
+      };
+      count = rw same n;
+      ready = λ id e. let there : id < length (sources d k) = ready id e in omega (arith, there, ap length same);
+    }
 
-kept_more : (list : List Entry) (d : Contents) (k : ℕ) (t : State) (grants : List Grant) (g : Grant) → run (start d.many) (ops_of d) (suc k) ≡ Some t → AreKept list (sources d k) grants
-    → length t.heap ≡ length (sources d k) + 1 → g ≡ kept_of list (event_source (protocol_of d) t.heap (sources d k) (made_event t.heap (length (sources d k))))
-    → Kept list d (suc k) t (kept_to (length t.heap) g grants)
-kept_more list d k t grants g r kept n is =
+kept_more : (list : List Entry) (d : Contents) (k : ℕ) (t : State) (grants : List Grant) (g : Grant) (x : Option Event) → run (start d.many) (ops_of d) (suc k) ≡ Some t → event_at d k ≡ x
+    → AreKept list (sources d k) (has_state d k) grants → length t.heap ≡ length (sources d k) + 1 → x ≡ made_event t.heap (length (sources d k)) → AreThere d k
+    → g ≡ kept_of list (event_source (protocol_of d) t.heap (sources d k) x) → Kept list d (suc k) t (kept_behind (length t.heap) g x grants)
+kept_more list d k t grants g x r ev kept n made ready is =
     let from : List (Option Source) = sources d k in
     let last = last_one t.heap (length from) n in
     let o : Object = last.0 in
-    let x : Option Source = source_of (protocol_of d) t.heap from o.kind o.parts in
-    let more : sources d (suc k) ≡ from ++ x ∷ [] = sources_next d k t r ∙ ap (with_more (protocol_of d) t.heap from) last.2 in
-    let g_is : g ≡ kept_of list x = is ∙ ap (kept_of list) (made_source (protocol_of d) t.heap from (length from) o last.1) in
-    let size : length grants ≡ length from = ap length kept ∙ length-map from (kept_of list) in
-    let grow : kept_to (length t.heap) g grants ≡ grants ++ g ∷ [] = rw (lt-ltb (length grants) (length t.heap) (omega (arith, size, n))) refl in
-    let all : grants ++ g ∷ [] ≡ map (kept_of list) (from ++ x ∷ []) = rw (kept, g_is) (sym (map-append (kept_of list) from (x ∷ []))) in
-    record { kept = grow ∙ all ∙ ap (map (kept_of list)) (sym more); count = omega (arith, ap length more, length-append from (x ∷ []), n) }
+    let y : Option Source = source_of (protocol_of d) t.heap from o.kind o.parts in
+    let more : sources d (suc k) ≡ from ++ y ∷ [] = sources_next d k t r ∙ ap (with_more (protocol_of d) t.heap from) last.2 in
+    let g_is : g ≡ kept_of list y =
+    is ∙ ap (λ (z : Option Event). kept_of list (event_source (protocol_of d) t.heap from z)) made ∙ ap (kept_of list) (made_source (protocol_of d) t.heap from (length from) o last.1) in
+    let grow : kept_behind (length t.heap) g x grants ≡ grants ++ g ∷ [] = rw (lt-ltb (length grants) (length t.heap) (omega (arith, kept.count, n))) refl in
+    let had : (id : ℕ) → has_state d (suc k) id ≡ has_state d k id = λ id.
+    state_next d k id x ev
+    ∙ ap (λ (b : Bool). has_state d k id || b) (ap (λ (z : Option Event). gives_state z id) made ∙ made_gives t.heap (length from) id (slice_get t.heap (length from)))
+    ∙ or_false (has_state d k id) in
+    let no_state : has_state d k (length from) ≡ false = false_from_ne_true (has_state d k (length from)) (λ e. let there : length from < length from = ready (length from) e in omega (arith, there)) in
+    record {
+      kept = record {
+        count = omega (arith, ap length grow, length-append grants (g ∷ []), kept.count, ap length more, length-append from (y ∷ []));
+        each = λ id.
+            ap (λ (l : List Grant). granted l id) grow
+            ∙ more_each list from (has_state d k) grants y g kept.count kept.each no_state g_is id
+            ∙ ap₂ (λ (b : Bool) (l : List (Option Source)). if_ready b (kept_of list (source_at l id))) (sym (had id)) (sym more);
+      };
+      count = omega (arith, ap length more, length-append from (y ∷ []), n);
+      ready = λ id e. let there : id < length from = ready id (sym (had id) ∙ e) in omega (arith, there, ap length more, length-append from (y ∷ []));
+    }
 
-kept_next : (list : List Entry) (d : Contents) (k : ℕ) (o : Operation) (s t : State) (grants : List Grant) (g : Grant) → run (start d.many) (ops_of d) (suc k) ≡ Some t
-    → AreKept list (sources d k) grants → length (sources d k) ≡ length s.heap → Growth (row_of o) (before_of s) (length s.heap) t
-    → g ≡ kept_of list (event_source (protocol_of d) t.heap (sources d k) (event_of (row_of o) (before_of s) t)) → Kept list d (suc k) t (kept_to (length t.heap) g grants)
-kept_next list d k o s t grants g r kept n (Same e) is = kept_same list d k t grants g r kept (n ∙ sym e)
-kept_next list d k o s t grants g r kept n (One e made) is =
-    kept_more list d k t grants g r kept (omega (arith, e, n))
-    (is ∙ ap (λ (x : Option Event). kept_of list (event_source (protocol_of d) t.heap (sources d k) x)) (made ∙ ap (made_event t.heap) (sym n)))
+kept_next : (list : List Entry) (d : Contents) (k proto : ℕ) (o : Operation) (s t : State) (grants : List Grant) (g : Grant) → run (start d.many) (ops_of d) (suc k) ≡ Some t
+    → event_at d k ≡ event_of (row_of o) (before_of s) t → AreKept list (sources d k) (has_state d k) grants → length (sources d k) ≡ length s.heap → AreThere d k
+    → Growth (row_of o) (before_of s) (length s.heap) t → made.Allowed g ≡ judged_event list proto t.heap grants (event_of (row_of o) (before_of s) t)
+    → g ≡ kept_of list (event_source (protocol_of d) t.heap (sources d k) (event_of (row_of o) (before_of s) t))
+    → Kept list d (suc k) t (kept_behind (length t.heap) g (event_of (row_of o) (before_of s) t) grants)
+kept_next list d k proto o s t grants g r ev kept n ready (Same e) good is =
+    let x : Option Event = event_of (row_of o) (before_of s) t in
+    kept_same list d k t grants g x r ev kept (n ∙ sym e) (ready_next list d k proto t grants g x ev kept ready good)
+kept_next list d k proto o s t grants g r ev kept n ready (One e made) good is =
+    kept_more list d k t grants g (event_of (row_of o) (before_of s) t) r ev kept (omega (arith, e, n)) (made ∙ ap (made_event t.heap) (sym n)) ready is
 
 -- the item is allowed
 pub far_goes_on : (list : List Entry) (d : Contents) (k offset : ℕ) (o : Operation) (s t : State) (proto p : ℕ) (grants : List Grant) (g : Grant) → Far list d k offset s proto grants
     → item_at d k ≡ Some o → move o k s ≡ Ok t → p ≡ protocol_here k o proto → made.Allowed g ≡ judged_event list p t.heap grants (event_of (row_of o) (before_of s) t)
-    → Far list d (k + 1) (offset + size_of o) t p (kept_to (length t.heap) g grants)
+    → Far list d (k + 1) (offset + size_of o) t p (kept_behind (length t.heap) g (event_of (row_of o) (before_of s) t) grants)
 unfolding first_forbidden
 far_goes_on list d k offset o s t proto p grants g w e m q good =
     let here : p ≡ protocol_of d = q ∙ protocol_is d k o proto e w.protocol in
@@ -164,7 +232,7 @@ far_goes_on list d k offset o s t proto p grants g w e m q good =
     let is = is_good list (is_allowed list d k) x g (good ∙ judged_is list d k o s t p grants e w.reached m here w.kept) in
     let run_is : run (start d.many) (ops_of d) (suc k) ≡ Some t = runs_on d k o s t e w.reached m in
     let growth = grows o k s t m in
-    let all = kept_next list d k o s t grants g run_is w.kept w.count growth is.1 in
+    let all = kept_next list d k p o s t grants g run_is (event_there d k o s t e w.reached m) w.kept w.count w.ready growth good is.1 in
     let none : first_forbidden list d (suc k) ≡ None = ap (λ (y : Option ℕ). or_here y (not (is_allowed list d k)) k) w.allowed ∙ ap (λ (b : Bool). or_here None (not b) k) is.0 in
     record {
       reached = rw (add-one k) run_is;
@@ -173,6 +241,7 @@ far_goes_on list d k offset o s t proto p grants g w e m q good =
       protocol = subst (λ (n : ℕ). HasProtocol d n p) (sym (add-one k)) here;
       kept = rw (add-one k) all.kept;
       count = rw (add-one k) all.count;
+      ready = rw (add-one k) all.ready;
       allowed = rw (add-one k) none;
     }
 
@@ -196,16 +265,16 @@ forbidden_of list d k j n h e =
     subst (λ (m : ℕ). first_forbidden list d m ≡ Some j) z (forbidden_stays list d k j (n - k) e)
 
 -- what has no state behind it is not asked
-stuck_allowed : (list : List Entry) (proto : ℕ) (from : List (Option Source)) (x : Option Operation) (y : Option State) → is_allowed_on list proto from x y None ≡ true
-stuck_allowed list proto from None y = refl
-stuck_allowed list proto from (Some o) None = refl
-stuck_allowed list proto from (Some o) (Some s) = refl
+stuck_allowed : (list : List Entry) (proto : ℕ) (from : List (Option Source)) (had : ℕ → Bool) (x : Option Operation) (y : Option State) → is_allowed_on list proto from had x y None ≡ true
+stuck_allowed list proto from had None y = refl
+stuck_allowed list proto from had (Some o) None = refl
+stuck_allowed list proto from had (Some o) (Some s) = refl
 
 stuck_is_allowed : (list : List Entry) (d : Contents) (k : ℕ) → run (start d.many) (ops_of d) (suc k) ≡ None → is_allowed list d k ≡ true
 unfolding is_allowed
 stuck_is_allowed list d k e =
-    ap (λ (z : Option State). is_allowed_on list (protocol_of d) (sources d k) (item_at d k) (run (start d.many) (ops_of d) k) z) e
-    ∙ stuck_allowed list (protocol_of d) (sources d k) (item_at d k) (run (start d.many) (ops_of d) k)
+    ap (λ (z : Option State). is_allowed_on list (protocol_of d) (sources d k) (has_state d k) (item_at d k) (run (start d.many) (ops_of d) k) z) e
+    ∙ stuck_allowed list (protocol_of d) (sources d k) (has_state d k) (item_at d k) (run (start d.many) (ops_of d) k)
 
 none_behind : (list : List Entry) (d : Contents) (k n : ℕ) → first_forbidden list d k ≡ None → run (start d.many) (ops_of d) (suc k) ≡ None → first_forbidden list d (n + k) ≡ None
 unfolding first_forbidden

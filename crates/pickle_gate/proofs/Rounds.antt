@@ -25,7 +25,7 @@ use Rattle.pickle_allow.specs.declared.list.Entry.{Entry}
 use Rattle.pickle_allow.specs.declared.grant.Grant.{Grant}
 use Rattle.pickle_gate.specs.declared.verdict.Verdict.TheVariants as verdict
 use Rattle.pickle_gate.specs.declared.judge.Made.TheVariants as made
-use Rattle.pickle_gate.specs.Kept.{judged_event, kept_to, protocol_here}
+use Rattle.pickle_gate.specs.Kept.{judged_event, kept_behind, protocol_here}
 use Rattle.pickle_gate.specs.Verdict.{in_form, IsVerdict}
 use Rattle.pickle_gate.proofs.Gating.{Far, far_begins, far_goes_on, form_reaches, says_other, says_passes, says_forbidden, says_refused}
 
@@ -81,7 +81,7 @@ ends_forbidden {list = list} {proto = proto} {grants = grants} bytes rest left k
 pub goes_round : {list : List Entry} {proto : ℕ} {grants : List Grant} (bytes rest : List ℕ) (left k offset : ℕ) (b : Before) (s t : State) (o : Operation) (p : ℕ) (g : Grant)
     → Round list bytes rest left k offset b s proto grants → IsNextItem false left rest o (size_of o) → Stepped k b s t o proto p
     → made.Allowed g ≡ judged_event list p t.heap grants (event_of (row_of o) (before_of s) t) → is_stop o.opcode ≡ false
-    → Round list bytes (drop (size_of o) rest) (left_behind false left o) (k + 1) (offset + size_of o) (after o b) t p (kept_to (length t.heap) g grants)
+    → Round list bytes (drop (size_of o) rest) (left_behind false left o) (k + 1) (offset + size_of o) (after o b) t p (kept_behind (length t.heap) g (event_of (row_of o) (before_of s) t) grants)
 goes_round {list = list} {proto = proto} {grants = grants} bytes rest left k offset b s t o p g w n m good go =
     let i = there w.d bytes rest left k offset b o w.going n in
     record {
@@ -97,7 +97,7 @@ pub ends_at_stop : {list : List Entry} {proto : ℕ} {grants : List Grant} (byte
 ends_at_stop {list = list} {proto = proto} {grants = grants} bytes rest left k offset b s t o p g w n m good hit =
     by (nat_lt 0 (length (drop (size_of o) rest))) refl
   where
-    far : Far list w.d (k + 1) (offset + size_of o) t p (kept_to (length t.heap) g grants)
+    far : Far list w.d (k + 1) (offset + size_of o) t p (kept_behind (length t.heap) g (event_of (row_of o) (before_of s) t) grants)
     far = far_goes_on list w.d k offset o s t proto p grants g w.far (there w.d bytes rest left k offset b o w.going n).there m.moves m.protocol good
 
     by : (more : Bool) → nat_lt 0 (length (drop (size_of o) rest)) ≡ more → IsVerdict list bytes (if more then verdict.Other (at_place (k + 1) (offset + size_of o) reason.Behind) else verdict.Passes)

@@ -1,6 +1,6 @@
 -- Which pickles pass.
 -- Source: own.
-use Rattle.std.specs.Prelude.{◌≡◌, ℕ, zero, suc, ◌^◌, ◌<◌, ◌&&◌, not, if◌then◌else◌, Bool, true, false, List, [], length, drop, slice_get, Option, Some, None}
+use Rattle.std.specs.Prelude.{◌≡◌, ℕ, zero, suc, ◌^◌, ◌<◌, ◌==◌, ◌&&◌, ◌||◌, not, if◌then◌else◌, Bool, true, false, List, [], length, drop, slice_get, Option, Some, None}
 use Rattle.std.specs.Option.{option_map_or}
 use Rattle.pickle_ops.specs.declared.form.Form.TheVariants as form
 use Rattle.pickle_ops.specs.declared.kind.Kind.{Kind}
@@ -46,6 +46,40 @@ unfoldable pub sources : Contents → ℕ → List (Option Source)
 sources d zero = []
 sources d (suc k) = sources_behind (protocol_of d) (sources d k) (run (start d.many) (ops_of d) (suc k))
 
+-- ---- objects that have their state
+
+-- the event of an item, between the states before and behind it
+abbrev pub event_on : Option Operation → Option State → Option State → Option Event
+event_on (Some o) (Some s) (Some t) = event_of (row_of o) (before_of (fresh s)) t
+event_on (Some o) (Some s) None = None
+event_on (Some o) None t = None
+event_on None s t = None
+
+unfoldable pub event_at : Contents → ℕ → Option Event
+event_at d k = event_on (item_at d k) (run (start d.many) (ops_of d) k) (run (start d.many) (ops_of d) (suc k))
+
+-- an event gives a state to the object of this number
+abbrev pub gives_state : Option Event → ℕ → Bool
+gives_state None id = false
+gives_state (Some (event.Made n)) id = false
+gives_state (Some (event.State value target)) id = target == id
+gives_state (Some (event.Filled how count target)) id = false
+
+-- one of the first k items does
+unfoldable pub has_state : Contents → ℕ → ℕ → Bool
+has_state d zero id = false
+has_state d (suc k) id = has_state d k id || gives_state (event_at d k) id
+
+abbrev pub part_has_state : (ℕ → Bool) → Option ℕ → Bool
+part_has_state had None = false
+part_has_state had (Some id) = had id
+
+-- a new instance is made of what has its state
+abbrev pub is_of_ready : (ℕ → Bool) → Kind → List ℕ → Bool
+is_of_ready had kind.New parts = part_has_state had (slice_get parts 0)
+is_of_ready had kind.NewEx parts = part_has_state had (slice_get parts 0)
+is_of_ready had _ parts = false
+
 -- ---- what is allowed
 
 -- the making of an object: what is imported, asked for or called. INST, which no pickler of Python 3 writes, is not
@@ -63,23 +97,28 @@ may_make list proto heap from kind.Obj parts = may_use list use_of.Call (callee_
 may_make list proto heap from (kind.Inst names) parts = false
 may_make list proto heap from _ parts = true
 
--- an event: with these arguments, and with this state
-abbrev pub may_happen : List Entry → ℕ → List Object → List (Option Source) → Option Event → Bool
-may_happen list proto heap from None = true
-may_happen list proto heap from (Some (event.Made id)) =
-    option_map_or (λ (o : Object). may_make list proto heap from o.kind o.parts && may_be_given list proto heap o.kind o.parts) (slice_get heap id) true
-may_happen list proto heap from (Some (event.State value target)) = may_use list use_of.State (source_at from target) && may_be_set list proto heap value target
-may_happen list proto heap from (Some (event.Filled how count target)) = may_use list use_of.Fill (source_at from target)
+-- an event: with these arguments, and with this state. Picklers give an object its items, and then its state, once (Lib/pickle.py, `save_reduce`). A
+-- state may replace what is looked up of the object itself: `__setstate__`, `__dict__` and `__class__` where it gets one more state, `append`, `extend`,
+-- `add` and `update` where it gets items, `__new__` where an instance of it is made. So none of this is done with what has its state. It may be called:
+-- what that does its class says, and picklers call a `functools.partial` that has its state
+abbrev pub may_happen : List Entry → ℕ → List Object → List (Option Source) → (ℕ → Bool) → Option Event → Bool
+may_happen list proto heap from had None = true
+may_happen list proto heap from had (Some (event.Made id)) =
+    option_map_or (λ (o : Object). may_make list proto heap from o.kind o.parts && (may_be_given list proto heap o.kind o.parts && not (is_of_ready had o.kind o.parts))) (slice_get heap id) true
+may_happen list proto heap from had (Some (event.State value target)) =
+    may_use list use_of.State (source_at from target) && (may_be_set list proto heap value target && not (had target))
+may_happen list proto heap from had (Some (event.Filled how count target)) = may_use list use_of.Fill (source_at from target) && not (had target)
 
 -- the event of item k
-abbrev pub is_allowed_on : List Entry → ℕ → List (Option Source) → Option Operation → Option State → Option State → Bool
-is_allowed_on list proto from (Some o) (Some s) (Some t) = may_happen list proto t.heap from (event_of (row_of o) (before_of (fresh s)) t)
-is_allowed_on list proto from (Some o) (Some s) None = true
-is_allowed_on list proto from (Some o) None t = true
-is_allowed_on list proto from None s t = true
+abbrev pub is_allowed_on : List Entry → ℕ → List (Option Source) → (ℕ → Bool) → Option Operation → Option State → Option State → Bool
+is_allowed_on list proto from had (Some o) (Some s) (Some t) = may_happen list proto t.heap from had (event_of (row_of o) (before_of (fresh s)) t)
+is_allowed_on list proto from had (Some o) (Some s) None = true
+is_allowed_on list proto from had (Some o) None t = true
+is_allowed_on list proto from had None s t = true
 
 unfoldable pub is_allowed : List Entry → Contents → ℕ → Bool
-is_allowed list d k = is_allowed_on list (protocol_of d) (sources d k) (item_at d k) (run (start d.many) (ops_of d) k) (run (start d.many) (ops_of d) (suc k))
+is_allowed list d k =
+    is_allowed_on list (protocol_of d) (sources d k) (has_state d k) (item_at d k) (run (start d.many) (ops_of d) k) (run (start d.many) (ops_of d) (suc k))
 
 -- the first of n items that is not allowed
 unfoldable pub first_forbidden : List Entry → Contents → ℕ → Option ℕ

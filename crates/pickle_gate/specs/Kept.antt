@@ -1,19 +1,23 @@
 -- What is kept of each object while the gate goes over a pickle: what the list grants to it. These are no definitions of the gate.
-use Rattle.std.specs.Prelude.{◌≡◌, ℕ, ◌==◌, ◌&&◌, nat_lt, if◌then◌else◌, Bool, false, List, [], ◌∷◌, ◌++◌, length, map, slice_get, Option, Some, None}
+use Rattle.std.specs.Prelude.{◌≡◌, ℕ, ◌==◌, ◌&&◌, nat_lt, if◌then◌else◌, Bool, true, false, List, [], ◌∷◌, ◌++◌, length, map, slice_get, slice_set, Option, Some, None}
 use Rattle.std.specs.Option.{option_map_or, unwrap_or}
 use Rattle.pickle_ops.specs.declared.kind.Kind.{Kind}
 use Rattle.pickle_ops.specs.declared.kind.Kind.TheVariants as kind
 use Rattle.pickle_ops.specs.Spelling.{Operation}
+use Rattle.pickle_ops.specs.declared.row.Row.{Row}
 use Rattle.pickle_ops.specs.Object.{Object}
+use Rattle.pickle_machine.specs.State.{State}
 use Rattle.pickle_show.specs.declared.event.Event.{Event}
 use Rattle.pickle_show.specs.declared.event.Event.TheVariants as event
+use Rattle.pickle_show.specs.declared.event.Before.{Before}
+use Rattle.pickle_show.specs.Event.{event_of}
 use Rattle.pickle_allow.specs.declared.list.Use.{Use}
 use Rattle.pickle_allow.specs.declared.list.Use.TheVariants as use_of
 use Rattle.pickle_allow.specs.declared.list.Uses.{Uses}
 use Rattle.pickle_allow.specs.declared.list.Entry.{Entry}
 use Rattle.pickle_allow.specs.declared.grant.Grant.{Grant}
 use Rattle.pickle_allow.specs.Allow.{Source, has}
-use Rattle.pickle_allow.specs.Source.{line_text, part_text, import_name, extension_word, persistent_word, buffer_word, source_of}
+use Rattle.pickle_allow.specs.Source.{line_text, part_text, import_name, extension_word, persistent_word, buffer_word, source_at, source_of}
 use Rattle.pickle_allow.specs.Granted.{grant_of, granted_to}
 use Rattle.pickle_allow.specs.Arguments.{may_be_given, may_be_set}
 use Rattle.pickle_gate.specs.Gate.{protocol_said, may_happen}
@@ -32,12 +36,20 @@ abbrev pub kept_of : List Entry → Option Source → Grant
 kept_of list None = nothing_granted
 kept_of list (Some s) = grant_of list s
 
--- of objects that come of these
-abbrev pub AreKept : List Entry → List (Option Source) → List Grant → Type 0
-AreKept list from grants = grants ≡ map (kept_of list) from
+-- with what has its state no more may be done than to call it
+abbrev pub of_ready : Grant → Grant
+of_ready g = record { now = record { call = g.now.call; new = false; state = false; fill = false }; made = g.made }
+
+abbrev pub if_ready : Bool → Grant → Grant
+if_ready had g = if had then of_ready g else g
 
 abbrev pub granted : List Grant → ℕ → Grant
 granted grants id = unwrap_or (slice_get grants id) nothing_granted
+
+-- of objects that come of these, of which some have their state
+pub record AreKept (list : List Entry) (from : List (Option Source)) (had : ℕ → Bool) (grants : List Grant) : Type 0 where
+  pub count : length grants ≡ length from
+  pub each : (id : ℕ) → granted grants id ≡ if_ready (had id) (kept_of list (source_at from id))
 
 abbrev pub may_do : Use → Grant → Bool
 may_do what g = has g.now what
@@ -98,9 +110,21 @@ judged_event list proto heap grants (Some (event.Made id)) =
 judged_event list proto heap grants (Some (event.State value target)) = allowed_if (may_do use_of.State (granted grants target) && may_be_set list proto heap value target)
 judged_event list proto heap grants (Some (event.Filled how count target)) = allowed_if (may_do use_of.Fill (granted grants target))
 
--- this is granted to the newest of so many objects, if it is not kept yet
-abbrev pub kept_to : ℕ → Grant → List Grant → List Grant
-kept_to objects g grants = if nat_lt (length grants) objects then grants ++ g ∷ [] else grants
+-- what an event gives its state
+abbrev pub ready_by : Option Event → List Grant → List Grant
+ready_by None grants = grants
+ready_by (Some (event.Made id)) grants = grants
+ready_by (Some (event.State value target)) grants = slice_set grants target (of_ready (granted grants target))
+ready_by (Some (event.Filled how count target)) grants = grants
+
+-- behind an event: this is granted to the newest of so many objects, if it is not kept yet
+abbrev pub kept_behind : ℕ → Grant → Option Event → List Grant → List Grant
+kept_behind objects g e grants = if nat_lt (length grants) objects then grants ++ g ∷ [] else ready_by e grants
+
+-- the event of a step of this row, from what was looked at before it to the state after it: whether it is allowed, and what is kept then
+pub record KeepsBehind (list : List Entry) (proto : ℕ) (r : Row) (b : Before) (t : State) (old new : List Grant) (good : Bool) : Type 0 where
+  pub bad : good ≡ false → made.Forbidden ≡ judged_event list proto t.heap old (event_of r b t)
+  pub fine : good ≡ true → (g : Grant) × (made.Allowed g ≡ judged_event list proto t.heap old (event_of r b t)) × (new ≡ kept_behind (length t.heap) g (event_of r b t) old)
 
 -- the protocol behind an item at this place, from that before it
 abbrev pub protocol_here : ℕ → Operation → ℕ → ℕ
@@ -121,5 +145,5 @@ event_source proto heap from (Some (event.Filled how count target)) = None
 
 -- what is kept of objects says of an event what the gate does
 abbrev pub KeptIsJudged : Type 0
-KeptIsJudged = (list : List Entry) (proto : ℕ) (heap : List Object) (from : List (Option Source)) (grants : List Grant) (e : Option Event) → AreKept list from grants
-    → judged_event list proto heap grants e ≡ judged list (may_happen list proto heap from e) (event_source proto heap from e)
+KeptIsJudged = (list : List Entry) (proto : ℕ) (heap : List Object) (from : List (Option Source)) (had : ℕ → Bool) (grants : List Grant) (e : Option Event) → AreKept list from had grants
+    → judged_event list proto heap grants e ≡ judged list (may_happen list proto heap from had e) (event_source proto heap from e)

@@ -1,21 +1,22 @@
 //! What a list says of one object that is made, or that something is put into.
 
-ghost use Rattle.std.specs.Prelude.{◌≡◌, ◌&&◌, slice_get, Some, IfOk, OnOk};
+ghost use Rattle.std.specs.Prelude.{◌≡◌, ◌&&◌, slice_get, slice_set, Some, IfOk, OnOk};
 ghost use Rattle.std.specs.Option.{option_map};
 ghost use Rattle.pickle_ops.specs.KindRef.{kind_view};
 ghost use Rattle.pickle_allow.specs.Source.{import_name};
 ghost use Rattle.pickle_allow.specs.Arguments.{limits_of, may_be_given, may_be_set};
 ghost use Rattle.pickle_gate.specs.Gate.{protocol_said};
-ghost use Rattle.pickle_gate.specs.Kept.{granted, may_do, named, found_made, callee, called, making, allowed_if, only_if, judged_event, kept_to, protocol_here};
+ghost use Rattle.pickle_gate.specs.Kept.{granted, may_do, named, found_made, callee, called, making, allowed_if, only_if, judged_event, of_ready, ready_by, nothing_granted, kept_behind, KeepsBehind, protocol_here};
 
 use crate::packed::Packed;
+use crate::seen::is_quiet;
 use pickle_allow::{
     Entry, Grant, Use, Uses, extension_word, grant_of, import_name, line_text, may_be_given,
     may_be_set, part_text,
 };
 use pickle_machine::Inspect;
-use pickle_ops::{KindRef, Look, ObjId, OpRef, Opcode};
-use pickle_show::Event;
+use pickle_ops::{KindRef, Look, ObjId, OpRef, Opcode, Row};
+use pickle_show::{Before, Event, event_of};
 use std::alloc::{AllocError, Global};
 
 /// Nothing may be done.
@@ -222,7 +223,7 @@ fn allowed_if(good: bool) -> Made
 /// What comes of the event of a step: whether it is allowed, and what is granted to the object that it made. A name is decoded and matched once,
 /// where it is imported, and once more where it is called, if the list limits arguments. `limits` are the entries that limit something.
 #[tactic(auto, using(crate::proofs::Looked::judge_rules))]
-pub fn judge<M: Inspect>(
+fn judge<M: Inspect>(
     alloc: Global,
     list: &[Entry<'_>],
     limits: &[Entry<'_>],
@@ -249,12 +250,129 @@ pub fn judge<M: Inspect>(
     }
 }
 
-/// Keeps what is granted to the newest of so many objects, if it is not kept yet.
-pub fn keep(grants: &mut Vec<Packed>, objects: usize, grant: Grant) -> Result<(), AllocError>
-    ensures { OnOk result (grants.new.items ≡ kept_to objects grant grants.old.items) }
+/// What is left of what is granted to an object that has its state: to call it.
+fn of_ready(grant: Grant) -> Grant
+    ensures { result ≡ of_ready grant }
+{
+    Grant {
+        now: Uses {
+            call: grant.now.call,
+            new: false,
+            state: false,
+            fill: false,
+        },
+        made: grant.made,
+    }
+}
+
+/// Keeps of an object that it has its state.
+#[tactic(auto, using(crate::proofs::Ready::ready_rules))]
+fn keep_ready(grants: &mut Vec<Packed>, target: ObjId)
+    ensures { grants.new.items ≡ slice_set grants.old.items target (of_ready (granted grants.old.items target)) }
+{
+    let left = of_ready(grant_at(grants.as_slice(), target));
+    let at = target as usize;
+    if at < grants.len() {
+        grants[at] = Packed::of(left);
+    }
+}
+
+/// Keeps of the object that an event gives a state, if it gives one, that it has it.
+fn keep_event(grants: &mut Vec<Packed>, event: Option<Event>)
+    ensures { grants.new.items ≡ ready_by event grants.old.items }
+{
+    match event {
+        Some(Event::State(_, target)) => keep_ready(grants, target),
+        Some(Event::Made(_)) => {}
+        Some(Event::Filled(_, _, _)) => {}
+        None => {}
+    }
+}
+
+/// Keeps what is granted to the newest of so many objects, if it is not kept yet; else what the event of the step gives a state.
+fn keep(
+    grants: &mut Vec<Packed>,
+    objects: usize,
+    grant: Grant,
+    event: Option<Event>,
+) -> Result<(), AllocError>
+    ensures { OnOk result (grants.new.items ≡ kept_behind objects grant event grants.old.items) }
 {
     if grants.len() < objects {
         grants.push(Packed::of(grant))?;
+        return Ok(());
+    }
+    keep_event(grants, event);
+    Ok(())
+}
+
+/// Keeps that nothing is granted to the newest of so many objects, if it is not kept yet.
+#[inline(always)]
+fn keep_nothing(grants: &mut Vec<Packed>, objects: usize) -> Result<(), AllocError>
+    ensures { OnOk result (grants.new.items ≡ kept_behind objects nothing_granted None grants.old.items) }
+{
+    if grants.len() < objects {
+        grants.push(Packed::nothing())?;
     }
     Ok(())
+}
+
+/// Whether the event of a step of this row is allowed, if it has one: this was looked at before it, and this is the machine after it. What is
+/// granted to the object that it made is kept.
+#[tactic(auto, using(crate::proofs::Quiet::kept_rules))]
+#[inline(never)]
+fn allow_event<M: Inspect>(
+    alloc: Global,
+    list: &[Entry<'_>],
+    limits: &[Entry<'_>],
+    protocol: u64,
+    machine: &M,
+    row: Row,
+    before: Before,
+    grants: &mut Vec<Packed>,
+) -> Result<bool, AllocError>
+    requires { limits.now ≡ limits_of list.now }
+    ensures { IfOk result (KeepsBehind list.now protocol row before (M.state machine.now) grants.old.items grants.new.items) }
+{
+    let event = event_of(row, before, machine);
+    let made = judge(
+        alloc,
+        list,
+        limits,
+        protocol,
+        machine,
+        grants.as_slice(),
+        event,
+    )?;
+    match made {
+        Made::Forbidden => Ok(false),
+        Made::Allowed(grant) => {
+            keep(grants, machine.objects(), grant, event)?;
+            Ok(true)
+        }
+    }
+}
+
+/// The same. Most steps have no event, which is seen at once.
+#[tactic(auto, using(crate::proofs::Quiet::kept_rules))]
+#[inline(always)]
+pub fn allow_step<M: Inspect>(
+    alloc: Global,
+    list: &[Entry<'_>],
+    limits: &[Entry<'_>],
+    protocol: u64,
+    machine: &M,
+    row: Row,
+    before: Before,
+    grants: &mut Vec<Packed>,
+) -> Result<bool, AllocError>
+    requires { limits.now ≡ limits_of list.now }
+    ensures { IfOk result (KeepsBehind list.now protocol row before (M.state machine.now) grants.old.items grants.new.items) }
+{
+    if is_quiet(row, before, machine) {
+        keep_nothing(grants, machine.objects())?;
+        return Ok(true);
+    }
+    let good = allow_event(alloc, list, limits, protocol, machine, row, before, grants)?;
+    Ok(good)
 }

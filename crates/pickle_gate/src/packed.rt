@@ -57,6 +57,15 @@ fn is_none(uses: Uses) -> bool
 
 impl Packed {
     ghost use Rattle.std.specs.Prelude.{◌≡◌};
+    ghost use Rattle.pickle_gate.specs.Kept.{nothing_granted};
+
+    /// Nothing is granted.
+    #[inline(always)]
+    pub fn nothing() -> Packed
+        ensures { result ≡ nothing_granted }
+    {
+        Packed { flags: 0 }
+    }
 
     /// This is granted. Most objects are granted nothing.
     pub fn of(grant: Grant) -> Packed

@@ -1,13 +1,15 @@
-//! The event of a step. These functions say what those of `pickle_show` do; they are such that the loop of the gate asks for the stack, and
-//! calls a function, only at the few rows that put something into an object.
+//! Which steps have an event. What most of them do is of no object of whose making or filling an event tells, as its class says: the loop of
+//! the gate asks for no more there.
 
-ghost use Rattle.std.specs.Prelude.{◌≡◌, ◌<◌, ◌^◌, length};
+ghost use Rattle.std.specs.Prelude.{◌≡◌, ◌<◌, ◌^◌, ◌||◌, not, length, true, None};
+ghost use Rattle.pickle_ops.specs.Class.{is_any, class_meets};
 ghost use Rattle.pickle_machine.specs.State.{State};
-ghost use Rattle.pickle_show.specs.Event.{before_of, event_of};
+ghost use Rattle.pickle_show.specs.Event.{before_of, top_of, filled_event, event_of};
+ghost use Rattle.pickle_gate.specs.Quiet.{IsUnseen, puts_items, filling_of};
 
 use pickle_machine::Inspect;
-use pickle_ops::{ObjId, Row};
-use pickle_show::{Before, Event, event_of};
+use pickle_ops::{Class, Demand, Filling, ObjId, Row};
+use pickle_show::Before;
 
 /// What is looked at of the machine before a step of this row, as far as the event of the step asks for it.
 #[inline(always)]
@@ -26,28 +28,78 @@ pub fn looked_before<M: Inspect>(row: Row, machine: &M) -> Before
     }
 }
 
-/// The event of a step of this row, from what was looked at before it.
-#[inline(never)]
-fn event_apart<M: Inspect>(
-    row: Row,
-    next: ObjId,
-    size: usize,
-    top: ObjId,
-    machine: &M,
-) -> Option<Event>
-    ensures { result ≡ event_of row (record { next = next; size = size; top = top }) (M.state machine.now) }
+/// Whether no event tells of objects of this class.
+#[inline(always)]
+fn is_unseen(class: Class) -> bool
+    ensures { result ≡ not (is_any class || class_meets Demand.ReadOnly class) }
 {
-    event_of(row, Before { next, size, top }, machine)
+    !(class.is_opaque() || class.meets(Demand::ReadOnly))
 }
 
-/// The event of a step of this row, if any: this was looked at before it, and this is the machine after it.
+/// Whether no event tells of the object of this number, by its class.
+#[tactic(auto, using(crate::proofs::Quiet::quiet_rules))]
 #[inline(always)]
-pub fn event_here<M: Inspect>(row: Row, before: Before, machine: &M) -> Option<Event>
-    ensures { result ≡ event_of row before (M.state machine.now) }
+fn is_unseen_at<M: Inspect>(machine: &M, id: ObjId) -> bool
+    ensures { result ≡ true → IsUnseen (M.state machine.now).heap id }
+{
+    match machine.class_at(id) {
+        Some(class) => is_unseen(class),
+        None => true,
+    }
+}
+
+/// The object on top of the stack, or 0 where there is none.
+#[inline(always)]
+fn top_of<M: Inspect>(machine: &M) -> ObjId
+    ensures { result ≡ top_of (M.state machine.now) }
+{
+    match machine.stack_at(machine.stack_len().saturating_sub(1)) {
+        Some(id) => id,
+        None => 0,
+    }
+}
+
+/// Whether items go into an object so, and no state.
+#[inline(always)]
+fn puts_items(filling: Filling) -> bool
+    ensures { result ≡ puts_items filling }
+{
+    !matches!(filling, Filling::Build)
+}
+
+/// Whether a step that put objects into the top so has no event, by the class of the top.
+#[tactic(auto, using(crate::proofs::Quiet::quiet_rules))]
+#[inline(always)]
+fn fills_unseen<M: Inspect>(filling: Filling, machine: &M) -> bool
+    ensures { (b : Before) → result ≡ true → None ≡ filled_event filling b (M.state machine.now) }
+{
+    if !puts_items(filling) {
+        return false;
+    }
+    is_unseen_at(machine, top_of(machine))
+}
+
+/// How a row puts objects into another, if it does.
+#[inline(always)]
+fn filling_of(row: Row) -> Option<Filling>
+    ensures { result ≡ filling_of row }
 {
     match row {
-        Row::Change(_) => event_apart(row, before.next, before.size, before.top, machine),
-        Row::CutChange(_) => event_apart(row, before.next, before.size, before.top, machine),
-        _ => event_of(row, before, machine),
+        Row::Change(filling) => Some(filling),
+        Row::CutChange(filling) => Some(filling),
+        _ => None,
+    }
+}
+
+/// Whether a step of this row has no event, by the class of the object that it made or filled: this was looked at before it, and this is the
+/// machine after it.
+#[tactic(auto, using(crate::proofs::Quiet::quiet_rules))]
+#[inline(always)]
+pub fn is_quiet<M: Inspect>(row: Row, before: Before, machine: &M) -> bool
+    ensures { result ≡ true → None ≡ event_of row before (M.state machine.now) }
+{
+    match filling_of(row) {
+        Some(filling) => fills_unseen(filling, machine),
+        None => is_unseen_at(machine, before.next),
     }
 }

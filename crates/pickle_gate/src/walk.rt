@@ -5,8 +5,8 @@ ghost use Rattle.pickle_doc.specs.Document.{size_limit};
 ghost use Rattle.pickle_form.specs.Form.{at_place};
 ghost use Rattle.pickle_gate.specs.Verdict.{IsVerdict};
 
-use crate::judge::{Made, judge, keep, protocol_here};
-use crate::seen::{event_here, looked_before};
+use crate::judge::{allow_step, protocol_here};
+use crate::seen::looked_before;
 use crate::verdict::Verdict;
 use pickle_allow::{Entry, limits_of};
 use pickle_doc::{ItemSource, Items, NextRef, is_stop};
@@ -75,19 +75,19 @@ pub fn gate(alloc: Global, list: &[Entry<'_>], bytes: &[u8]) -> Result<Verdict, 
                     }
                     return Ok(refused(place, refusal));
                 }
-                let event = event_here(row, before, &machine);
                 protocol = protocol_here(place, &op, protocol);
-                match judge(
+                let good = allow_step(
                     alloc,
                     list,
                     limits.as_slice(),
                     protocol,
                     &machine,
-                    grants.as_slice(),
-                    event,
-                )? {
-                    Made::Forbidden => return Ok(Verdict::Forbidden(place, offset)),
-                    Made::Allowed(grant) => keep(&mut grants, machine.objects(), grant)?,
+                    row,
+                    before,
+                    &mut grants,
+                )?;
+                if !good {
+                    return Ok(Verdict::Forbidden(place, offset));
                 }
                 offset += op.size() as u64;
                 place += 1;

@@ -131,7 +131,9 @@ def _refused(entries: bytes, at: int, part: Blob, answer: GateAnswer, not_there:
         if not granted:
             return
         entries += text_of([granted])
-        answer = _ask(entries, part, budget)
+        last, answer = answer, _ask(entries, part, budget)
+        if answer.offset == last.offset:  # (no list allows it)
+            return
 
 
 class _Done(NamedTuple):
