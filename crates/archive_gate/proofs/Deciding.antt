@@ -19,7 +19,7 @@ use Rattle.zip_archive.specs.Archive.{fronts}
 use Rattle.zip_archive.specs.Reader.{member_of}
 use Rattle.archive_gate.specs.declared.fault.Fault.{Fault}
 use Rattle.archive_gate.specs.declared.fault.Fault.TheVariants as fault
-use Rattle.archive_gate.specs.Members.{alone, header_size, behind_header, Gives, MemberPasses, AllPass, IsRefusedAs, HasFault, AreSmall}
+use Rattle.archive_gate.specs.Members.{with_ids, header_size, behind_header, Gives, MemberPasses, AllPass, IsRefusedAs, HasFault, AreSmall}
 use Rattle.archive_gate.specs.File.{NoneFails}
 use Rattle.archive_gate.proofs.Passing.{small_in}
 use Rattle.zip_archive.proofs.Whole.{one_zip}
@@ -76,25 +76,26 @@ reaches_there g bytes (turn ∷ mix) from s f stands reaches =
     go further (step.Goes t) h = further t h
 
 -- where nothing is reached, another answer can only be that there are too many ways
-only_ways : (bytes : List ℕ) (r : Reach) → NothingFrom alone bytes first_spot → IsReach alone bytes r → ((offset : ℕ) (settled : Bool) → r ≢ answer.Nothing offset settled)
-    → IsReach alone bytes answer.TooMany
+only_ways : (bytes : List ℕ) (r : Reach) → NothingFrom with_ids bytes first_spot → IsReach with_ids bytes r → ((offset : ℕ) (settled : Bool) → r ≢ answer.Nothing offset settled)
+    → IsReach with_ids bytes answer.TooMany
 only_ways bytes (answer.Nothing offset settled) nothing is other = absurd (other offset settled refl)
 only_ways bytes (answer.At spot frames) nothing is other =
-    let bad : false ≡ true = sym (nothing (is.stands.0 ++ turn_of frames ∷ [])) ∙ reaches_there alone bytes is.stands.0 first_spot spot frames is.stands.1 is.reaches in
+    let bad : false ≡ true = sym (nothing (is.stands.0 ++ turn_of frames ∷ [])) ∙ reaches_there with_ids bytes is.stands.0 first_spot spot frames is.stands.1 is.reaches in
     absurd cc
 only_ways bytes answer.TooMany nothing is other = is
 
 -- ---- a member that passes has no fault
 
 refused_ways : (list : List Allowed) (bytes : List ℕ) (v : Verdict) → AreBytes bytes → length bytes ≤ size_limit → Gives list bytes → IsRefusedAs list bytes v
-    → IsReach alone bytes answer.TooMany
+    → IsReach with_ids bytes answer.TooMany
 refused_ways list bytes v small few (inl passes) r =
     let less : length bytes < 2 ^ 64 = omega (arith, few) in
     let one = one_verdict list bytes small less in
     let here : one.0 ≡ v = one.2 v r.refusal.said in
     let there : one.0 ≡ verdict.Passes = one.2 verdict.Passes ((verdicts_are_true list bytes few).says passes) in
     absurd (r.refusal.other (sym here ∙ there))
-refused_ways list bytes v small few (inr nothing) r = only_ways bytes r.found nothing r.reach r.reaches
+refused_ways list bytes v small few (inr (inl raises)) r = let bad : false ≡ true = sym r.goes ∙ raises in absurd cc
+refused_ways list bytes v small few (inr (inr nothing)) r = only_ways bytes r.found nothing r.reach r.reaches
 
 dropped_bytes : (n : ℕ) (xs : List ℕ) → AreBytes xs → AreBytes (drop n xs)
 dropped_bytes zero xs h = h
@@ -102,7 +103,7 @@ dropped_bytes (suc n) [] h = h
 dropped_bytes (suc n) (x ∷ xs) h = dropped_bytes n xs (λ i. h (suc i))
 
 fault_ways : (list : List Allowed) (e : Entry) (f : Fault) → AreBytes e.content → length e.content ≤ size_limit → MemberPasses list (member_of e) → HasFault list e f
-    → IsReach alone e.content answer.TooMany ⊎ IsReach alone (behind_header e.content) answer.TooMany
+    → IsReach with_ids e.content answer.TooMany ⊎ IsReach with_ids (behind_header e.content) answer.TooMany
 fault_ways list e fault.Packed small few m has = let bad : false ≡ true = sym has ∙ m.stored in absurd cc
 fault_ways list e fault.Archive small few m has = let bad : false ≡ true = sym m.bytes.apart ∙ has in absurd cc
 fault_ways list e (fault.Refused v) small few m has = inl (refused_ways list e.content v small few m.bytes.gives has)

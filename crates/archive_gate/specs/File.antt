@@ -9,7 +9,7 @@ use Rattle.pickle_reach.specs.Reach.{first_spot, NothingFrom, IsReach}
 use Rattle.zip_archive.specs.Entry.{Entry}
 use Rattle.zip_archive.specs.Archive.{IsZip}
 use Rattle.archive_gate.specs.declared.fault.Failing.{Failing}
-use Rattle.archive_gate.specs.Members.{alone, begins_as_archive, behind_header, IsFailing, PassesArchive}
+use Rattle.archive_gate.specs.Members.{alone, with_ids, begins_as_archive, behind_header, IsFailing, PassesArchive}
 
 -- each member passes; and no loader reaches anything that takes the archive itself for a pickle, and was given nothing else
 pub record PassesAsArchive (list : List Allowed) (bytes : List ℕ) : Type 0 where
@@ -34,7 +34,7 @@ pub record HasTooManyWays (bytes : List ℕ) : Type 0 where
   pub entry : Entry
   pub after : List Entry
   pub is : entries ≡ before ++ entry ∷ after
-  pub ways : IsReach alone entry.content answer.TooMany ⊎ IsReach alone (behind_header entry.content) answer.TooMany
+  pub ways : IsReach with_ids entry.content answer.TooMany ⊎ IsReach with_ids (behind_header entry.content) answer.TooMany
 
 -- in an archive that passes no member fails, unless there are too many ways to read one
 abbrev pub NoneFails : Type 0

@@ -1,7 +1,7 @@
 -- Which members of an archive pass a list.
 -- Source: own. How an archive begins: APPNOTE 6.3.10, 4.3.7 (local file header) and 4.3.16 (end record). How an `.npy` file begins: numpy's
 -- lib/format.py, `read_magic` and `_read_array_header`; behind the header `read_array` reads raw numbers, or loads a pickle.
-use Rattle.std.specs.Prelude.{◌≡◌, ◌≢◌, ◌⊎◌, ◌≤◌, ℕ, ◌+◌, ◌-◌, ◌*◌, ◌==◌, ◌||◌, eqb, if◌then◌else◌, Bool, true, false, List, [], ◌∷◌, ◌++◌, length, drop, get_or, All, ⊤}
+use Rattle.std.specs.Prelude.{◌≡◌, ◌≢◌, ◌⊎◌, ◌≤◌, ℕ, ◌+◌, ◌-◌, ◌*◌, ◌==◌, ◌&&◌, ◌||◌, not, eqb, nat_le, if◌then◌else◌, Bool, true, false, List, [], ◌∷◌, ◌++◌, length, take, drop, get_or, All, ⊤}
 use Rattle.std.specs.List.{starts_with}
 use Rattle.pickle_doc.specs.Document.{size_limit}
 use Rattle.pickle_allow.specs.declared.list.Entry.{Entry as Allowed}
@@ -26,6 +26,10 @@ use Rattle.archive_gate.specs.declared.fault.Failing.{Failing}
 abbrev pub alone : Granted
 alone = record { extensions = false; persistent = false; buffers = false }
 
+-- what a loader was given that knows persistent ids, as torch's does, in a program that has no extension codes and gives it no buffers
+abbrev pub with_ids : Granted
+with_ids = record { extensions = false; persistent = true; buffers = false }
+
 -- the header of a member is at the front, or the end of an archive without members
 abbrev pub begins_as_archive : List ℕ → Bool
 begins_as_archive bytes = starts_with eqb bytes (80 ∷ 75 ∷ 3 ∷ 4 ∷ []) || starts_with eqb bytes (80 ∷ 75 ∷ 5 ∷ 6 ∷ [])
@@ -42,9 +46,30 @@ header_size bytes =
 abbrev pub behind_header : List ℕ → List ℕ
 behind_header bytes = drop (header_size bytes) bytes
 
--- the bytes are a pickle that passes, or no loader that begins at the first of them and was given nothing else reaches anything
+-- a newline, or no ASCII
+abbrev pub ends_ascii : ℕ → Bool
+ends_ascii byte = byte == 10 || nat_le 128 byte
+
+-- a line, or what is left of one, has no byte but ASCII
+unfoldable pub line_is_ascii : List ℕ → Bool
+line_is_ascii [] = true
+line_is_ascii (byte ∷ rest) = if ends_ascii byte then byte == 10 else line_is_ascii rest
+
+abbrev pub without_last : List ℕ → List ℕ
+without_last bytes = take (length bytes - 1) bytes
+
+-- each loader raises at the first opcode: it is BINPERSID, which takes an object, and there is none; or PERSID, and its line is not ASCII
+-- (Lib/pickle.py and Modules/_pickle.c, `load_binpersid`, `load_persid`). Of a line that the bytes end the unpickler in Python drops the last byte
+abbrev pub raises_first : List ℕ → Bool
+raises_first bytes = starts_with eqb bytes (81 ∷ []) || (starts_with eqb bytes (80 ∷ []) && not (line_is_ascii (without_last (drop 1 bytes))))
+
+-- no loader that begins at the first of the bytes, and knows persistent ids, reaches anything
+abbrev pub GivesNothing : List ℕ → Type 0
+GivesNothing bytes = (raises_first bytes ≡ true) ⊎ NothingFrom with_ids bytes first_spot
+
+-- the bytes are a pickle that passes, or give nothing
 abbrev pub Gives : List Allowed → List ℕ → Type 0
-Gives list bytes = Passes list bytes ⊎ NothingFrom alone bytes first_spot
+Gives list bytes = Passes list bytes ⊎ GivesNothing bytes
 
 abbrev pub is_stored : Entry → Bool
 is_stored e = (member_of e).method == 0
@@ -73,8 +98,9 @@ pub record IsRefusal (list : List Allowed) (bytes : List ℕ) (v : Verdict) : Ty
 -- the gate says this of the bytes, which do not pass, and a loader may reach something in them
 pub record IsRefusedAs (list : List Allowed) (bytes : List ℕ) (v : Verdict) : Type 0 where
   pub refusal : IsRefusal list bytes v
+  pub goes : raises_first bytes ≡ false
   pub found : Reach
-  pub reach : IsReach alone bytes found
+  pub reach : IsReach with_ids bytes found
   pub reaches : (offset : ℕ) (settled : Bool) → found ≢ answer.Nothing offset settled
 
 -- of bytes that need no unpacking

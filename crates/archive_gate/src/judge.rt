@@ -2,11 +2,11 @@
 
 ghost use Rattle.std.specs.Prelude.{◌≡◌, ◌≤◌, true, length, IfOk, MatchOption};
 ghost use Rattle.pickle_doc.specs.Document.{size_limit};
-ghost use Rattle.archive_gate.specs.Members.{alone, begins_as_array, behind_header, is_stored, Gives, BytesPass, MemberPasses, IsRefusal, IsRefusedAs, BytesFail, HasFault};
+ghost use Rattle.archive_gate.specs.Members.{with_ids, raises_first, begins_as_array, behind_header, is_stored, Gives, BytesPass, MemberPasses, IsRefusal, IsRefusedAs, BytesFail, HasFault};
 ghost use Rattle.pickle_gate.specs.Gate.{Passes};
 ghost use Rattle.zip_archive.specs.Reader.{member_of};
 
-use crate::begins::{begins_as_archive, begins_as_array, behind_header};
+use crate::begins::{begins_as_archive, begins_as_array, behind_header, raises_first};
 use crate::fault::Fault;
 use pickle_allow::Entry;
 use pickle_gate::{Verdict, gate};
@@ -14,13 +14,13 @@ use pickle_reach::{Granted, Reach, first_reach};
 use std::alloc::{AllocError, Global};
 use zip_archive::EntryRef;
 
-/// What a loader was given that has nothing but bytes.
-fn alone() -> Granted
-    ensures { result ≡ alone }
+/// What a loader was given that knows persistent ids, as torch's does.
+fn with_ids() -> Granted
+    ensures { result ≡ with_ids }
 {
     Granted {
         extensions: false,
-        persistent: false,
+        persistent: true,
         buffers: false,
     }
 }
@@ -37,7 +37,10 @@ fn refused(alloc: Global, list: &[Entry<'_>], bytes: &[u8]) -> Result<Option<Ver
     requires { length bytes.now ≤ size_limit }
     ensures { IfOk result (λ o. MatchOption o (Gives list.now bytes.now) (λ v. IsRefusedAs list.now bytes.now v)) }
 {
-    match first_reach(alloc, alone(), bytes)? {
+    if raises_first(bytes) {
+        return Ok(None);
+    }
+    match first_reach(alloc, with_ids(), bytes)? {
         Reach::Nothing(_, _) => Ok(None),
         Reach::At(_, _) => refused_by_gate(alloc, list, bytes),
         Reach::TooMany => refused_by_gate(alloc, list, bytes),
