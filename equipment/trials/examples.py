@@ -15,7 +15,7 @@ from .trial import Trial
 
 COMMAND = "    $ "
 MARGIN = "    "
-COMMANDS = ("README.md", "docs/PICKLES.md", "docs/PROMISE.md", "docs/LOOK.md", "docs/LOADERS.md", "docs/ARCHIVES.md")
+COMMANDS = ("README.md", "docs/PICKLES.md", "docs/PROMISE.md", "docs/LOOK.md", "docs/LOADERS.md", "docs/ARCHIVES.md", "docs/howto/*.md")
 PAGES = ("docs/USING.md", "docs/DEBUG.md", "equipment/conversations.txt", "equipment/texts.txt", "equipment/calls.txt")
 BLOCK = re.compile(r"^ *(?:(?:pickles?|unframed)(?: [0-9a-f ]+)?|\$ echo '[0-9a-f ]+' \| xxd -r -p >a\.pickle)$", re.MULTILINE)
 
@@ -47,10 +47,11 @@ class Commands:
 
     @functools.cached_property
     def folder(self) -> Path:
-        folder = self.room.folder / f"commands of {Path(self.page).name}"
+        folder = self.room.folder / f"commands of {self.page.replace('/', ' ')}"
         folder.mkdir(parents=True)
         (folder / "picklestep").symlink_to(self.room.start)
-        (folder / "crates").symlink_to(self.room.root / "crates")
+        for name in ("crates", "python"):
+            (folder / name).symlink_to(self.room.root / name)
         return folder
 
     def fault(self, number: int) -> str:
@@ -68,7 +69,8 @@ class Commands:
 
 def of_commands(room: Room) -> list[Trial]:
     trials = []
-    for page in COMMANDS:
+    pages = [str(page.relative_to(room.root)) for pattern in COMMANDS for page in sorted(room.root.glob(pattern))]
+    for page in pages:
         commands = Commands(room, page)
         trials += [Trial(f"the example '{command}' of {page}", functools.partial(commands.fault, number))
                    for number, (command, _) in enumerate(commands.examples)]

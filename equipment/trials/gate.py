@@ -10,6 +10,7 @@ from dataclasses import dataclass
 from .members import NO_END, zipped
 from .room import Room, run
 from .row import CLOSED, FULL, LITTLE_MEMORY, MISSING, Row, fails, trials_of
+from .samples import NOT_ALLOWED, SEVERAL
 from .trial import Trial
 
 PASSES = "passes\n"
@@ -19,6 +20,21 @@ ORDERED = b"\x80\x02ccollections\nOrderedDict\nq\x00)Rq\x01X\x01\x00\x00\x00aq\x
 ORDERED_ON_STACK = b"\x80\x04\x95)\x00\x00\x00\x00\x00\x00\x00\x8c\x0bcollections\x94\x8c\x0bOrderedDict\x94\x93\x94)R\x94\x8c\x01a\x94K\x01s."
 # An object that is made by `__new__` and given a state.
 WITH_STATE = b"\x80\x02cm\nC\nq\x00)\x81q\x01}q\x02X\x01\x00\x00\x00aq\x03K\x01sb."
+# Such an object in the midst of a pickle, which gets an attribute that an unpickler looks up, and then what makes it do so.
+OBJECT = b"\x80\x02cm\nC\nq\x00)\x81q\x01"
+COMMAND = b"cposix\nsystem\nq\x04"
+SLOT_TWICE = OBJECT + b"N}q\x02X\x0c\x00\x00\x00__setstate__q\x03" + COMMAND + b"s\x86q\x05bX\x02\x00\x00\x00idq\x06b."
+STATE_TWICE = OBJECT + b"}q\x02X\x0c\x00\x00\x00__setstate__q\x03" + COMMAND + b"sbX\x02\x00\x00\x00idq\x05b."
+CLASS_TWICE = OBJECT + b"N}q\x02X\x09\x00\x00\x00__class__q\x03" + COMMAND + b"s\x86q\x05bX\x02\x00\x00\x00idq\x06b."
+ITEM_BEHIND = OBJECT + b"}q\x02X\x06\x00\x00\x00appendq\x03" + COMMAND + b"sbX\x02\x00\x00\x00idq\x05a."
+ITEMS_BEHIND = OBJECT + b"}q\x02X\x06\x00\x00\x00extendq\x03" + COMMAND + b"sb(X\x02\x00\x00\x00idq\x05X\x02\x00\x00\x00lsq\x06e."
+NEW_BEHIND = OBJECT + b"}q\x02X\x07\x00\x00\x00__new__q\x03" + COMMAND + b"sb)\x81q\x05."
+# An object with an item and a state; and three objects of one class, of which one is in the state of another.
+ITEM_BEFORE = OBJECT + b"K\x01a}q\x02X\x01\x00\x00\x00aq\x03K\x01sb."
+STATES = OBJECT + b"}q\x02X\x01\x00\x00\x00aq\x03h\x00)\x81q\x04}q\x05h\x03h\x00)\x81q\x06}q\x07h\x03K\x01sbsbsb."
+# What `functools.partial` makes gets a state and is called, as picklers of protocol 2 do it for a class whose arguments have names.
+CALLED_BEHIND = b"\x80\x02cm\nP\nq\x00)Rq\x01(K\x01K\x02K\x03tq\x02b)Rq\x03."
+ANY_STATE = b"m.C: new made-new made-state made-fill\nposix.system:\n"
 # `bytes` in protocol 2: a call with a text and the name of an encoding.
 ENCODED = pickle.dumps(b"abc", 2)
 # In Python 2 `reduce` was in `__builtin__`.
@@ -83,6 +99,16 @@ CASES = (
     Case("a call allows __new__ too", b"m.C: call made-state\n", WITH_STATE, PASSES),
     Case("__new__ that is not allowed", b"m.C: state made-state\n", WITH_STATE, NEW),
     Case("a state that is not allowed", b"m.C: new state made-fill\n", WITH_STATE, STATE),
+    Case("a second state of an object with slots", ANY_STATE, SLOT_TWICE, "66: not allowed: state 'id' to #2\n"),
+    Case("a second state", ANY_STATE, STATE_TWICE, "62: not allowed: state 'id' to #2\n"),
+    Case("a second state of an object that changed its class", ANY_STATE, CLASS_TWICE, "63: not allowed: state 'id' to #2\n"),
+    Case("an item behind a state", ANY_STATE, ITEM_BEHIND, "56: not allowed: append 1 to #2\n"),
+    Case("items behind a state", ANY_STATE, ITEMS_BEHIND, "66: not allowed: append 2 to #2\n"),
+    Case("a new instance of what has its state", ANY_STATE, NEW_BEHIND, "49: not allowed: new #2 () as #7\n"),
+    Case("the same by a list without words", b"**", STATE_TWICE, "62: not allowed: state 'id' to #2\n"),
+    Case("an item before a state", ANY_STATE, ITEM_BEFORE, PASSES),
+    Case("states of three objects of one class", ANY_STATE, STATES, PASSES),
+    Case("a call of what has its state", b"m.P: call made-call made-state\n", CALLED_BEHIND, PASSES),
     Case("a name of Python 3", b"functools.reduce:\n", RENAMED, PASSES),
     Case("a name of Python 2", b"__builtin__.reduce:\n", RENAMED, "2: not allowed: import 'functools' 'reduce' for '__builtin__' 'reduce' as #0\n"),
     Case("a persistent id", b"persistent\n", PERSISTENT, PASSES),
@@ -124,6 +150,12 @@ CASES = (
     Case("an archive in an archive", b"**", zipped(("a.zip", zipped(("a.pkl", b"N.")))), "'a.zip': an archive itself: it is not looked at\n"),
     Case("an archive without members in an archive", b"**", zipped(("a.zip", zipped())), "'a.zip': an archive itself: it is not looked at\n"),
     Case("arrays of numbers", b"", zipped(("a.npy", ARRAY + bytes(16)), ("b.npy", WIDE_ARRAY + bytes(16))), PASSES),
+    Case("a command behind a persistent id", b"persistent\n", zipped(("a.pkl", PERSISTENT[:-1] + SYSTEM)), "'a.pkl': 11: not allowed: import 'posix' 'system' as #2\n"),
+    Case("a persistent id in a member", b"", zipped(("a.pkl", PERSISTENT)), "'a.pkl': 10: not allowed: persistent 'a' as #1\n"),
+    Case("numbers that begin as a persistent id of nothing", b"", zipped(("data/0", b"Q" + SYSTEM)), PASSES),
+    Case("numbers that begin as a persistent id that is not ASCII", b"", zipped(("data/0", b"Pa\xff\n" + SYSTEM)), PASSES),
+    Case("one that the file ends", b"", zipped(("data/0", b"Pab\xff")), "'data/0': not in form: item 0 at 0: no opcode can be read\n"),
+    Case("one that is ASCII", b"persistent\n", zipped(("data/0", b"Pa\n" + SYSTEM)), "'data/0': 3: not allowed: import 'posix' 'system' as #1\n"),
     Case("an array of objects", b"", zipped(("a.npy", ARRAY + SYSTEM)), "'a.npy': behind its header: 0: not allowed: import 'posix' 'system' as #0\n"),
     Case("one of the second version", b"", zipped(("a.npy", WIDE_ARRAY + SYSTEM)), "'a.npy': behind its header: 0: not allowed: import 'posix' 'system' as #0\n"),
     Case("one that the list allows", b"collections.OrderedDict", zipped(("a.npy", ARRAY + ORDERED)), PASSES),
@@ -135,9 +167,21 @@ CASES = (
     Case("two lines that are no entries, and no pickle", b"a.b\n1.b\n:\n", b"", "not a list: line 2 is no entry\n"),
 )
 
+# A file with a name of two lines comes behind the files of the row.
+TWO_LINES = r'''name=$'a: passes\n\'b'; printf N. >"$name"; "$@" "$name"'''
+
 ROWS = (
     Row("a list through a pipe", ("gate", "/dev/stdin"), output=PASSES, through='printf "a.b: call" | "$@" <(printf N.)'),
     Row("a pickle through a pipe", ("gate", "empty.pickle", "/dev/stdin"), output=PASSES, through='printf N. | "$@"'),
+    Row("several files, each of which passes", ("gate", "names.list", "none.pickle", "two.zip", "none.pickle"), output="'none.pickle': passes\n'two.zip': passes\n'none.pickle': passes\n"),
+    Row("several files, of which the first does not pass", ("gate", "names.list", "hostile.pickle", "none.pickle"), status=1, output=f"'hostile.pickle': {NOT_ALLOWED}'none.pickle': passes\n"),
+    Row("several files, of which the last does not pass", ("gate", "names.list", "none.pickle", "hostile.pickle"), status=1, output=SEVERAL),
+    Row("several files, one with a name like an option", ("gate", "names.list", "none.pickle", "--", "-none"), output="'none.pickle': passes\n'-none': passes\n", through='printf N. >./-none; "$@"'),
+    Row("several files, one with a name of two lines", ("gate", "names.list", "none.pickle"), output="'none.pickle': passes\n'a: passes\\x0a\\'b': passes\n", through=TWO_LINES),
+    Row("several files, and a list with a line that is no entry", ("gate", "pair.pickle", "none.pickle", "missing.pickle"), status=2, output="not a list: line 1 is no entry\n", is_bare=True),
+    Row("several files, of which one is not there", ("gate", "names.list", "none.pickle", "missing.pickle", "none.pickle"), status=2, output="'none.pickle': passes\n", errors=f"picklestep: cannot read\npicklestep: cannot read missing.pickle: {MISSING}\n"),
+    fails("several files, and no such list", "cannot read", "gate", "missing.list", "none.pickle", "none.pickle", unread=f"missing.list: {MISSING}"),
+    fails("several files, on a full device", "cannot write", "gate", "names.list", "none.pickle", "none.pickle", through=FULL),
     fails("no such list", "cannot read", "gate", "missing.list", "pair.pickle", unread=f"missing.list: {MISSING}"),
     fails("a list, and no such pickle", "cannot read", "gate", "empty.pickle", "missing.pickle", unread=f"missing.pickle: {MISSING}"),
     fails("a list past the size limit, with little memory", "too large", "gate", "too_large.pickle", "pair.pickle", through=LITTLE_MEMORY),

@@ -14,7 +14,7 @@ from dataclasses import dataclass, field
 from pathlib import Path
 
 from .room import Room, Run, Word, beginning
-from .samples import HOSTILE_CALLS, MEMBERS, NOT_ALLOWED, PAIR_LISTING, PAIR_OBJECTS, REACHED, TWICE_OBJECTS
+from .samples import HOSTILE_CALLS, MEMBERS, NOT_ALLOWED, PAIR_LISTING, PAIR_OBJECTS, REACHED, SEVERAL, TWICE_OBJECTS
 from .trial import Noted, Trial
 
 LIBRARY = "refuse_memory"
@@ -57,6 +57,7 @@ COMMANDS = (
     Command("the objects of two pickles", ("objects", "--many", "twice.pickle"), TWICE_OBJECTS, is_nothing),
     Command("what a list does not allow", ("gate", "names.list", "hostile.pickle"), NOT_ALLOWED, is_nothing, status=1),
     Command("what a list says of an archive", ("gate", "names.list", "two.zip"), "passes\n", is_nothing),
+    Command("what a list says of several files", ("gate", "names.list", "none.pickle", "hostile.pickle"), SEVERAL, is_part, status=1),
     Command("what is reached", ("reach", "hostile.pickle"), REACHED, is_nothing, status=1),
     Command("the members of an archive", ("members", "two.zip"), MEMBERS, is_nothing),
     Command(

@@ -28,6 +28,8 @@ HOSTILE_CALLS = """\
 """
 # What is said of it by names.list.
 NOT_ALLOWED = "23: not allowed: call 'posix' 'system' ('id') as #3\n"
+# What is said by names.list of none.pickle and then of it.
+SEVERAL = f"'none.pickle': passes\n'hostile.pickle': {NOT_ALLOWED}"
 REACHED = "reached at 0: GLOBAL 'posix' 'system'\n"
 # Of two.zip. (A header has 30 bytes, and a name here 5.)
 MEMBERS = "35: 2 stored 'a.pkl'\n72: 3 stored 'b.pkl'\n"

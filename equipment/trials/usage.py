@@ -14,7 +14,7 @@ from .trial import Trial
 OF_ONE_FILE = ("list", "objects", "calls", "debug", "form")
 TASKS = (*OF_ONE_FILE, "gate", "reach", "members")
 ANY_TASK = "<COMMAND>"
-GATE = "gate <LIST> <FILE>"
+GATE = "gate <LIST> <FILE>..."
 MEMBERS = "members <FILE>"
 MISSING = "the following required arguments were not provided:"
 FILE_MISSING = f"{MISSING}\n  <FILE>"
@@ -47,10 +47,9 @@ WORDS = (
         if task not in ("gate", "members")
     ),
     misused("members with two files", "members", "pair.pickle", "none.pickle", why="unexpected argument 'none.pickle' found", usage=MEMBERS),
-    misused("a gate without a file", "gate", why=f"{MISSING}\n  <LIST>\n  <FILE>", usage=GATE),
-    misused("a gate with a list alone", "gate", "names.list", why=FILE_MISSING, usage=GATE),
-    misused("a gate with two pickles", "gate", "names.list", "pair.pickle", "none.pickle", why="unexpected argument 'none.pickle' found", usage=GATE),
-    unexpected("several pickles at a gate", "--many", GATE, "gate", "names.list", "pair.pickle", "--many"),
+    misused("a gate without a file", "gate", why=f"{MISSING}\n  <LIST>\n  <FILE>...", usage=GATE),
+    misused("a gate with a list alone", "gate", "names.list", why=f"{FILE_MISSING}...", usage=GATE),
+    unexpected("several pickles of a file at a gate", "--many", GATE, "gate", "names.list", "pair.pickle", "--many"),
     unexpected("several pickles for members", "--many", MEMBERS, "members", "pair.pickle", "--many"),
     unexpected("an unknown option of list", "--fast", "list [OPTIONS] <FILE>", "list", "--fast", "pair.pickle"),
     unexpected("an unknown option of list after its file", "--fast", "list <FILE>", "list", "pair.pickle", "--fast"),
@@ -124,7 +123,7 @@ WHAT_EACH_DOES = (
 GATE_DOES = ("gate", "Says whether all that the pickle in FILE imports and uses is in LIST, else what is not")
 REACH_DOES = ("reach", "Says whether any loader of FILE comes to an import or a call, whatever FILE is")
 MEMBERS_DOES = ("members", "Prints the members of FILE, if it is a zip archive in the form that writers write, else where it is not and why")
-GATE_FILES = (("<LIST>", "the list of names, and of what may be done with each"), ("<FILE>", "the pickle"))
+GATE_FILES = (("<LIST>", "the list of names, and of what may be done with each"), ("<FILE>...", "a pickle or a zip archive, or several"))
 OPTIONS = {
     "list": (("    --many", MANY_HELP), ("    --unframed", UNFRAMED_HELP)),
     "objects": (("    --many", MANY_HELP), ("    --unframed", UNFRAMED_HELP)),

@@ -15,6 +15,7 @@ import sys
 from dataclasses import dataclass
 from typing import Iterator, List, Optional, Tuple
 
+from .entrance import explains
 from .errors import PicklestepError, reason
 from .hints import Watch
 from .opens import has_zip_behind, is_archive, is_taken_apart, may_have_arrays
@@ -31,6 +32,9 @@ _SIGNALS = ('SIGINT', 'SIGTERM', 'SIGHUP')  # (Windows has not all of them)
 
 def main(words: List[str]) -> int:
     """Does what the words say, of which the first is the program's, and answers the status."""
+    if explains(words):
+        from .scan.explaining import main as explain
+        return explain(words[1:])
     with contextlib.ExitStack() as held:
         try:
             given = _given(words, held)

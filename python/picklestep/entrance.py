@@ -11,7 +11,7 @@ import io
 import os
 import sys
 
-__all__ = ['main', 'run', 'run_scan']
+__all__ = ['explains', 'main', 'run', 'run_scan']
 
 _HERE = os.path.dirname(os.path.realpath(__file__))
 # Each word of the program has a page here, by which it is known.
@@ -109,8 +109,21 @@ def _is_told_more(words: 'list[str]') -> bool:
     address or a container (help/start.sh asks the same)."""
     if words[0] == 'calls' or '--' in words:  # (behind that a file may have a name like an option)
         return True
+    if explains(words):
+        return True
     from .opens import holds_others
-    return any(not os.access(word, os.R_OK) or os.path.isdir(word) or holds_others(word) for word in words[1:] if not word.startswith('-'))
+    opens = words[0] != 'gate' or len(words) <= 3  # (LIST and FILE: among several files none is opened)
+    return any(not os.access(word, os.R_OK) or os.path.isdir(word) or opens and holds_others(word) for word in words[1:] if not word.startswith('-'))
+
+
+def explains(words: 'list[str]') -> bool:
+    """Whether `gate` is asked which lines of lists have a name, which this package says.
+
+    >>> explains(['gate', '--explain', 'a.b']), explains(['gate', '--explain=a.b', 'c']), explains(['gate', 'c', '--', '--explain'])
+    (True, True, False)
+    """
+    options = words[:words.index('--')] if '--' in words else words
+    return words[0] == 'gate' and any(word.partition('=')[0] == '--explain' for word in options)
 
 
 def _hand_over(words: 'list[str]') -> int:

@@ -9,6 +9,8 @@ import random
 import re
 import stat
 import struct
+import subprocess
+import sys
 import unittest
 import unittest.mock
 from pathlib import Path
@@ -19,7 +21,7 @@ from picklestep.scan import Judge, look_at_bytes, written
 from picklestep.scan.allow import read_names
 from picklestep.scan.entries import refused_line
 from picklestep.scan.names import Names, NoList, read_comment, read_line
-from scan_support import HARMLESS, HOSTILE, ScanCase, looks_in
+from scan_support import HARMLESS, HOSTILE, ScanCase, environment, looks_in
 
 NUMPY = b'\x80\x02cnumpy\nndarray\n.'
 # What is no line of a list, each with a word that the message has.
@@ -350,6 +352,49 @@ class Written(ScanCase):
         Path(path).write_bytes(self.OURS + b'numpy.**\n')
         written.write_list(str(path), used)
         self.assertTrue(path.read_bytes().startswith(self.OURS + b'numpy.**\n# Unused on '))
+
+
+class Explained(ScanCase):
+    """Which lines have a name: `gate --explain`."""
+
+    OURS = b"# Our own.\ncollections.Order*: call  # sorted\ninclude theirs\ncollections.deque\nexample.**.Job:\n"
+
+    def setUp(self) -> None:
+        super().setUp()
+        self.file('ours', self.OURS)
+        self.file('theirs', b'collections.OrderedDict: call made-fill\next 300\npersistent\n')
+
+    def gate(self, *words: str) -> Tuple[int, str]:
+        run = subprocess.run([sys.executable, '-m', 'picklestep', 'gate', *words], cwd=self.folder, env=environment(), timeout=600, capture_output=True, text=True)
+        return run.returncode, run.stdout
+
+    def explain(self, *words: str) -> Tuple[int, str]:
+        return self.gate('--explain', *words)
+
+    def test_each_line_that_has_the_name(self) -> None:
+        status, output = self.explain('collections.OrderedDict', 'ours')
+        self.assertEqual(output.splitlines()[:2], ['ours, line 2: collections.Order*: call  # sorted', 'theirs, line 1: collections.OrderedDict: call made-fill'])
+        self.assertTrue(all(line.startswith('the set ') for line in output.splitlines()[2:]), output)
+        self.assertIn('the set plain, ', output)
+        self.assertEqual(status, 0)
+
+    def test_a_name_that_no_list_has(self) -> None:
+        self.assertEqual(self.explain('example.Jobs', 'ours', 'numpy'), (1, 'no line of these lists has example.Jobs\n'))
+        self.assertEqual(self.explain('example.Jobs'), (1, 'no line of a set has example.Jobs\n'))
+
+    def test_a_set_that_is_given(self) -> None:
+        status, output = self.gate('--explain', 'numpy.ndarray', 'numpy')
+        self.assertRegex(output, r'\Anumpy, line [0-9]+: numpy\.ndarray: .*\n\Z')
+        self.assertEqual(status, 0)
+
+    def test_what_is_no_import(self) -> None:
+        for name, line in (('ext 300', 2), ('persistent', 3)):
+            self.assertEqual(self.explain(name, 'ours'), (0, f'theirs, line {line}: {name}\n'))
+        self.assertEqual(self.explain('ext 3', 'ours'), (1, 'no line of these lists has ext 3\n'))
+
+    def test_words_that_are_wrong(self) -> None:
+        for words in ((), ('os',), ('a.b', 'none'), ('a.b', '--many')):
+            self.assertEqual(self.explain(*words), (2, ''))
 
 
 if __name__ == '__main__':

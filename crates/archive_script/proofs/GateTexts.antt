@@ -19,7 +19,7 @@ use Rattle.archive_gate.specs.declared.fault.Failing.{Failing}
 use Rattle.archive_gate.specs.Members.{begins_as_archive, AreSmall, IsFailing}
 use Rattle.archive_script.specs.MembersText.{refusal_output}
 use Rattle.archive_script.specs.declared.judged.Judged.{Judged}
-use Rattle.archive_script.specs.GateText.{judged_output, IsLineIn, fault_output, IsMembersVerdict, IsArchiveText, IsFileText, no_list_line, IsListedText, IsGateText, Says, AnswersGate}
+use Rattle.archive_script.specs.GateText.{judged_output, IsLineIn, fault_output, IsMembersVerdict, IsArchiveText, IsFileText, IsNamedText, named_output, IsListedText, IsGateText, Says, AnswersGate}
 
 -- ---- an answer
 
@@ -107,6 +107,10 @@ pickle_is list bytes begins (Ok j) same is w =
     by_other (IsArchiveText list bytes (judged_output j)) (IsVerdictText list bytes (judged_output j)) begins (begins_as_archive bytes) (sym same) is w
 pickle_is list bytes begins (Err e) same is w = tt
 
+-- with its name in front
+pub named_is : (name : List ℕ) (list : List Allowed) (bytes : List ℕ) (o : Output) → IsFileText list bytes o → IsNamedText name list bytes (named_output name o)
+named_is name list bytes o is = (o, is, refl)
+
 -- ---- a list
 
 pub of_says : {S : Type 0} (list bytes : List ℕ) (told : S → Told) (a b : S) (answer : Result ℕ Stop) → length bytes ≤ size_limit → Says (IsGateText list bytes) (told a) (told b) answer
@@ -123,23 +127,6 @@ pub entries_answer : {S : Type 0} (list bytes : List ℕ) (l : Listing) (Is : Ou
     → IsListing list l → ((o : Output) → Is o → IsListedText l bytes o) → Says Is (told a) (told b) answer → AnswersGate list bytes told a b answer
 entries_answer list bytes l Is told a b answer few is same s =
     of_says list bytes told a b answer few (says_wider Is (IsGateText list bytes) (told a) (told b) answer (λ o w. (l, is, same o w)) s)
-
-abbrev wrong_output : ℕ → Output
-wrong_output n = record { text = no_list_line n; status = 2 }
-
-wrong_is : (list bytes : List ℕ) (n : ℕ) → IsListing list (listing.Wrong n) → IsGateText list bytes (wrong_output n)
-wrong_is list bytes n is = (listing.Wrong n, is, refl)
-
--- the line that is no entry
-pub wrong_wrote : {S : Type 0} (list bytes : List ℕ) (n : ℕ) (told : S → Told) (a b : S) → length bytes ≤ size_limit → IsListing list (listing.Wrong n)
-    → Wrote (told a) (told b) (no_list_line n) → AnswersGate list bytes told a b (Ok 2)
-wrong_wrote list bytes n told a b few is w =
-    of_says list bytes told a b (Ok 2) few (says_wrote (IsGateText list bytes) (wrong_output n) (told a) (told b) (wrong_is list bytes n is) w)
-
-pub wrong_broke : {S : Type 0} (list bytes : List ℕ) (n : ℕ) (told : S → Told) (a b : S) (answer : Result ℕ Stop) → length bytes ≤ size_limit → IsListing list (listing.Wrong n)
-    → IsErrAnd answer (λ e. e ≡ stop.Write) → Broke (told a) (told b) (no_list_line n) → AnswersGate list bytes told a b answer
-wrong_broke list bytes n told a b answer few is h w =
-    of_says list bytes told a b answer few (says_broke (IsGateText list bytes) (wrong_output n) (told a) (told b) answer h (wrong_is list bytes n is) w)
 
 -- without memory for the entries nothing was written
 pub no_memory : {S : Type 0} (list bytes : List ℕ) (told : S → Told) (a : S) (answer : Result ℕ Stop) → length bytes ≤ size_limit → IsErrAnd answer (λ e. e ≡ stop.Memory)

@@ -102,6 +102,13 @@ IsArchiveText list bytes o = IsUnlisted bytes o ⊎ ((es : List Entry) × IsZip 
 abbrev pub IsFileText : List Allowed → List ℕ → Output → Type 0
 IsFileText list bytes o = MatchBool (begins_as_archive bytes) (IsArchiveText list bytes o) (IsVerdictText list bytes o)
 
+-- with the name of the file in front
+abbrev pub named_output : List ℕ → Output → Output
+named_output name o = record { text = named name o.text; status = o.status }
+
+abbrev pub IsNamedText : List ℕ → List Allowed → List ℕ → Output → Type 0
+IsNamedText name list bytes o = (said : Output) × IsFileText list bytes said × (o ≡ named_output name said)
+
 -- ---- a list
 
 unfoldable pub no_list_words : List ℕ
@@ -114,10 +121,17 @@ no_entry_words = codes " is no entry"
 unfoldable pub no_list_line : ℕ → List ℕ
 no_list_line n = no_list_words ⧺ decimal n ⧺ no_entry_words ⧺ newline
 
--- by what a list is read as: where it is none nothing is said of the file, and the status is that of no answer
+-- it is none: nothing is said of a file, and the status is that of no answer
+abbrev pub no_list_output : ℕ → Output
+no_list_output n = record { text = no_list_line n; status = 2 }
+
+abbrev pub IsNoList : ℕ → Output → Type 0
+IsNoList n o = o ≡ no_list_output n
+
+-- by what a list is read as
 abbrev pub IsListedText : Listing → List ℕ → Output → Type 0
 IsListedText (listing.Entries list) bytes o = IsFileText list.items bytes o
-IsListedText (listing.Wrong n) bytes o = o ≡ record { text = no_list_line n; status = 2 }
+IsListedText (listing.Wrong n) bytes o = IsNoList n o
 
 -- of a list as it is written, and the bytes of a file
 abbrev pub IsGateText : List ℕ → List ℕ → Output → Type 0

@@ -1,4 +1,4 @@
--- The text of the members of a zip archive, or of why bytes are no archive in canonical form.
+-- The text of the members of a zip archive, or of why bytes are no archive in the form in which usual writers write.
 -- Source: own.
 use Rattle.std.specs.Prelude.{◌≡◌, ◌≢◌, ◌⊎◌, ℕ, ◌==◌, if◌then◌else◌, List, codes, decimal, length, Result, Err, IfOk, IfErr}
 use Rattle.pickle_io.specs.Text.{◌⧺◌, quoted}
@@ -38,7 +38,7 @@ members_output es = record { text = each member_line es; status = 0 }
 abbrev pub refusal_output : Refusal → Output
 refusal_output r = record { text = refusal_line r; status = 1 }
 
--- the bytes are an archive in canonical form with these members
+-- the bytes are an archive in that form with these members
 pub record IsListed (bytes : List ℕ) (o : Output) : Type 0 where
   pub members : List Entry
   pub archive : IsZip bytes members

@@ -4,7 +4,7 @@ ghost use Rattle.std.specs.Prelude.{◌≡◌, ◌≤◌, length};
 ghost use Rattle.pickle_io.specs.Device.{Writes};
 ghost use Rattle.pickle_doc.specs.Document.{size_limit};
 ghost use Rattle.pickle_script.specs.GateText.{verdict_text};
-ghost use Rattle.archive_script.specs.GateText.{packed_words, archive_words, behind_words, behind_text, named, fault_text, judged_text, judged_output, IsFileText, no_list_words, no_entry_words, no_list_line, Says, AnswersGate};
+ghost use Rattle.archive_script.specs.GateText.{packed_words, archive_words, behind_words, behind_text, named, fault_text, judged_text, judged_output, IsFileText, IsNamedText, no_list_words, no_entry_words, no_list_line, IsNoList, Says, AnswersGate};
 
 use crate::judged::Judged;
 use crate::judging::judge;
@@ -120,6 +120,33 @@ pub fn write_file<S: Page>(
     Ok(judged_status(&judged))
 }
 
+/// Writes what is said of a file, with its name in front.
+#[tactic(auto, using(pickle_io::proofs::Devices::text_steps), unfolding(crate::specs::GateText::named))]
+fn write_named<S: Page>(name: &[u8], judged: &Judged<'_>, page: &mut S) -> Result<(), Failed>
+    ensures { Writes (S.told page.old) (S.told page.new) result (named name.now (judged_text judged.now)) }
+{
+    write_quoted(name, page)?;
+    write_all(page, b": ")?;
+    write_judged(judged, page)
+}
+
+/// Writes the same as `write_file` with this name of the file in front, and answers the same status. There are to be no more bytes than the limit.
+/// The stops are those of `write_file`.
+pub fn write_named_file<S: Page>(
+    alloc: Global,
+    list: &[Entry<'_>],
+    name: &[u8],
+    bytes: &[u8],
+    page: &mut S,
+) -> Result<u8, Stop>
+    requires { length bytes.now ≤ size_limit }
+    ensures { Says (IsNamedText name.now list.now bytes.now) (S.told page.old) (S.told page.new) result }
+{
+    let judged = judge(alloc, list, bytes)?;
+    write_named(name, &judged, page)?;
+    Ok(judged_status(&judged))
+}
+
 /// Words of a line.
 #[tactic(auto, unfolding(crate::specs::GateText::no_list_words))]
 fn no_list_words() -> &'static str
@@ -147,6 +174,15 @@ fn write_no_list<S: Page>(line: usize, page: &mut S) -> Result<(), Failed>
     write_all(page, b"\n")
 }
 
+/// Writes that a line of a list is no entry, and answers the status of no answer. `Stop::Write` where the sink fails: what was written then is a
+/// beginning of the text.
+pub fn refuse_list<S: Page>(line: usize, page: &mut S) -> Result<u8, Stop>
+    ensures { Says (IsNoList line) (S.told page.old) (S.told page.new) result }
+{
+    write_no_list(line, page)?;
+    Ok(NO_ANSWER)
+}
+
 /// Writes whether the file that the bytes are passes by this list, as `write_file` does. Answers the status: 0 where it passes, 1 where it does not,
 /// and 2 where a line of the list is no entry: nothing is said of the file then.
 ///
@@ -165,9 +201,6 @@ pub fn write_gate<S: Page>(
     }
     match read_list(alloc, list)? {
         Listing::Entries(entries) => write_file(alloc, entries.as_slice(), bytes, page),
-        Listing::Wrong(line) => {
-            write_no_list(line, page)?;
-            Ok(NO_ANSWER)
-        }
+        Listing::Wrong(line) => refuse_list(line, page),
     }
 }

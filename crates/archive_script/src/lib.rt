@@ -7,7 +7,7 @@ mod judging;
 mod laws;
 mod members;
 
-pub use gate::{write_file, write_gate};
+pub use gate::{refuse_list, write_file, write_gate, write_named_file};
 pub use judged::Judged;
 pub use judging::judge;
 pub use laws::{zero_means_passing, zero_where_file_passes};

@@ -82,7 +82,7 @@ pub(crate) fn write_refusal<S: Page>(refusal: Refusal, page: &mut S) -> Result<(
     write_all(page, b"\n")
 }
 
-/// Writes the members of the zip archive in canonical form that the bytes are, a line for each, or the first rule that they break. Answers
+/// Writes the members of the zip archive in writers' form that the bytes are, a line for each, or the first rule that they break. Answers
 /// the status: 0 where they are one, else 1. No member is unpacked.
 ///
 /// `Stop::Memory` where there is no room for the list of members: nothing was written then. `Stop::Write` where the sink fails: what was

@@ -77,7 +77,7 @@ pub next_words : (Read : List ℕ → List ℕ → Type 0) (given words words' r
 next_words Read given words words' rest rest' so adds out s =
     subst (λ (t : List (List ℕ)). StandFor Read given t) (sym (append_assoc words adds.added out) ∙ ap (λ (t : List (List ℕ)). t ++ out) (sym adds.new_is)) (so (adds.added ++ out) (adds.stand out s))
 
-words_at : {X : Type 0} (text : X → List ℕ) (given : List X) (i : ℕ) (x : X) (word : List ℕ) → i < length given → x ≡ get_or given i x → word ≡ text x
+pub words_at : {X : Type 0} (text : X → List ℕ) (given : List X) (i : ℕ) (x : X) (word : List ℕ) → i < length given → x ≡ get_or given i x → word ≡ text x
     → map text (drop i given) ≡ word ∷ map text (drop (i + 1) given)
 words_at text given i x word within at is =
     ap (map text) (drop_more given i x within) ∙ ap (λ (w : List ℕ). w ∷ map text (drop (i + 1) given)) (ap text (sym at) ∙ sym is)

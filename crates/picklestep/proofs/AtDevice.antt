@@ -1,12 +1,12 @@
 -- From what a page took to what its device did.
-use Rattle.std.proofs.Common.{◌≡◌, ◌≢◌, ◌⊎◌, inl, inr, ℕ, ◌+◌, ◌<◌, ◌≤◌, Bool, true, List, [], ◌∷◌, ◌++◌, length, Option, None, Some, Result, Ok, Err, refl, sym, ap, subst, ◌∙◌, append_assoc, append-nil, arith}
+use Rattle.std.proofs.Common.{◌≡◌, ◌≢◌, ◌⊎◌, inl, inr, ℕ, ◌+◌, ◌<◌, ◌≤◌, Bool, true, false, List, [], ◌∷◌, ◌++◌, length, Option, None, Some, Result, Ok, Err, refl, sym, ap, subst, ◌∙◌, append_assoc, append-nil, arith}
 use Rattle.std.specs.Prelude.{MatchResult, IsErr, IsErrAnd, IfErr}
 use Rattle.std.specs.List.{concat}
 use Rattle.pickle_io.specs.Device.{Told, holding, AppendsPrefix, HasFailed, Wrote, Broke, WroteAllBut}
 use Rattle.pickle_io.specs.Whole.{IsWhole}
 use Rattle.pickle_io.proofs.Devices.{Wrote-trans, Broke-after, WroteAllBut-none, WroteAllBut-stopped}
 use Rattle.pickle_io.proofs.Holding.{Broke-below, nothing-held}
-use Rattle.pickle_doc.specs.Document.{size_limit}
+use Rattle.pickle_doc.specs.Document.{AreBytes, size_limit}
 use Rattle.pickle_show.specs.Output.{Output}
 use Rattle.pickle_show.specs.Listing.{listing}
 use Rattle.pickle_show.specs.Manner.{Manner, manner}
@@ -18,7 +18,10 @@ use Rattle.pickle_script.specs.declared.texts.written.Text.TheVariants as text
 use Rattle.pickle_script.specs.FormText.{form_output}
 use Rattle.pickle_script.specs.Output.{AnswersText, AnswersCalls, IsCallsOfFile, StopsText}
 use Rattle.pickle_script.specs.GateText.{StopsGate}
-use Rattle.archive_script.specs.GateText.{IsGateText, AnswersGate}
+use Rattle.pickle_allow.specs.declared.list.Entry.{Entry}
+use Rattle.archive_gate.specs.File.{PassesFile}
+use Rattle.archive_script.specs.GateText.{IsGateText, IsNamedText, Says, AnswersGate}
+use Rattle.archive_script.proofs.GateLaws.{zero_means_passing, zero_where_file_passes}
 use Rattle.archive_script.specs.MembersText.{IsMembersText, AnswersMembers}
 use Rattle.pickle_session.specs.Allowed.{SessionState}
 use Rattle.pickle_script.specs.Conversation.{AppendsBeyond, BrokeBeyond, BrokeSince, StopsReading, StopsWriting}
@@ -27,7 +30,7 @@ use Rattle.picklestep.specs.declared.task.CallsOptions.{CallsOptions}
 use Rattle.picklestep.specs.Files.{Gives, Reports, IsRead}
 use Rattle.picklestep.specs.Skips.{StandFor}
 use Rattle.picklestep.specs.Program.{AnswersWords, Answers}
-use Rattle.picklestep.specs.Gated.{TookGate}
+use Rattle.picklestep.specs.Gated.{PassesText, TookGate, TookNamed}
 use Rattle.picklestep.specs.Listed.{TookMembers}
 use Rattle.picklestep.specs.Device.{Took, TookText, NoneWithoutMemory, comes_last, nothing, IsTextOf, is_calls, AnswersInput}
 
@@ -74,6 +77,13 @@ said_calls told how pickles bytes old new (Err stop.Write) few p = inl p.stopped
 said_calls told how pickles bytes old new (Err stop.Memory) few p = inl p.stopped
 said_calls told how pickles bytes old new (Err stop.Read) few p = absurd p.stopped
 said_calls told how pickles bytes old new (Err stop.TooLarge) few p = too_large bytes few (p.too_large.0 refl)
+
+said : (Is : Output → Type 0) (old new : Told) (answer : Result ℕ Stop) → Says Is old new answer → TookText Is old new answer
+said Is old new (Ok status) p = let w = p.whole in inl (w.0, w.1, (w.2, w.3))
+said Is old new (Err stop.Write) p = inl p.stopped
+said Is old new (Err stop.Memory) p = inr (refl, wrote_nothing old new p.stopped)
+said Is old new (Err stop.Read) p = absurd p.stopped
+said Is old new (Err stop.TooLarge) p = absurd (p.fits refl)
 
 said_gate : {S : Type 0} (told : S → Told) (list bytes : List ℕ) (old new : S) (answer : Result ℕ Stop) → length bytes ≤ size_limit
     → AnswersGate list bytes told old new answer → TookText (IsGateText list bytes) (told old) (told new) answer
@@ -237,27 +247,72 @@ last_unwritten told t many loose bytes old mid new d e first held answer result 
     let still : told mid ≡ told old = unwritten told t many loose bytes old mid answer w last (sym (passed n) ∙ memory) in
     flushed_nothing told old mid new d e first held still (calm n) before after none (all n)
 
--- the text of the gate was written, and what the page held handed on
+-- a text was written that comes last, and what the page held handed on
+took_last : {S : Type 0} (told : S → Told) (Is : Output → Type 0) (old mid new : S) (d e : Told) (first held : List ℕ) (answer result : Result ℕ Stop)
+    → TookText Is (told old) (told mid) answer → (answer ≡ Err stop.Memory → told mid ≡ told old)
+    → (result ≢ Err stop.Write → result ≡ answer) → (result ≢ Err stop.Write → Wrote (told mid) (told new) []) → (answer ≡ Err stop.Write → new ≡ mid)
+    → (result ≡ Err stop.Write → answer ≢ Err stop.Write → Broke (told mid) (told new) [])
+    → told old ≡ holding d first → told new ≡ holding e held → (holding d first).held ≡ 0 → (result ≢ Err stop.Write → (holding e held).held ≡ 0)
+    → TookText Is d e result × NoneWithoutMemory d e result
+took_last told Is old mid new d e first held answer result w memory passed calm untouched failed before after none all =
+    let h : HandsOn (told mid) (told new) answer result = record { passed = passed; calm = calm; untouched = λ x. ap told (untouched x); failed = failed } in
+    let handed = text_handed Is (told old) (told mid) (told new) answer result w h in
+    let from : TookText Is (holding d first) (told new) result = subst (λ (x : Told). TookText Is x (told new) result) before handed in
+    let to : TookText Is (holding d first) (holding e held) result = subst (λ (x : Told). TookText Is (holding d first) x result) after from in
+    let last : NoneWithoutMemory d e result = λ out.
+    let n : result ≢ Err stop.Write = λ x. let c : err stop.Memory ≡ err stop.Write = sym out ∙ x in absurd cc in
+    flushed_nothing told old mid new d e first held (memory (sym (passed n) ∙ out)) (calm n) before after none (all n) in
+    (text_below Is d e first held result none all to, last)
+
+-- where the status is 0, it is that of the text
+pub zero_took : (P : Type 0) (Is : Output → Type 0) (old new : Told) (result : Result ℕ Stop) → ((o : Output) → Is o → o.status ≡ 0 → P) → TookText Is old new result → result ≡ Ok 0 → P
+zero_took P Is old new (Ok status) law (inl w) zero =
+    let is : status ≡ 0 = cc in
+    law w.0 w.1 (sym w.2.1 ∙ is)
+zero_took P Is old new (Ok status) law (inr w) zero = let bad : false ≡ true = w.0 in absurd cc
+zero_took P Is old new (Err e) law w zero = absurd cc
+
+-- the text of the gate
 pub gate_took : {S : Type 0} (told : S → Told) (list bytes : List ℕ) (old mid new : S) (d e : Told) (first held : List ℕ) (answer result : Result ℕ Stop)
-    → length bytes ≤ size_limit → AnswersGate list bytes told old mid answer
+    → AreBytes bytes → length bytes ≤ size_limit → AnswersGate list bytes told old mid answer
     → (result ≢ Err stop.Write → result ≡ answer) → (result ≢ Err stop.Write → Wrote (told mid) (told new) []) → (answer ≡ Err stop.Write → new ≡ mid)
     → (result ≡ Err stop.Write → answer ≢ Err stop.Write → Broke (told mid) (told new) [])
     → told old ≡ holding d first → told new ≡ holding e held → (holding d first).held ≡ 0 → (result ≢ Err stop.Write → (holding e held).held ≡ 0)
     → TookGate list bytes d e result
-gate_took told list bytes old mid new d e first held answer result few w passed calm untouched failed before after none all =
-    let h : HandsOn (told mid) (told new) answer result = record { passed = passed; calm = calm; untouched = λ e. ap told (untouched e); failed = failed } in
-    let said = text_handed (IsGateText list bytes) (told old) (told mid) (told new) answer result (said_gate told list bytes old mid answer few w) h in
-    let from : TookText (IsGateText list bytes) (holding d first) (told new) result = subst (λ (x : Told). TookText (IsGateText list bytes) x (told new) result) before said in
-    let to : TookText (IsGateText list bytes) (holding d first) (holding e held) result = subst (λ (x : Told). TookText (IsGateText list bytes) (holding d first) x result) after from in
+gate_took told list bytes old mid new d e first held answer result small few w passed calm untouched failed before after none all =
+    let t = took_last told (IsGateText list bytes) old mid new d e first held answer result (said_gate told list bytes old mid answer few w)
+    (λ m. subst (λ (r : Result ℕ Stop). IfErr r (StopsGate (IsGateText list bytes) (told old) (told mid))) m w.stopped)
+    passed calm untouched failed before after none all in
     record {
-      took = text_below (IsGateText list bytes) d e first held result none all to;
-      last = λ memory.
-          let n : result ≢ Err stop.Write = λ x. let c : err stop.Memory ≡ err stop.Write = sym memory ∙ x in absurd cc in
-          let still : told mid ≡ told old = subst (λ (r : Result ℕ Stop). IfErr r (StopsGate (IsGateText list bytes) (told old) (told mid))) (sym (passed n) ∙ memory) w.stopped in
-          flushed_nothing told old mid new d e first held still (calm n) before after none (all n);
+      took = t.0;
+      last = t.1;
+      passes = zero_took (PassesText list bytes) (IsGateText list bytes) d e result (λ o is zero. zero_means_passing list bytes o small few is zero) t.0;
     }
 
--- the text of the members was written, and what the page held handed on
+-- what is said once all is judged
+pub says_took : (Is : Output → Type 0) (old mid new d e : Told) (first held : List ℕ) (answer result : Result ℕ Stop) → Says Is old mid answer
+    → (result ≢ Err stop.Write → result ≡ answer) → (result ≢ Err stop.Write → Wrote mid new []) → (answer ≡ Err stop.Write → new ≡ mid)
+    → (result ≡ Err stop.Write → answer ≢ Err stop.Write → Broke mid new [])
+    → old ≡ holding d first → new ≡ holding e held → (holding d first).held ≡ 0 → (result ≢ Err stop.Write → (holding e held).held ≡ 0)
+    → TookText Is d e result × NoneWithoutMemory d e result
+says_took Is old mid new d e first held answer result w =
+    took_last (λ (x : Told). x) Is old mid new d e first held answer result (said Is old mid answer w)
+    (λ m. subst (λ (r : Result ℕ Stop). IfErr r (StopsGate Is old mid)) m w.stopped)
+
+named_zero : (list : List Entry) (name bytes : List ℕ) (o : Output) → AreBytes bytes → length bytes ≤ size_limit → IsNamedText name list bytes o → o.status ≡ 0 → PassesFile list bytes
+named_zero list name bytes o small few is zero =
+    (zero_where_file_passes list bytes is.0 small few is.1).passes (sym (ap (λ (x : Output). x.status) is.2) ∙ zero)
+
+-- the status of a file whose name stands in front is 0 only where it passes
+pub named_took : (list : List Entry) (name bytes : List ℕ) (d e : Told) (result : Result ℕ Stop) → AreBytes bytes → length bytes ≤ size_limit
+    → TookText (IsNamedText name list bytes) d e result × NoneWithoutMemory d e result → TookNamed list name bytes d e result
+named_took list name bytes d e result small few t = record {
+  took = t.0;
+  last = t.1;
+  passes = zero_took (PassesFile list bytes) (IsNamedText name list bytes) d e result (λ o is zero. named_zero list name bytes o small few is zero) t.0;
+}
+
+-- the text of the members
 pub members_took : {S : Type 0} (told : S → Told) (bytes : List ℕ) (old mid new : S) (d e : Told) (first held : List ℕ) (answer result : Result ℕ Stop)
     → AnswersMembers bytes told old mid answer
     → (result ≢ Err stop.Write → result ≡ answer) → (result ≢ Err stop.Write → Wrote (told mid) (told new) []) → (answer ≡ Err stop.Write → new ≡ mid)
@@ -265,17 +320,10 @@ pub members_took : {S : Type 0} (told : S → Told) (bytes : List ℕ) (old mid 
     → told old ≡ holding d first → told new ≡ holding e held → (holding d first).held ≡ 0 → (result ≢ Err stop.Write → (holding e held).held ≡ 0)
     → TookMembers bytes d e result
 members_took told bytes old mid new d e first held answer result w passed calm untouched failed before after none all =
-    let h : HandsOn (told mid) (told new) answer result = record { passed = passed; calm = calm; untouched = λ e. ap told (untouched e); failed = failed } in
-    let said = text_handed (IsMembersText bytes) (told old) (told mid) (told new) answer result (said_members told bytes old mid answer w) h in
-    let from : TookText (IsMembersText bytes) (holding d first) (told new) result = subst (λ (x : Told). TookText (IsMembersText bytes) x (told new) result) before said in
-    let to : TookText (IsMembersText bytes) (holding d first) (holding e held) result = subst (λ (x : Told). TookText (IsMembersText bytes) (holding d first) x result) after from in
-    record {
-      took = text_below (IsMembersText bytes) d e first held result none all to;
-      last = λ memory.
-          let n : result ≢ Err stop.Write = λ x. let c : err stop.Memory ≡ err stop.Write = sym memory ∙ x in absurd cc in
-          let still : told mid ≡ told old = subst (λ (r : Result ℕ Stop). IfErr r (StopsGate (IsMembersText bytes) (told old) (told mid))) (sym (passed n) ∙ memory) w.stopped in
-          flushed_nothing told old mid new d e first held still (calm n) before after none (all n);
-    }
+    let t = took_last told (IsMembersText bytes) old mid new d e first held answer result (said_members told bytes old mid answer w)
+    (λ m. subst (λ (r : Result ℕ Stop). IfErr r (StopsGate (IsMembersText bytes) (told old) (told mid))) m w.stopped)
+    passed calm untouched failed before after none all in
+    record { took = t.0; last = t.1 }
 
 -- ---- a conversation
 

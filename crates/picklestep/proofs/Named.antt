@@ -1,5 +1,5 @@
 -- What clap's matches name.
-use Rattle.std.proofs.Common.{◌≡◌, ◌≢◌, ◌⊎◌, inl, inr, bytes_eq, true, ℕ, ◌<◌, ◌≤◌, ◌^◌, List, [], Option, Some, None, Result, Ok, Err, Bor, refl, sym, ap, subst, ◌∙◌, arith, codes}
+use Rattle.std.proofs.Common.{◌≡◌, ◌≢◌, ◌⊎◌, inl, inr, bytes_eq, true, ℕ, ◌<◌, ◌≤◌, ◌^◌, List, [], drop, Option, Some, None, Result, Ok, Err, Bor, refl, sym, ap, subst, ◌∙◌, arith, codes}
 use Rattle.std.specs.Prelude.{Bool, IsTrue, false, IfSome, IfOk, IfErr, IsErrAnd, option_map}
 use Rattle.std.specs.Str.Parse.{IsNumeral, digits_value, without_leading_plus}
 use Rattle.std.specs.Option.{unwrap_or}
@@ -18,7 +18,7 @@ use Rattle.pickle_further.specs.declared.way.Pickles.{Pickles}
 use Rattle.pickle_further.specs.declared.way.Pickles.TheVariants as pickles
 use Rattle.pickle_show.specs.declared.naming.Detail.{Detail}
 use Rattle.pickle_show.specs.declared.naming.Detail.TheVariants as detail
-use Rattle.picklestep.specs.CommandLine.{Matches, FitsCalls, FitsMemo, GivesReading, HasCallsOptions, HasDetail, HasHoles, HasList, HasReading, IsMemory, IsWindow, NamesTask, most_records, program, skips_of}
+use Rattle.picklestep.specs.CommandLine.{Matches, FitsCalls, FitsMemo, GivesReading, HasCallsOptions, HasDetail, HasHoles, HasList, HasReading, IsMemory, IsWindow, NamesTask, more_of, most_records, program, skips_of}
 
 -- ---- a subcommand
 
@@ -118,6 +118,16 @@ pub list_none : {X E : Type 0} (text : X → Text) (o : Option (Bor Text)) (rows
 list_none text o rows (Ok None) e w is = sym e ∙ sym w
 list_none text o rows (Ok (Some l)) e w is = absurd cc
 list_none text o rows (Err x) e w is = absurd cc
+
+-- ---- the files behind the first
+
+pub more_are : {V E : Type 0} (names : V → List Text) (texts : List Text) (rows : List Row) (r : Result V E) → Some texts ≡ all_of (codes "FILE") rows
+    → IfOk r (λ v. names v ≡ drop 1 texts) → IfOk r (λ v. names v ≡ more_of rows)
+more_are names texts rows (Ok v) is w = rw (← is) w
+more_are names texts rows (Err e) is w = tt
+
+pub no_more : (rows : List Row) → None ≡ all_of (codes "FILE") rows → [] ≡ more_of rows
+no_more rows is = ap (λ (o : Option (List Text)). drop 1 (unwrap_or o [])) is
 
 -- ---- the options of `calls`
 

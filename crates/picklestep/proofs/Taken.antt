@@ -23,7 +23,7 @@ use Rattle.clap.specs.declared.parser.matches.ValueSource.{ValueSource}
 use Rattle.clap.specs.declared.parser.matches.ValueSource.TheVariants.{CommandLine, DefaultValue}
 use Rattle.clap.proofs.ValueTestLemmas.{accepts-Accepts}
 use Rattle.clap.proofs.WalkLemmas.{both}
-use Rattle.picklestep.specs.CommandLine.{FitsOptions, IsCommand, IsCount, IsWindow, NamesTask, file_rule, first_rule, full_rule, list_rule, many_rule, memo_rule, extensions_rule, persistent_rule, buffers_rule, most_records, program, save_rule, skip_rule, unframed_rule, window_rule}
+use Rattle.picklestep.specs.CommandLine.{FitsOptions, IsCommand, IsCount, IsWindow, NamesTask, file_rule, files_rule, first_rule, full_rule, list_rule, many_rule, memo_rule, extensions_rule, persistent_rule, buffers_rule, most_records, program, save_rule, skip_rule, unframed_rule, window_rule}
 use Rattle.picklestep.proofs.Walked.{Each, Keeps, KeepsDefault, enters, enters_rows, found_each, level_is_valid, level_keeps, no_help, required}
 
 -- ---- a row
@@ -319,7 +319,7 @@ file_suits = record { no_count = refl; gives = refl; window = λ e. absurd cc }
 list_suits : Suits (with_index 1 (filled list_rule))
 list_suits = record { no_count = refl; gives = refl; window = λ e. absurd cc }
 
-last_suits : Suits (with_index 2 (filled file_rule))
+last_suits : Suits (with_index 2 (filled files_rule))
 last_suits = record { no_count = refl; gives = refl; window = λ e. absurd cc }
 
 many_suits : Suits (filled many_rule)

@@ -1,6 +1,6 @@
 -- The command line, as clap's words say it, and the task that clap's matches of the words name.
 -- Source: own; what clap's words mean is said by clap's crate.
-use Rattle.std.specs.Prelude.{◌≡◌, ◌≢◌, ◌⊎◌, ◌≤◌, Bool, IsTrue, ℕ, List, [], Option, None, Some, IfSome, option_map, true, false, pos, codes, ⊤}
+use Rattle.std.specs.Prelude.{◌≡◌, ◌≢◌, ◌⊎◌, ◌≤◌, Bool, IsTrue, ℕ, List, [], map, drop, Option, None, Some, IfSome, option_map, true, false, pos, codes, ⊤}
 use Rattle.std.specs.Option.{unwrap_or}
 use Rattle.std.specs.String.{string_bytes}
 use Rattle.std.specs.Str.Parse.{IsNumeral, digits_value, without_leading_plus}
@@ -19,6 +19,7 @@ use Rattle.picklestep.specs.declared.task.Task.{Task}
 use Rattle.picklestep.specs.declared.task.Task.TheVariants as task
 use Rattle.picklestep.specs.declared.task.GivenFile.{GivenFile}
 use Rattle.picklestep.specs.declared.task.CallsOptions.{CallsOptions}
+use Rattle.picklestep.specs.declared.task.GateOptions.{GateOptions}
 use Rattle.picklestep.specs.declared.task.Options.{Options}
 use Rattle.picklestep.specs.declared.task.Usage.{Usage}
 use Rattle.picklestep.specs.declared.task.Usage.TheVariants as usage
@@ -34,6 +35,10 @@ file_rule = record (new_rule (codes "FILE")) { required = true; action = Some Se
 
 abbrev pub list_rule : Rule
 list_rule = record (new_rule (codes "LIST")) { required = true; action = Some Set }
+
+-- one file, or several
+abbrev pub files_rule : Rule
+files_rule = record (new_rule (codes "FILE")) { required = true; action = Some Append }
 
 abbrev pub window_rule : Rule
 window_rule =
@@ -80,7 +85,7 @@ abbrev pub debug_app : App
 debug_app = with_rule (with_rule (frames_app (codes "debug")) window_rule) save_rule
 
 abbrev pub gate_app : App
-gate_app = with_rule (with_rule (new_app (codes "gate")) list_rule) file_rule
+gate_app = with_rule (with_rule (new_app (codes "gate")) list_rule) files_rule
 
 abbrev pub extensions_rule : Rule
 extensions_rule = record (new_rule (codes "extensions")) { long = Some (codes "extensions"); action = Some SetTrue }
@@ -174,6 +179,14 @@ pub record HasCallsOptions (rows : List Row) (options : CallsOptions) : Type 0 w
 abbrev pub HasList : List Row → Text → Type 0
 HasList rows list = first_of (codes "LIST") rows ≡ Some list
 
+-- each FILE behind the first
+abbrev pub more_of : List Row → List Text
+more_of rows = drop 1 (unwrap_or (all_of (codes "FILE") rows) [])
+
+pub record HasGateOptions (rows : List Row) (options : GateOptions) : Type 0 where
+  pub list_is : HasList rows (string_bytes options.list)
+  pub more_is : map string_bytes options.more.items ≡ more_of rows
+
 -- an option without a value is among them, or not
 abbrev pub HasFlag : List Row → Text → Bool → Type 0
 HasFlag rows name given = (IsTrue given → first_of name rows ≡ Some (codes "true")) × (first_of name rows ≡ Some (codes "true") → IsTrue given)
@@ -193,7 +206,7 @@ IsNamed matches (task.List input) = IsUsed (codes "list") matches input
 IsNamed matches (task.Objects input) = IsUsed (codes "objects") matches input
 IsNamed matches (task.Calls input options) = (u : IsUsed (codes "calls") matches input) × HasCallsOptions u.rows options
 IsNamed matches (task.Form input) = IsUsed (codes "form") matches input
-IsNamed matches (task.Gate input list) = (u : IsUsed (codes "gate") matches input) × HasList u.rows (string_bytes list)
+IsNamed matches (task.Gate input options) = (u : IsUsed (codes "gate") matches input) × HasGateOptions u.rows options
 IsNamed matches (task.Reach input granted) = (u : IsUsed (codes "reach") matches input) × HasGranted u.rows granted
 IsNamed matches (task.Members input) = IsUsed (codes "members") matches input
 IsNamed matches (task.Debug input options) = (u : IsUsed (codes "debug") matches input) × HasOptions u.rows options
@@ -239,7 +252,7 @@ IsBounded (task.List input) = ⊤
 IsBounded (task.Objects input) = ⊤
 IsBounded (task.Calls input options) = ⊤
 IsBounded (task.Form input) = ⊤
-IsBounded (task.Gate input list) = ⊤
+IsBounded (task.Gate input options) = ⊤
 IsBounded (task.Reach input granted) = ⊤
 IsBounded (task.Members input) = ⊤
 IsBounded (task.Debug input options) = IfSome options.window (λ n. (1 ≤ n) × (n ≤ most_records))

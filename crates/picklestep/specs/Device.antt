@@ -96,7 +96,7 @@ input_of (task.List input) = input
 input_of (task.Objects input) = input
 input_of (task.Calls input options) = input
 input_of (task.Form input) = input
-input_of (task.Gate input list) = input
+input_of (task.Gate input options) = input
 input_of (task.Reach input granted) = input
 input_of (task.Members input) = input
 input_of (task.Debug input options) = input
@@ -105,9 +105,9 @@ input_of (task.Debug input options) = input
 abbrev pub is_calls : CallsOptions → List ℕ → Output → Type 0
 is_calls options bytes o = IsCallsOfFile (manner options.detail options.holes) options.pickles bytes o
 
--- a conversation asks for no text, the gate for that of two files, and the members of an archive are told of no pickle
+-- a conversation asks for no text, the gate for those of files by another, and the members of an archive are told of no pickle
 abbrev pub asks_for_text : Task → Bool
-asks_for_text (task.Gate input list) = false
+asks_for_text (task.Gate input options) = false
 asks_for_text (task.Members input) = false
 asks_for_text (task.Debug input options) = false
 asks_for_text _ = true
@@ -123,7 +123,7 @@ AnswersTask (task.Form input) source source' old new result =
     AnswersInput (IsTextOf text.Form false false) source source' old new result × NoneWithoutMemory old new result
 AnswersTask (task.Reach input granted) source source' old new result =
     AnswersInput (IsTextOf (text.Reach granted) false false) source source' old new result × NoneWithoutMemory old new result
-AnswersTask (task.Gate input list) source source' old new result = ⊤
+AnswersTask (task.Gate input options) source source' old new result = ⊤
 AnswersTask (task.Members input) source source' old new result = ⊤
 AnswersTask (task.Debug input options) source source' old new result = ⊤
 

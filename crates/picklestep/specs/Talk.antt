@@ -17,7 +17,7 @@ use Rattle.picklestep.specs.declared.task.Task.{Task}
 use Rattle.picklestep.specs.declared.task.Task.TheVariants as task
 use Rattle.picklestep.specs.Device.{AnswersFile}
 use Rattle.picklestep.specs.Files.{Gives, Reports, IsRead, IsUnread}
-use Rattle.picklestep.specs.Gated.{GatesFile}
+use Rattle.picklestep.specs.Gated.{GatesTask}
 use Rattle.picklestep.specs.Listed.{ListsFile}
 
 -- ---- what is saved
@@ -133,7 +133,7 @@ CarriesOut (task.Calls input pickles) r files files' source source' old new resu
 CarriesOut (task.Form input) r files files' source source' old new result = WritesText (task.Form input) r files files' source source' old new result
 CarriesOut (task.Reach input granted) r files files' source source' old new result =
     WritesText (task.Reach input granted) r files files' source source' old new result
-CarriesOut (task.Gate input list) r files files' source source' old new result =
-    GatesFile input (string_bytes list) r files old new result × ((source' ≡ source) × (files' ≡ files))
+CarriesOut (task.Gate input options) r files files' source source' old new result =
+    GatesTask input options r files old new result × ((source' ≡ source) × (files' ≡ files))
 CarriesOut (task.Members input) r files files' source source' old new result = ListsFile input r files old new result × ((source' ≡ source) × (files' ≡ files))
 CarriesOut (task.Debug input options) r files files' source source' old new result = TalksOfFile input options r files files' source source' old new result

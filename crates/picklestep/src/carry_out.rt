@@ -9,7 +9,7 @@ ghost use Rattle.picklestep.specs.Talk.{CarriesOut};
 use crate::answers::answer_file;
 use crate::debug::debug_file;
 use crate::files::Files;
-use crate::gate::gate_file;
+use crate::gate::gate_files;
 use crate::members::members_file;
 use crate::task::Task;
 use pickle_io::{Asker, Buffered, Sink};
@@ -19,7 +19,7 @@ use std::alloc::Global;
 /// Does a task on the file that it names, and answers the status: writes the text that it asks for to the page; or reads commands from
 /// the source, which gives more only once the page holds no answer back, answers each on the page, and saves the document to the file that
 /// the options name, if they name one. The stops are those of `answer_file`,
-/// `gate_file`, `members_file` and `debug_file`. What is said of the texts is said of the device behind the page.
+/// `gate_files`, `members_file` and `debug_file`. What is said of the texts is said of the device behind the page.
 pub fn carry_out<R: Asker<Buffered<K>>, K: Sink + Drop, F: Files>(
     alloc: Global,
     task: &Task,
@@ -43,7 +43,7 @@ pub fn carry_out<R: Asker<Buffered<K>>, K: Sink + Drop, F: Files>(
         Task::Calls(_, _) => answer_file(alloc, task, files, page),
         Task::Form(_) => answer_file(alloc, task, files, page),
         Task::Reach(_, _) => answer_file(alloc, task, files, page),
-        Task::Gate(input, list) => gate_file(alloc, input, list.as_str(), files, page),
+        Task::Gate(input, options) => gate_files(alloc, input, options, files, page),
         Task::Members(input) => members_file(alloc, input, files, page),
     }
 }

@@ -2,7 +2,7 @@
 
 ghost use Rattle.std.specs.Prelude.{◌≡◌, IfOk, false, codes};
 ghost use Rattle.clap.specs.Words.{rule_of, app_of, new_app};
-ghost use Rattle.picklestep.specs.CommandLine.{file_rule, many_rule, unframed_rule, first_rule, memo_rule, full_rule, skip_rule, window_rule, save_rule, list_rule, extensions_rule, persistent_rule, buffers_rule, on_file, frames_app, calls_app, debug_app, gate_app, reach_app, members_app, wants_subcommand, program};
+ghost use Rattle.picklestep.specs.CommandLine.{file_rule, files_rule, many_rule, unframed_rule, first_rule, memo_rule, full_rule, skip_rule, window_rule, save_rule, list_rule, extensions_rule, persistent_rule, buffers_rule, on_file, frames_app, calls_app, debug_app, gate_app, reach_app, members_app, wants_subcommand, program};
 
 use clap::{Arg, ArgAction, Command};
 use std::alloc::{AllocError, Global};
@@ -28,6 +28,17 @@ fn file_argument<'a>(alloc: Global) -> Arg<'a>
         .help("the pickle")
         .required(true)
         .action(ArgAction::Set)
+}
+
+/// The same of one that may be done on several.
+fn files_argument<'a>(alloc: Global) -> Arg<'a>
+    ensures rule { rule_of result ≡ files_rule }
+    ensures local { result.global ≡ false }
+{
+    Arg::new(alloc, "FILE")
+        .help("a pickle or a zip archive, or several")
+        .required(true)
+        .action(ArgAction::Append)
 }
 
 /// The list of what a pickle may import and use.
@@ -229,7 +240,7 @@ fn gate_command<'a>(alloc: Global) -> Result<Command<'a>, AllocError>
             "Says whether all that the pickle in FILE imports and uses is in LIST, else what is not",
         )
         .arg(list_argument(alloc))?
-        .arg(file_argument(alloc))
+        .arg(files_argument(alloc))
 }
 
 /// The command that says whether a loader of a file reaches something.

@@ -1,10 +1,10 @@
 //! What the words of the command line ask for.
 
-ghost use Rattle.std.specs.Prelude.{◌≡◌, ◌≤◌, IsTrue, ℕ, [], Option, Some, None, Ok, IfOk, IfErr, IfSome, map, option_map, true, codes};
+ghost use Rattle.std.specs.Prelude.{◌≡◌, ◌≤◌, IsTrue, ℕ, [], Option, Some, None, Ok, IfOk, IfErr, IfSome, map, drop, option_map, true, codes};
 ghost use Rattle.std.specs.String.{string_bytes};
 ghost use Rattle.clap.specs.Words.{found_of, first_of, one_of, rows_of, fault_of, subcommand_of, subcommand_rows_of, takes};
 ghost use Rattle.pickle_script.specs.GivenHoles.{holes_of};
-ghost use Rattle.picklestep.specs.CommandLine.{program, most_records, GivesReading, HasReading, HasInput, HasDetail, HasCallsOptions, skips_of, HasOptions, HasList, HasGranted, IsWindow, IsNamed, FitsOptions, NamesTask, IsBounded, IsMemory};
+ghost use Rattle.picklestep.specs.CommandLine.{program, most_records, GivesReading, HasReading, HasInput, HasDetail, HasCallsOptions, skips_of, HasOptions, HasList, more_of, HasGateOptions, HasGranted, IsWindow, IsNamed, FitsOptions, NamesTask, IsBounded, IsMemory};
 
 use crate::command_line::{MOST_RECORDS, command_line};
 use clap::error::ErrorKind;
@@ -42,11 +42,11 @@ pub enum Task {
     Calls(GivenFile, CallsOptions),
     /// Print whether the first pickle is in the form that picklers write. Whether the file is read as several pickles changes nothing.
     Form(GivenFile),
-    /// Print whether the file is one pickle that passes the list in the file of this name.
-    Gate(GivenFile, String),
+    /// Print whether the file passes the list that the options name, and whether the further files do, that they name.
+    Gate(GivenFile, GateOptions),
     /// Print whether a loader of the file reaches something that was given this besides.
     Reach(GivenFile, Granted),
-    /// Print the members of the zip archive in canonical form that the file is.
+    /// Print the members of the zip archive in writers' form that the file is.
     Members(GivenFile),
     /// Read commands from standard input and answer each.
     Debug(GivenFile, Options),
@@ -61,6 +61,15 @@ pub struct CallsOptions {
     pub detail: Detail,
     /// The bytes of the file that are left out.
     pub holes: Holes,
+}
+
+/// What the gate is asked by, and about which files besides the first.
+#[derive(Drop, Debug)]
+pub struct GateOptions {
+    /// The name of the file of the list.
+    pub list: String,
+    /// The names of the files behind the first.
+    pub more: Vec<String>,
 }
 
 /// The options of a conversation.
@@ -118,6 +127,50 @@ fn list_of(alloc: Global, found: &ArgMatches<'_>) -> Result<Option<String>, Allo
     ensures none { result ≡ Ok None → first_of (codes "LIST") (rows_of (found_of found.now)) ≡ None }
 {
     owned(alloc, found.get_str("LIST"))
+}
+
+/// Texts of their own.
+fn owned_all(alloc: Global, texts: &[&str]) -> Result<Vec<String>, AllocError>
+    ensures { IfOk result (λ all. map string_bytes all.items ≡ map (λ t. t.now) texts.now) }
+{
+    let mut all = Vec::new(alloc);
+    for text in texts {
+        let text = String::from_str(alloc, text)?;
+        all.push(text)?;
+    }
+    Ok(all)
+}
+
+/// All texts but the first, as texts of their own.
+fn owned_behind(alloc: Global, texts: &[&str]) -> Result<Vec<String>, AllocError>
+    ensures { IfOk result (λ behind. map string_bytes behind.items ≡ drop 1 (map (λ t. t.now) texts.now)) }
+{
+    match texts.split_first() {
+        Some((_, behind)) => owned_all(alloc, behind),
+        None => Ok(Vec::new(alloc)),
+    }
+}
+
+/// The files behind the first.
+fn more_of(alloc: Global, found: &ArgMatches<'_>) -> Result<Vec<String>, AllocError>
+    ensures { IfOk result (λ more. map string_bytes more.items ≡ more_of (rows_of (found_of found.now))) }
+{
+    match found.get_strs("FILE") {
+        Some(texts) => owned_behind(alloc, texts),
+        None => Ok(Vec::new(alloc)),
+    }
+}
+
+/// What the gate is asked by, and about which further files; no answer where there is no list.
+fn gate_options_of(alloc: Global, found: &ArgMatches<'_>) -> Result<Option<GateOptions>, AllocError>
+    ensures some { IfOk result (λ r. IfSome r (HasGateOptions (rows_of (found_of found.now)))) }
+    ensures none { result ≡ Ok None → first_of (codes "LIST") (rows_of (found_of found.now)) ≡ None }
+{
+    let Some(list) = list_of(alloc, found)? else {
+        return Ok(None);
+    };
+    let more = more_of(alloc, found)?;
+    Ok(Some(GateOptions { list, more }))
 }
 
 /// How many step records are kept; no answer where that is no number within the bounds.
@@ -316,10 +369,10 @@ fn named(alloc: Global, matches: &ArgMatches<'_>) -> Result<Option<Task>, AllocE
     } else if name == "form" {
         Ok(Some(Task::Form(input)))
     } else if name == "gate" {
-        let Some(list) = list_of(alloc, found)? else {
+        let Some(options) = gate_options_of(alloc, found)? else {
             return Ok(None);
         };
-        Ok(Some(Task::Gate(input, list)))
+        Ok(Some(Task::Gate(input, options)))
     } else if name == "reach" {
         Ok(Some(Task::Reach(input, granted_of(found))))
     } else if name == "members" {

@@ -45,12 +45,20 @@ holds_others() {
 is_told_more() {
     command -v python3 >/dev/null || return 1
     [ "$1" != calls ] || return 0
+    opens=1
+    if [ "$1" = gate ]; then
+        case " $*" in *' --explain'*) return 0 ;; esac
+        [ $# -le 3 ] || opens='' # (among several files none is opened)
+    fi
     shift
     for word in "$@"; do
         case $word in
         --) return 0 ;; # (a file behind it may have a name like an option)
         -*) ;;
-        *) [ -r "$word" ] && [ ! -d "$word" ] && ! holds_others "$word" || return 0 ;;
+        *)
+            [ -r "$word" ] && [ ! -d "$word" ] || return 0
+            [ -z "$opens" ] || ! holds_others "$word" || return 0
+            ;;
         esac
     done
     return 1

@@ -9,12 +9,12 @@ import re
 from dataclasses import dataclass
 from functools import lru_cache
 from pathlib import Path
-from typing import Dict, Iterable, List, Optional, Set, Tuple
+from typing import Dict, Iterable, Iterator, List, Optional, Set, Tuple
 
 from .names import Line, Names, NoList, nearest, read_all
 from .wording import shown
 
-__all__ = ['SETS', 'lines_of', 'read_lines', 'read_names', 'sets_with']
+__all__ = ['SETS', 'lines_of', 'placed_lines', 'read_lines', 'read_names', 'sets_with']
 
 _CARRIAGE_RETURN = re.compile(r'\r(?!\n)')
 _FOLDER = Path(__file__).resolve().parent / 'allow'
@@ -85,12 +85,17 @@ def _place(path: str, number: int) -> str:
 
 
 def read_lines(words: Iterable[str], with_needed: bool = True) -> List[str]:
-    """The lines of the given sets and files, and of the lists that these include, each list once. A word that names a set means the set;
-    `./torch` means a file of that name. `with_needed` is unset where a set means its own names, without those of the sets that it needs.
+    """The texts of `placed_lines`."""
+    return [text for _, text, _ in placed_lines(words, with_needed)]
+
+
+def placed_lines(words: Iterable[str], with_needed: bool = True) -> Iterator[Tuple[str, str, Line]]:
+    """The lines of the given sets and files, and of the lists that these include, each list once: where each is, its text, and what it says. A word
+    that names a set means the set; `./torch` means a file of that name. `with_needed` is unset where a set means its own names, without those of the
+    sets that it needs.
 
     Raises OSError where a file cannot be read, and NoList where one is no list.
     """
-    lines: List[str] = []
     taken: Set[str] = set()
     waiting = [_Wanted(word) for word in words]
     for wanted in waiting:  # (what is included is added meanwhile)
@@ -98,12 +103,11 @@ def read_lines(words: Iterable[str], with_needed: bool = True) -> List[str]:
         if os.path.realpath(path) in taken:
             continue
         taken.add(os.path.realpath(path))
-        for place, text, line in lines_of(wanted.content(), wanted.word if wanted.by is None else str(path), wanted.is_set):
+        for place, text, line in lines_of(wanted.content(), wanted.word if wanted.by is None or wanted.is_set else str(path), wanted.is_set):
             if line is not None and not line.is_include:
-                lines.append(text)
+                yield place, text, line
             elif line is not None and (with_needed or not wanted.is_set):
                 waiting.append(_Wanted(line.name, path, place))
-    return lines
 
 
 def read_names(words: Iterable[str], with_needed: bool = True) -> Names:
