@@ -292,7 +292,7 @@ class Machines:
             if words is not clone:
                 self.copy_files(root.at / "clone")
             done = subprocess.run(words, stdin=subprocess.DEVNULL, capture_output=True, check=False)
-            if done.returncode != 0:
+            if done.returncode != 0 or done.stderr:  # (there is no /dev/fd)
                 raise OSError(f"{words[-2:]}: status {done.returncode}, {beginning(done.stderr)}")
         return root
 

@@ -17,6 +17,9 @@ from trials.trial import Trial
 
 # A page is as long as its readers need, but who meets the README decides by two screens whether to read on.
 LINES_OF_README = 120
+# A page that answers one question is read while somebody does it.
+LINES_OF_HOWTO = 60
+HOWTO = Path("docs/howto")
 COLUMNS = 100
 
 # What the package and the tests from outside have.
@@ -194,6 +197,19 @@ def fault_of_widths(pages: list[Path]) -> str:
     return "; ".join(faults)
 
 
+def fault_of_howto(root: Path) -> str:
+    """Each page that answers a question is short, and the index of these pages names it."""
+    index = text_of(root / HOWTO / "README.md")
+    faults = []
+    for page in sorted((root / HOWTO).glob("*.md")):
+        lines = len(text_of(page).splitlines())
+        if lines > LINES_OF_HOWTO:
+            faults.append(f"{page.name} has {lines} lines, and not at most {LINES_OF_HOWTO}")
+        if page.name != "README.md" and f"]({page.name})" not in index:
+            faults.append(f"the index does not name {page.name}")
+    return "; ".join(faults)
+
+
 # --- The examples of codes ---
 
 PAGES_OF_CODES = ("docs/CODES.md", "docs/LOADERS.md")
@@ -239,8 +255,8 @@ def fault_of_example(program: str, example: Example, file: Path) -> str:
     file.write_bytes(bytes.fromhex(example.pickle))
     # (an example without commands is listed; a pickle that refers to an earlier one needs --many, and only calls is unsure, of one code with
     # --memo kept, or warns)
-    words = {"S3 ..": ["list", "--many"], "U1": ["calls"], "U2": ["calls", "--memo", "kept"], "W1": ["calls"]}
-    listed = words.get(example.code if example.code == "S3 .." else example.code[:2], ["list"])
+    words = {"S3 ..": ["list", "--many"], "U1": ["calls"], "U2": ["calls", "--memo", "kept"], "U3": ["calls"], "warning:": ["calls"]}
+    listed = words.get(example.code if example.code == "S3 .." else example.code.split()[0], ["list"])
     command = ["debug"] if example.commands else listed
     script = "".join(line + "\n" for line in example.commands).encode()
     done = subprocess.run([program, *command, str(file)], input=script, capture_output=True, timeout=60)
@@ -366,7 +382,7 @@ def fault_of_change_log(page: Path) -> str:
 # --- The notices of third parties ---
 
 # Of these Rattle's libraries the notices are in a section of their own.
-OF_KIT = ("core", "std_alloc")
+OF_KIT = ("core", "json", "std_alloc")
 # Debian's packages that only work on what is linked.
 TOOLS = ("binaryen", "gcc-12-aarch64-linux-gnu", "binutils-aarch64-linux-gnu")
 KIT = Path("/opt/rattle/rattle")
@@ -476,10 +492,11 @@ def fault_of_index(root: Path) -> str:
 
 def trials(root: Path, program: str, folder: Path) -> list[Trial]:
     """What is checked. FOLDER gets the pickles of docs/CODES.md and docs/LOADERS.md."""
-    pages = [root / "README.md", *sorted((root / "docs").glob("*.md"))]
+    pages = [root / "README.md", *sorted((root / "docs").rglob("*.md"))]
     others = [page for page in sorted([*root.glob("*.md"), *root.glob("python/*.md")]) if page not in pages]
     found = [Trial(f"the links of {page.relative_to(root)}", functools.partial(fault_of_links, page)) for page in [*pages, *others]]
     found.append(Trial("the widths of the pages", functools.partial(fault_of_widths, [*pages, *others])))
+    found.append(Trial("the pages that say how to do a thing", functools.partial(fault_of_howto, root)))
     for example in itertools.chain.from_iterable(examples(text_of(root / page)) for page in PAGES_OF_CODES):
         name = f"the example of {example.code}, {' '.join([example.pickle, *example.commands])}"
         found.append(Trial(name, functools.partial(fault_of_example, program, example, folder / "code.pickle")))

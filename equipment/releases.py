@@ -518,7 +518,7 @@ def stands_beside_it(releases: Releases) -> str:
 PAGES = ("share/man/man1/picklestep.1", "share/man/man1/picklestep-scan.1", "share/man/man1/picklestep-view.1")
 BASH = "share/bash-completion/completions/picklestep"
 ZSH = "share/zsh/site-functions/_picklestep"
-PLAIN = ("gate", "members")  # (words without options)
+PLAIN = ("members",)  # (words without options)
 WORDS = ("scan", "view", "list", "objects", "calls", "form", "gate", "reach", "members", "debug", "shell", "dap", "source", "diff", "mend")
 PAGES_OF = {"scan": PAGES[1], "view": PAGES[2]}
 PROGRAM = ("picklestep", "TOOLCHAIN", "libpicklestep.so")
@@ -596,6 +596,33 @@ def installs_for_all(releases: Releases) -> str:
         run = releases.run("./install", *words, str(prefix))
         if run.status != 0 or run.errors or files_below(prefix) != wanted:
             return f"{words}: status {run.status}, errors {run.errors[:200]!r}, and there is {files_below(prefix)}"
+    return ""
+
+
+# A find that names no file of the package's parts, and fails.
+BROKEN = """\
+#!/bin/sh
+case $1 in
+picklestep) {real} "$@" -maxdepth 1 && exit 1 ;;
+esac
+exec {real} "$@"
+"""
+
+
+def installs_no_part(releases: Releases) -> str:
+    """Where the files cannot all be listed, nothing is installed, and what was there stays."""
+    prefix = releases.folder / "no part"
+    folder = releases.folder / "broken"
+    folder.mkdir()
+    (folder / "find").write_text(BROKEN.format(real=shutil.which("find")))
+    (folder / "find").chmod(0o755)
+    path = f"{folder}:{releases.environment['PATH']}"
+    for wanted in ([], installed_files(releases)):
+        run = releases.run("./install", str(prefix), PATH=path)
+        there = [file for file in files_below(prefix) if not file.startswith("lib/picklestep.new/")]
+        if run.status != 2 or "installed" in run.output or there != wanted:
+            return f"status {run.status}, output {run.output[:60]!r}, and there is {there}"
+        releases.run("./install", str(prefix))
     return ""
 
 
@@ -747,6 +774,7 @@ TRIED: list[tuple[str, Callable[[Releases], str]]] = [
     ("a build", builds),
     ("a release from a built program", release_again),
     ("installed and taken away", installs),
+    ("installed in part is not installed", installs_no_part),
     ("installed at home", installs_at_home),
     ("installed for all users", installs_for_all),
     ("the module, installed", installs_module),

@@ -9,26 +9,15 @@ from functools import cached_property
 from itertools import chain
 from typing import Any, ClassVar, Iterator, List, Optional, Sequence, Tuple, TypeVar, Union, overload
 
-from . import reaches, texts
+from . import reaches, texts, texts_of_calls
 from .hints import Watch
 from .records import End, Item, Object, Opcode, Reach, Shown
 
-__all__ = ['Answer', 'Calls', 'Heap', 'Items', 'Listing', 'Objects', 'Part', 'Reached', 'ShownObjects', 'closing_in']
+__all__ = ['Answer', 'Calls', 'Heap', 'Items', 'Listing', 'Objects', 'Part', 'Reached', 'ShownObjects']
 
 Line = TypeVar('Line')
 
 _SHOWN_LINES = 200
-_TAIL = 1000  # more bytes than all closing lines have, the results apart
-
-
-def closing_in(text: str, start: int, end: int) -> texts.Closing:
-    """The closing lines of a part of a text.
-
-    >>> closing_in('0 imports, 0 calls\\nfault: F1 ended at 1\\n', 0, 40).end(None).code
-    'F1'
-    """
-    lines = text[max(start, end - _TAIL):end].split('\n')
-    return texts.Closing(texts.closing_of(lines[1 if end - start > _TAIL else 0:-1]))
 
 
 class Answer(Sequence[Line]):
@@ -90,7 +79,7 @@ class Answer(Sequence[Line]):
     @cached_property
     def _closing(self) -> texts.Closing:
         """The closing lines. A line of which only a part was looked at is none of them."""
-        return closing_in(self.text, *self._span)
+        return texts.closing_in(self.text, *self._span)
 
     def _summary(self) -> str:
         return f'{len(self)} {self._what}'
@@ -102,7 +91,7 @@ class Answer(Sequence[Line]):
         """The first lines of the text, for notebooks."""
         lines = self.text.split('\n', _SHOWN_LINES)
         more = lines.pop()
-        shown = html.escape('\n'.join(line if len(line) <= _TAIL else line[:_TAIL] + ' ..' for line in lines))
+        shown = html.escape('\n'.join(line if len(line) <= texts.TAIL else line[:texts.TAIL] + ' ..' for line in lines))
         count = more.count('\n')
         return f'<pre>{shown}{f"{chr(10)}.. {count} lines more" if count else ""}</pre><p>{html.escape(self._summary())}</p>'
 
@@ -222,7 +211,7 @@ class Reached(Answer[Reach]):
     @cached_property
     def _totals(self) -> Tuple[int, int]:
         start, end = self._span
-        return texts.counts_in(self.text, max(start, end - _TAIL), end)
+        return texts_of_calls.counts_in(self.text, max(start, end - texts.TAIL), end)
 
     @property
     def imports(self) -> int:
@@ -261,7 +250,7 @@ class Reached(Answer[Reach]):
 
         >>> import picklestep
         >>> picklestep.calls(b'cgc\\nget_objects\\n.').warning
-        'W1 #0 leads to the unpickler'
+        '#0 leads to the unpickler'
         """
         return self._closing.warning
 
@@ -297,11 +286,22 @@ class Calls(Reached):
         super().__init__(text, refused_at)
         # The bytes that were left out, each with its offset and its length.
         self.skipped: Tuple[Tuple[int, int], ...] = ()
-        headings = texts.headings_in(text)
-        ends = [heading.start for heading in headings[1:]] + [len(text)]
+        self._mixed, last = texts_of_calls.mixed_in(text)
+        headings = texts_of_calls.headings_in(text)
+        ends = [heading.start for heading in headings[1:]] + [last]
         self._parts = tuple(Part(text, heading.words, heading.end + 1, end) for heading, end in zip(headings, ends))
-        if headings:
-            self._span = (0, headings[0].start)
+        self._span = (0, headings[0].start if headings else last)
+
+    @property
+    def mixed(self) -> Optional[str]:
+        """What the program says where a loader may take one frame in one way and another frame in the other: from there on it may do what no line shows.
+        None where none may.
+
+        >>> import picklestep
+        >>> picklestep.calls(b'\\x95\\x03\\0\\0\\0\\0\\0\\0\\0NM\\x01\\x000\\x95\\x01\\0\\0\\0\\0\\0\\0\\0.').mixed
+        'U3 frames may be mixed at 10'
+        """
+        return self._mixed
 
     @property
     def parts(self) -> Tuple[Part, ...]:
@@ -331,7 +331,7 @@ class Calls(Reached):
         'zip archive'
         """
         start, end = self._span
-        return texts.container_in(self.text, max(start, end - _TAIL), end)
+        return texts.container_in(self.text, max(start, end - texts.TAIL), end)
 
     @cached_property
     def _watch(self) -> Watch:

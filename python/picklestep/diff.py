@@ -20,7 +20,7 @@ from .python_source.command import print_text
 from .records import Opcode, Reach
 from .sources import Source, rereadable
 from .tasks import calls, frames, listing
-from .texts import unnumbered
+from .texts_of_calls import unnumbered
 from .trees import Values, values
 from .wording import shown
 

@@ -12,7 +12,6 @@ from typing import Dict, Optional, Protocol, Sequence, Tuple
 
 from . import place
 from .errors import ProgramError
-from .in_node import InNode
 from .place import find_library, find_program, is_module
 from .question import Question, question, question_of_edits, question_of_gate, question_of_reach
 
@@ -53,6 +52,7 @@ def _found() -> Optional[_Library]:
         if path is None:
             return None
         if is_module(found):
+            from .in_node import InNode
             return InNode(path, _MOST_MEMORY)
         from .in_process import InProcess  # (a Python that was built without libffi has no ctypes)
         return InProcess(path)

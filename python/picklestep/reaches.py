@@ -5,7 +5,8 @@ from __future__ import annotations
 from typing import Callable, Dict, Iterator, List, Match, Optional, Pattern, Tuple, Union
 
 from .records import Brief, Briefs, Extension, Global, Name, Reach, Ref, Value
-from .texts import BYTES_CUT, REACH, REACH_BEGINS, REACH_WORD, TEXT_NEXT, UNIT, VALUES_CUT, LineReader, LinesError, number_of, unquoted
+from .texts import LineReader, LinesError, number_of, unquoted
+from .texts_of_calls import BYTES_CUT, REACH, REACH_BEGINS, REACH_WORD, TEXT_NEXT, UNIT, VALUES_CUT
 
 __all__ = ['LineKey', 'REACHES', 'line_of', 'number_in', 'offset_of', 'reach_of', 'reached_lines', 'text_of']
 

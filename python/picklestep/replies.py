@@ -27,11 +27,6 @@ IN_FORM = b'in form\n'
 # What `gate` answers where the pickle passes, and what of something that no list allows.
 _PASSES = 'passes'
 _NOT_ALLOWED = re.compile(r'([0-9]+): not allowed: (.*)')
-# What it answers of a zip archive: of bytes that are none, and of a member, whose name is in front.
-_NO_ARCHIVE = re.compile(r'not in form: ([0-9]+): (.*)')
-_MEMBER = re.compile(r"('(?:[^'\\]|\\.)*'): (.*\n)")
-_UNSEEN = re.compile(r'(?:(packed)|(an archive) itself): (.*)')
-_BEHIND = 'behind its header: '
 _NO_LIST = re.compile(rb'not a list: line ([0-9]+) is no entry\n')
 # What it answers of a zip archive: of bytes that are none, and of a member, whose name is in front.
 _NO_ARCHIVE = re.compile(r'not in form: ([0-9]+): (.*)')

@@ -96,7 +96,7 @@ def _standard() -> List[Any]:
     import random
     import types
     record = logging.LogRecord('a', 20, 'b.py', 3, 'text %s', ('x',), None)
-    return [record, array.array('d', [1, 2]), collections.deque([1, [2]], 5), collections.Counter('aab'), collections.ChainMap({}, {1: 2}),
+    return [record, array.array('d', [1, 2]), collections.deque([1, [2]], 5), collections.Counter('aab'),
             collections.defaultdict(list, a=[1]), datetime.datetime(2020, 1, 2, tzinfo=datetime.timezone.utc), ipaddress.ip_network('10.0.0.0/8'),
             pathlib.PurePosixPath('a/b'), random.Random(3), types.SimpleNamespace(a=1), argparse.Namespace(x=[1]), ValueError('a', 1)]
 

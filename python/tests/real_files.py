@@ -68,7 +68,7 @@ def plain(folder: Path) -> None:
         'arguments': argparse.Namespace(a=1, b=pathlib.Path('c')), 'bytes': [b'abc', bytearray(b'de'), b''], 'array': array.array('d', [1, 2]),
         'namespace': types.SimpleNamespace(a=1), 'addresses': [ipaddress.ip_address('127.0.0.1'), ipaddress.ip_network('10.0.0.0/8')],
         'record': named.__dict__, 'logged': named, 'exceptions': [ValueError('a'), KeyError('b'), OSError(2, 'c')],
-        'slices': [slice(1, 2), range(3)], 'random': random.Random(1), 'chain': collections.ChainMap({'a': 1}),
+        'slices': [slice(1, 2), range(3)], 'random': random.Random(1),
     })
 
 

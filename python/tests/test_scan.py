@@ -392,6 +392,16 @@ class ThroughAnother(ScanCase):
                     self.assertEqual(Judge(Names([pattern])).mark(named) is None, pattern in allowing, (named, pattern))
 
 
+class Refused(ScanCase):
+    """An opcode that is refused."""
+
+    def test_its_offset(self) -> None:
+        """Of few bytes it is asked in this process, and of many the program."""
+        for count in (10, 200_000):
+            pickle, = self.look('a.pkl', b'\x80\x02' + b'N' * count + b'a.').pickles
+            self.assertEqual((pickle.end.code, pickle.end.item, pickle.end.offset), ('S5', count + 1, count + 2))
+
+
 class TheCommand(ScanCase):
     """The command line, started as a user starts it."""
 

@@ -260,7 +260,7 @@ class Hashes(ScanCase):
 
     def test_what_nobody_can_hash(self) -> None:
         for protocol in range(5):
-            for levels, width, told in ((20, 2, False), (40, 2, True), (200, 2, True), (3, 100, False), (6, 100, True)):
+            for levels, width, told in ((20, 2, False), (40, 2, True), (200, 2, True), (3, 100, False), (6, 100, True), (2, 20_000, True)):
                 content = pickle.dumps({'key': self.nested(levels, width)}, protocol)
                 with self.subTest(protocol=protocol, levels=levels, width=width):
                     self.assertEqual('to hash the tuple' in notes_of(self.look('a.pkl', content)), told)

@@ -327,7 +327,7 @@ class Runs(RunCase):
             raise KeyboardInterrupt
 
         sarif, names, out, summary = self.folder / 'a.sarif', self.folder / 'a.txt', io.StringIO(), io.StringIO()
-        with unittest.mock.patch.object(command, 'follow', follow), redirect_stdout(out), redirect_stderr(summary):
+        with unittest.mock.patch('picklestep.scan.stores.follow.follow', follow), redirect_stdout(out), redirect_stderr(summary):
             self.assertEqual(command.main(['--follow', url, '--sarif', str(sarif), '--write-allow', str(names)]), 130)
         self.assertEqual([json.loads(line)['path'] for line in out.getvalue().splitlines()], ['key'])
         self.assertIn('! posix.system: once', summary.getvalue())
@@ -342,7 +342,7 @@ class Runs(RunCase):
         sarif = self.folder / 'a.sarif'
         left = unittest.mock.patch.object(outputs.Report, 'write', side_effect=BrokenPipeError)
         stays = [unittest.mock.patch.object(module, 'leave') for module in (command, outputs)]
-        with unittest.mock.patch.object(command, 'follow', follow), stays[0], stays[1], left:
+        with unittest.mock.patch('picklestep.scan.stores.follow.follow', follow), stays[0], stays[1], left:
             self.assertEqual(command.main(['--follow', 'redis://127.0.0.1:1/0', '--sarif', str(sarif)]), 141)
         self.assertEqual(len(json.loads(sarif.read_text())['runs'][0]['results']), 1)
 

@@ -79,6 +79,8 @@ HOSTILE: Tuple[Tuple[str, str, bytes], ...] = (
     ('a state of a range', 'plain', call('random\nRandom') + b'(K\x03' + ENDLESS + b'Ntb'), ('another state', 'plain', call('random\nRandom') + b'}b'),
     *((f'a {kind} without end', 'plain', call('collections\ndeque', f'ccollections\n{kind}\n'.encode() + b')\x81}' + text('data') + call(
         'collections\ndefaultdict', b'cbuiltins\nlist\n') + b'sb')) for kind in ('UserList', 'UserString', 'UserDict')),
+    *((f'a {kind} of a range', 'plain', call(f'builtins\n{kind}', b'ccollections\nChainMap\n)\x81}' + text('maps') + b'(' + ENDLESS + b'lsb'))
+      for kind in ('set', 'frozenset')),
     ('a file of zones', 'pandas', call('dateutil.tz.tz\ntzfile', text('/dev/zero'))),
 )
 HONEST: Tuple[Any, ...] = (
@@ -99,6 +101,8 @@ class Sets(ScanCase):
                 self.assertTrue(looks)
                 with self.assertRaises(NotAllowed):
                     picklestep.check(content, allow=[word])
+                if word == 'plain':  # (no shape of it has `alone`, which the program takes for `held`)
+                    self.assertFalse(picklestep.gate(content, allow=[word]))
 
     def test_texts_in_full(self) -> None:
         """With --full no text is cut: the same is short."""

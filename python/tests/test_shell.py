@@ -650,7 +650,10 @@ class Words(unittest.TestCase):
 
     def test_a_cut_pickle_with_a_frame(self) -> None:
         """Read unframed, it shows what the whole one imports and calls up to the cut, breaks there, and is renamed."""
-        whole = pickle.dumps([collections.OrderedDict(a=1, b=[2, 3]), collections.Counter('hello')], 4)
+        # (pickle.dumps([OrderedDict(a=1, b=[2, 3]), Counter('hello')], 4): where `collections.abc` was the first import of `collections`, the two
+        # classes hold two texts with the name of the module, and the pickle would have both)
+        whole = (b'\x80\x04\x95h\0\0\0\0\0\0\0]\x94(\x8c\x0bcollections\x94\x8c\x0bOrderedDict\x94\x93\x94)R\x94(\x8c\1a\x94K\1\x8c\1b\x94]\x94(K\2K\3eu'
+                 b'h\1\x8c\x07Counter\x94\x93\x94}\x94(\x8c\1h\x94K\1\x8c\1e\x94K\1\x8c\1l\x94K\2\x8c\1o\x94K\1u\x85\x94R\x94e.')
         found = list(pickletools.genops(whole))
         offsets = {word: [position for opcode, _, position in found if opcode.code == code] for word, code in (('import', '\x93'), ('call', 'R'))}
         with Shell(whole[:-3], '', unframed=True) as shell, Shell(whole, '') as framed:

@@ -16,7 +16,7 @@ import zlib
 from unittest import mock
 
 from picklestep.scan import Limits, Options, look
-from scan_support import HARMLESS, HOSTILE, ScanCase, names_of, notes_of, places_of
+from scan_support import HARMLESS, HOSTILE, ScanCase, names_of, notes_of, places_of, python_with
 
 
 class DjangoCache(ScanCase):
@@ -148,6 +148,51 @@ class Zstd(ScanCase):
         with mock.patch.dict(sys.modules, {'zstandard': None}):
             result = self.look('a.pkl.zst', self.packed(HOSTILE))
         self.assertIn('! : zstd: this kind of container is not opened', notes_of(result))
+
+
+# What numcodecs 0.11.0 (`Blosc().encode`) and lz4 4.0.2 (`frame.compress`) write of a hostile pickle, nine times, and once; and of three numbers.
+BLOSC = (b'\x02\x01!\x01\xe1\0\0\0\xe1\0\0\0<\0\0\0\x14\0\0\0$\0\0\0\xff\ncposix\nsystem\n(X\x02\0\0\0idtR.\x19\0\xb0PidtR.')
+NUMBERS = bytes.fromhex('02013308180000001800000028000000' '0000000000000000' '000000000000f03f' '0000000000000040')
+LZ4 = b'\x04"M\x18h@\x19\0\0\0\0\0\0\0z\x19\0\0\x80cposix\nsystem\n(X\x02\0\0\0idtR.\0\0\0\0'
+
+
+class Lz4AndBlosc(ScanCase):
+    """What joblib and zarr pack by packages: it is opened where these are installed."""
+
+    def scanned(self, module: str, name: str, content: bytes) -> str:
+        """What is told of a file where a module is installed."""
+        python = python_with(module)
+        if python is None:
+            self.skipTest(f'{module} is not installed')
+        self.file(name, content)
+        return str(self.scan('--brief', name, python=python).stdout)
+
+    def test_lz4(self) -> None:
+        for content, told in ((LZ4, 'a.pkl.lz4 > (lz4): import posix.system'), (LZ4[:-3], 'the compressed data are cut short'),
+                              (LZ4 + b'x', 'bytes stand behind the end'), (LZ4[:5] + b'\xff' + LZ4[6:], 'a size of blocks that no writer sets')):
+            self.assertIn(told, self.scanned('lz4.frame', 'a.pkl.lz4', content))
+
+    def test_lz4_that_is_not_opened(self) -> None:
+        with mock.patch.dict(sys.modules, {'lz4': None, 'lz4.frame': None}):
+            self.assertIn('! : lz4: this kind of container is not opened', notes_of(self.look('a.pkl.lz4', LZ4)))
+
+    def test_blosc(self) -> None:
+        self.assertIn('! 0 > (blosc chunk): import posix.system 9 times', self.scanned('numcodecs.blosc', '0', BLOSC))
+
+    def test_blosc_by_a_stand_in(self) -> None:
+        module = mock.Mock(decompress={BLOSC: HOSTILE * 9, NUMBERS: NUMBERS[16:]}.__getitem__)
+        with mock.patch.dict(sys.modules, {'blosc': module}):
+            result = self.look('0', BLOSC)
+            self.assertEqual((names_of(result), places_of(result)), (['posix.system'], ['(blosc chunk)']))
+            self.assertEqual(self.look('0', NUMBERS).notes, ())
+            self.assertIn('the compressed data cannot be unpacked', notes_of(self.look('0', BLOSC[:-1] + b'x')))
+            large = BLOSC[:4] + (1 << 31).to_bytes(4, 'little') + BLOSC[8:]
+            self.assertIn('it unpacks to 2,147,483,648 bytes at once', notes_of(self.look('0', large)))
+
+    def test_blosc_that_is_not_opened(self) -> None:
+        """Most chunks hold numbers, so none is told: the metadata of zarr say which are pickles."""
+        with mock.patch.dict(sys.modules, {'blosc': None, 'numcodecs': None, 'numcodecs.blosc': None}):
+            self.assertEqual(self.look('0', NUMBERS).notes, ())
 
 
 if __name__ == '__main__':

@@ -62,8 +62,8 @@ BEGINS: Dict[str, List[bytes]] = {
 }
 # The surest, which short values tell as well.
 SURE = {
-    'zstd': b'\x28\xb5\x2f\xfd', 'lz4': b'\x04\x22\x4d\x18', '7z': b'7z\xbc\xaf\x27\x1c', 'rar': b'Rar!\x1a\x07', 'lzip': b'LZIP\1',
-    'lzop': b'\x89LZO\0\r\n\x1a\n', 'snappy': b'\xff\x06\0\0sNaPpY',
+    'zstd': b'\x28\xb5\x2f\xfd', 'lz4': b'\x04\x22\x4d\x18', 'lz4 of another kind': b'\x02\x21\x4c\x18', '7z': b'7z\xbc\xaf\x27\x1c', 'rar': b'Rar!\x1a\x07',
+    'lzip': b'LZIP\1', 'lzop': b'\x89LZO\0\r\n\x1a\n', 'snappy': b'\xff\x06\0\0sNaPpY',
     'Arrow': b'ARROW1\0\0', 'Parquet': b'PAR1\x15\4', 'Avro': b'Obj\1', 'pg_dump': b'PGDMP\1', 'dump of Redis': b'REDIS0011\xfa',
     'tdb': b'TDB file\n\0', 'LMDB': bytes(16) + b'\xde\xc0\xef\xbe',
     'append-only file of Redis': b'#TS:1628217470\r\n*2\r\n$6\r\nSELECT', 'Berkeley DB of another kind': bytes(12) + b'\x62\x31\5\0',

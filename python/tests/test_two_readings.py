@@ -12,6 +12,7 @@ import lzma
 import pickle
 import random
 import struct
+import sys
 import tarfile
 import unittest
 import unittest.mock
@@ -219,8 +220,8 @@ class Check(ScanCase):
             self.assertTrue(any(text.startswith('its name says') for text in notes), name)
 
     def test_what_is_not_opened_here(self) -> None:
-        """joblib opens lz4, and `check` does not: it says no more than that."""
-        with self.assertRaises(picklestep.NotAllowed) as refused:
+        """joblib opens lz4, and `check` only where the package is installed: else it says no more than that."""
+        with self.assertRaises(picklestep.NotAllowed) as refused, unittest.mock.patch.dict(sys.modules, {'lz4': None, 'lz4.frame': None}):
             picklestep.check(b'\x04\x22\x4d\x18\x64\x40\xa7' + bytes(99), loader='joblib')
         self.assertEqual(str(refused.exception), 'pickle: lz4: this kind of container is not opened')
 

@@ -1,4 +1,4 @@
-"""What is read of names, and of headers of tar archives."""
+"""What is read of names."""
 
 from __future__ import annotations
 
@@ -6,7 +6,7 @@ import re
 
 from .canonical.standard import STANDARD_MODULES
 
-__all__ = ['HEAD', 'NAMES_WITHOUT_TAR', 'is_dotted', 'is_pickle_name', 'is_storage_name', 'may_be_imported', 'tar_number', 'tar_sum_fits']
+__all__ = ['HEAD', 'NAMES_WITHOUT_TAR', 'is_dotted', 'is_pickle_name', 'is_storage_name', 'may_be_imported']
 
 # The first bytes of a member, which show what it is.
 HEAD = 16_384
@@ -18,10 +18,6 @@ _STORAGE_NAME = re.compile(r'(.*/)?(data|constants)/[0-9]+', re.DOTALL)
 
 # No module of Python or of a package has such a sign in its name; headers of tables and lines of code have them.
 _NOT_IN_MODULES = re.compile(r"""[,;:"'()\[\]{}<>|&?*/=]""")
-
-_BLOCK_OF_TAR = 512
-
-_BELOW_128 = bytes(range(128))
 
 
 def is_pickle_name(name: str) -> bool:
@@ -36,32 +32,6 @@ def is_pickle_name(name: str) -> bool:
 def is_storage_name(name: str) -> bool:
     """Whether torch.save writes the raw numbers of a tensor under this name."""
     return _STORAGE_NAME.fullmatch(name) is not None
-
-
-def tar_number(field: bytes) -> int:
-    """A number in a tar header: octal digits, or bytes where it is large. One that is no number or below zero counts as 0.
-
-    >>> tar_number(b'0000017\\0'), tar_number(b'\\x80\\0\\0\\1'), tar_number(b'text')
-    (15, 1, 0)
-    """
-    if field[:1] >= b'\x80':
-        return int.from_bytes(bytes([field[0] & 0x7f]) + field[1:], 'big') if field[0] != 0xff else 0
-    try:
-        return max(0, int(field.split(b'\0')[0].strip() or b'0', 8))
-    except ValueError:
-        return 0
-
-
-def tar_sum_fits(block: bytes) -> bool:
-    """Whether a block of 512 bytes has the sum of a tar header. Some writers count bytes above 127 as numbers below zero."""
-    if len(block) < _BLOCK_OF_TAR:
-        return False
-    written = tar_number(block[148:156])
-    if not written:
-        return False
-    counted = block[:148] + block[156:512]
-    unsigned = 8 * 32 + sum(counted)
-    return written in (unsigned, unsigned - 256 * len(counted.translate(None, _BELOW_128)))
 
 
 def is_dotted(text: bytes) -> bool:

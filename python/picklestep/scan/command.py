@@ -26,7 +26,6 @@ from .results import Result, from_json
 from .settings import Settings
 from .severity import FAILING
 from .stores.address import Address, is_server
-from .stores.follow import follow
 from .stores.server import NoServer, Task, Wanted, tasks, total_of
 
 __all__ = ['Work', 'escape_names', 'main', 'scan_words']
@@ -229,6 +228,7 @@ def _follow(words: argparse.Namespace) -> int:
         if getattr(words, name) != parser.get_default(name):
             raise NoServer(f'--follow takes no --{name}')
     words.json = True
+    from .stores.follow import follow  # (with what it asks a server by)
     settings = Settings(words)
     output = _output(words, settings)
     with suppress(KeyboardInterrupt):

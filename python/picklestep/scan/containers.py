@@ -12,14 +12,13 @@ from functools import cached_property, lru_cache
 from importlib import import_module
 from typing import TYPE_CHECKING, Any, Callable, List, NamedTuple, Optional, Tuple
 
-from .begins import NAMES_WITHOUT_TAR, tar_sum_fits
+from .begins import NAMES_WITHOUT_TAR
 from .blobs import Blob
 from .canonical import streams
 from .canonical.streams import Stream
-from .canonical.tars import looks_like_header
-from .packed import opens_zstd
+from .packed import LZ4_MODULES, ZSTD_MODULES, module_of
 from .results import Place
-from .tars import BLOCK
+from .tars import BLOCK, looks_like_header
 from .unread import SURE
 
 if TYPE_CHECKING:
@@ -68,8 +67,8 @@ class Container:
     opener_at_end: str = ''
     # Whether its values are looked at as pickles where it is a value itself: a loader of pickles reads it.
     is_pickles: bool = False
-    # Whether what unpacks it is there: else it is one of those that are noted.
-    is_installed: Optional[Callable[[], bool]] = None
+    # What unpacks it, where that is no part of Python: where none of these modules is installed it is one of those that are noted.
+    modules: Tuple[str, ...] = ()
 
     def __str__(self) -> str:
         return self.name if self.opener else f'unread {self.name}'
@@ -136,10 +135,6 @@ def _is_bz2(head: bytes) -> bool:
 
 
 def _is_tar(head: bytes) -> bool:
-    return head[257:262] == b'ustar' or tar_sum_fits(head[:BLOCK])
-
-
-def _may_be_tar(head: bytes) -> bool:
     return head[257:262] == b'ustar' or looks_like_header(head[:BLOCK])
 
 
@@ -185,12 +180,15 @@ CONTAINERS: Tuple[Container, ...] = (
               loaders=('joblib', 'pandas')),
     Container('lzma', 'opening.packed:look_into', 'xz and Python write', b'\x5d\0', endings=('lzma',), stream=streams.LZMA, loaders=('joblib',)),
     Container('tar', 'opening.tars:look_into', 'tarfile, GNU tar and bsdtar write', sign=rb'.{257}ustar', known_by=_is_tar, may_have_no_sign=True,
-              endings=('tar',), takes=_may_be_tar, is_empty=_is_empty_tar, odd_names=NAMES_WITHOUT_TAR, loaders=('torch', 'pandas')),
+              endings=('tar',), takes=_is_tar, is_empty=_is_empty_tar, odd_names=NAMES_WITHOUT_TAR, loaders=('torch', 'pandas')),
     Container('zfile', 'opening.packed:look_into', 'joblib before 0.10 writes', b'ZF', known_by=_is_zfile, stream=streams.ZFILE, loaders=('joblib',)),
     ZLIB,
-    # (it begins as `unread` has it)
-    Container('zstd', 'opening.packed:look_into', 'zstd and pandas write', other_endings=('zst',), stream=streams.ZSTD, is_installed=opens_zstd,
+    # (these two begin as `unread` has it)
+    Container('zstd', 'opening.packed:look_into', 'zstd and pandas write', other_endings=('zst',), stream=streams.ZSTD, modules=ZSTD_MODULES,
               loaders=('pandas',)),
+    Container('lz4', 'opening.packed:look_into', 'lz4 and joblib write', other_endings=('lz4',), stream=streams.LZ4, modules=LZ4_MODULES,
+              loaders=('joblib',)),
+    Container('blosc chunk', 'opening.packed:look_into', 'Blosc and zarr write', stream=streams.BLOSC),
 )
 
 # Stores that are files.
@@ -256,11 +254,11 @@ def store_of(head: bytes) -> Optional[Container]:
 def named(name: str) -> Container:
     """The kind of a name. One that is not opened, or not here, has no more than its name.
 
-    >>> str(named('gzip')), str(named('lz4'))
-    ('gzip', 'unread lz4')
+    >>> str(named('gzip')), str(named('rar'))
+    ('gzip', 'unread rar')
     """
     found = _BY_NAME.get(name)
-    return found if found is not None and (found.is_installed is None or found.is_installed()) else _unread(name)
+    return found if found is not None and (not found.modules or module_of(found.modules) is not None) else _unread(name)
 
 
 @lru_cache(maxsize=None)

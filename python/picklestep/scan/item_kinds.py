@@ -8,7 +8,7 @@ from __future__ import annotations
 
 from typing import Dict, Optional, Tuple, Union
 
-from ..texts import ItemKind, KindState, NumberOfKind, filled_in, kinds_in
+from ..texts_of_calls import ItemKind, KindState, NumberOfKind, filled_in, kinds_in
 
 __all__ = ['ItemKinds']
 

@@ -8,7 +8,7 @@ import os
 import sys
 from contextlib import ExitStack
 from functools import partial
-from typing import Callable, Dict, List, Optional, Protocol, Sequence, Tuple
+from typing import TYPE_CHECKING, Callable, Dict, List, Optional, Protocol, Sequence, Tuple
 
 from ..errors import PicklestepError
 from ..saving import check_writable, naming, open_text
@@ -18,9 +18,10 @@ from .looks import Look
 from .policy.baseline import IN_BASELINE, Marks
 from .report import Report
 from .results import Result
-from .sarif import Sarif
 from .table import Table, wants_table
-from .written import Used, check_list, write_list
+
+if TYPE_CHECKING:
+    from .written import Used
 
 __all__ = ['WRITES', 'Output', 'leave']
 
@@ -47,6 +48,7 @@ class Output:
             with naming(path):
                 check_writable(path)
         if words.write_allow is not None:
+            from .written import check_list
             with naming(words.write_allow):
                 check_list(words.write_allow)
         if sys.stdout.isatty() and not any(getattr(words, name) for name in _IN_LINES) and wants_table(words.paths):
@@ -64,14 +66,14 @@ class Output:
         self.is_left = False
 
     def _open_files(self, words: argparse.Namespace, options: Options, policy: str) -> None:
-        """Begins each file that is wanted."""
+        """Begins each file that is wanted. What makes one is imported where it is wanted alone."""
         if words.sarif is not None:
+            from .sarif import Sarif
             sarif = Sarif()
             self._collectors.append(sarif)
             self._write_at_end(words.sarif, lambda: json.dumps(sarif.object(), indent=1) + '\n')
         reports = _reports(words)
         if reports:
-            # (what makes sources is imported where a report is wanted alone)
             from .reports import About, Findings
             findings, about = Findings(options), About.now(policy)
             self._collectors.append(findings)
@@ -82,6 +84,7 @@ class Output:
             self._marks = Marks()
             self._write_at_end(words.write_baseline, self._marks.text)
         if words.write_allow is not None:
+            from .written import Used
             used = Used()
             self._collectors.append(used)
             self._files.append(lambda: _write_list(words.write_allow, used))
@@ -156,6 +159,7 @@ def _write(path: str, text: str) -> None:
         file.write(text)
 
 
-def _write_list(path: str, used: Used) -> None:
+def _write_list(path: str, used: 'Used') -> None:
+    from .written import write_list
     with naming(path):
         write_list(path, used)

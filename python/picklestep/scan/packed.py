@@ -4,14 +4,15 @@ from __future__ import annotations
 
 import bz2
 import lzma
+import struct
 import zlib
 from importlib import import_module
-from typing import Any, Callable, Iterator, Optional, Union
+from typing import Any, Callable, Iterator, Optional, Sequence, Union
 
 from .blobs import Blob
 
-__all__ = ['Decompressor', 'Unpacking', 'Zstd', 'inflate_gzip', 'inflate_zlib', 'opens_zstd', 'raw_deflate', 'raw_lzma', 'unpack_lzma',
-           'unpack_xz']
+__all__ = ['BLOSC_MODULES', 'Blosc', 'Decompressor', 'LZ4_MODULES', 'Lz4', 'Unpacking', 'ZSTD_MODULES', 'Zstd', 'inflate_gzip', 'inflate_zlib',
+           'module_of', 'raw_deflate', 'raw_lzma', 'unpack_lzma', 'unpack_xz']
 
 # Unpacked bytes of a step: a bomb is noticed before it fills the memory.
 STEP = 1 << 18
@@ -52,9 +53,15 @@ _ZSTD_WINDOW_LOG = 27
 _ZSTD_PIECE = 128
 
 
-def _zstd_module() -> Any:
-    """The module that unpacks zstd: Python's own (3.14), or the package `zstandard`. None where neither is installed."""
-    for name in ('compression.zstd', 'zstandard'):
+# What unpacks these: the first that is installed. (Python has zstd itself from 3.14 on.)
+ZSTD_MODULES = ('compression.zstd', 'zstandard')
+LZ4_MODULES = ('lz4.frame',)
+BLOSC_MODULES = ('blosc', 'numcodecs.blosc')
+
+
+def module_of(names: Sequence[str]) -> Any:
+    """The first of these modules that is installed; None where none is."""
+    for name in names:
         try:
             return import_module(name)
         except ImportError:
@@ -62,16 +69,11 @@ def _zstd_module() -> Any:
     return None
 
 
-def opens_zstd() -> bool:
-    """Whether something that unpacks zstd is installed."""
-    return _zstd_module() is not None
-
-
 class Zstd:
     """The decompressor of either module with the calls that those of bz2 and lzma have."""
 
     def __init__(self) -> None:
-        module = _zstd_module()
+        module = module_of(ZSTD_MODULES)
         self._error = module.ZstdError
         self._is_own = hasattr(module, 'DecompressionParameter')
         if self._is_own:
@@ -109,7 +111,75 @@ class Zstd:
         return bytes(self._inner.unused_data) + (b'' if self._is_own else self._held[self._at:])
 
 
-Decompressor = Union[_Inflate, Zstd, bz2.BZ2Decompressor, lzma.LZMADecompressor]
+class Lz4:
+    """The decompressor of the package `lz4` with the faults and values that those of bz2 and lzma have."""
+
+    def __init__(self) -> None:
+        self._inner = module_of(LZ4_MODULES).LZ4FrameDecompressor()
+
+    def decompress(self, piece: bytes, most: int) -> bytes:
+        """Raises ValueError where the frame is damaged."""
+        try:
+            return bytes(self._inner.decompress(piece, most))
+        except RuntimeError as error:
+            raise ValueError(str(error)) from None
+
+    @property
+    def eof(self) -> bool:
+        return bool(self._inner.eof)
+
+    @property
+    def needs_input(self) -> bool:
+        return bool(self._inner.needs_input)
+
+    @property
+    def unused_data(self) -> bytes:
+        return bytes(self._inner.unused_data or b'')
+
+
+# The version of a chunk, that of what packs, flags, the size of an item, of what it unpacks to, of a block, and of the chunk.
+_BLOSC_HEADER = struct.Struct('<BBBBIII')
+
+
+class Blosc:
+    """What unpacks a chunk of Blosc, which is held as a whole, with the calls that the decompressors of bz2 and lzma have."""
+
+    def __init__(self) -> None:
+        self._packed = bytearray()
+        self._made: Optional[bytes] = None
+        self._at = 0
+
+    def decompress(self, piece: bytes, most: int) -> bytes:
+        """Raises ValueError where the chunk is damaged, or asks for more memory than an lzma stream may."""
+        self._packed += piece
+        if self._made is None and len(self._packed) >= _BLOSC_HEADER.size:
+            *_, size, _, packed = _BLOSC_HEADER.unpack_from(self._packed)
+            if size > LZMA_MEMORY:
+                raise ValueError(f'it unpacks to {size:,} bytes at once')
+            if len(self._packed) >= packed:
+                try:
+                    self._made = module_of(BLOSC_MODULES).decompress(bytes(self._packed[:packed]))
+                except Exception as error:  # (each module has errors of its own)
+                    raise ValueError(str(error)) from None
+                del self._packed[:packed]
+        made = (self._made or b'')[self._at:self._at + most]
+        self._at += len(made)
+        return made
+
+    @property
+    def eof(self) -> bool:
+        return self._made is not None and self._at == len(self._made)
+
+    @property
+    def needs_input(self) -> bool:
+        return self._made is None
+
+    @property
+    def unused_data(self) -> bytes:
+        return bytes(self._packed)
+
+
+Decompressor = Union[_Inflate, Zstd, Lz4, Blosc, bz2.BZ2Decompressor, lzma.LZMADecompressor]
 
 
 def raw_deflate() -> Decompressor:

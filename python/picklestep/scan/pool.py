@@ -10,6 +10,7 @@ from __future__ import annotations
 
 import gc
 import os
+import pickle
 import signal
 import subprocess
 import sys
@@ -33,8 +34,10 @@ _Task = Tuple[Union[str, Task], int]
 # A process that dies twice at one file is not started a third time for it.
 TRIES = 2
 # So many files are handed over at once, and a worker answers after so many seconds though it was given more.
-_MOST_AT_ONCE = 16
+_MOST_AT_ONCE = 32
 _TURN = 0.05
+# A worker looks for garbage in cycles after so many objects more: hardly any of what it makes is such.
+_MOST_GARBAGE = 10_000
 # A file above this size is handed over alone: others would wait for it.
 _MOST_OF_SMALL = 1 << 20
 
@@ -55,12 +58,23 @@ def work(link: Connection) -> None:
     # A group of its own: Ctrl-C goes to the parent alone, which ends this process and all that it started.
     if hasattr(os, 'setpgid'):
         os.setpgid(0, 0)
+    gc.set_threshold(_MOST_GARBAGE)
     try:
-        options = link.recv()
+        options = _receive(link)
         while True:
-            link.send(_first_results(link.recv(), options))
+            _send(link, _first_results(_receive(link), options))
     except (EOFError, OSError):
         pass  # the parent is gone or has no more
+
+
+def _send(link: Connection, what: Any) -> None:
+    """Sends something. (`send` of a link asks tables in Python about each object in it, which takes longer than the rest.)"""
+    link.send_bytes(pickle.dumps(what, pickle.HIGHEST_PROTOCOL))
+
+
+def _receive(link: Connection) -> Any:
+    """What the other end sent. Raises EOFError and OSError where it is gone."""
+    return pickle.loads(link.recv_bytes())
 
 
 def _first_results(tasks: List[Union[str, Task]], options: Options) -> List[Result]:
@@ -155,7 +169,7 @@ class _Worker:
 
     def _send(self, what: Any) -> None:
         try:
-            self.link.send(what)
+            _send(self.link, what)
         except OSError:
             pass  # it is dead already, which is noticed when its answer is read
 
@@ -235,7 +249,7 @@ class _Pool:
     def _answers_of(self, worker: _Worker) -> List[Result]:
         """What a worker found. It gets the next files; where it has died, its files wait again."""
         try:
-            results: List[Result] = worker.link.recv()
+            results: List[Result] = _receive(worker.link)
         except (EOFError, OSError):
             del self.workers[worker.link]
             worker.end()

@@ -10,15 +10,14 @@ from functools import lru_cache
 from typing import Callable, Dict, Iterable, List, Optional, Set, Tuple
 
 from .. import library
-from ..answers import closing_in
 from ..errors import OutOfMemory, PicklestepError, ProgramError, TimedOut
 from ..hints import OLD_TORCH
-from ..program import Process, time_to_wait
+from ..program import Process, run_program, time_to_wait
 from ..reaches import LineKey, line_of, number_in, offset_of, reach_of, reached_lines, text_of
 from ..records import End, Extension, Global, Name, Ref
-from ..replies import IN_FORM
-from ..session import Session
-from ..texts import given_in, headings_in, offset_of_item, with_offset
+from ..replies import IN_FORM, where_of
+from ..texts import closing_in, offset_of_item, with_offset
+from ..texts_of_calls import given_in, headings_in
 from .begins import is_dotted, may_be_imported
 from .blobs import CHUNK, Blob, Budget, FileBlob, Spooled, spooled
 from .canonical.formed import content_of
@@ -403,9 +402,9 @@ class Asked:
         if text is not None:
             return offset_of_item(text, item)
         try:
-            with Session(self._path(), window=1, many=True, timeout=max(1, budget.seconds), memory=budget.memory()) as session:
-                session.goto(item)
-                return session.where().offset
+            answer = run_program(['debug', self._path(), '--many', '--window', '1'], script=b'goto %d\nwhere\n' % item,
+                                 timeout=max(1, budget.seconds), memory=budget.memory())
+            return where_of(answer.decode('ascii').splitlines()[-1]).offset
         except PicklestepError:
             return None
 

@@ -22,7 +22,8 @@ _SOON = rb'(?=[^\0-\x08\x0e-\x1a\x1c-\x1f\x7f]{0,400}[\0-\x08\x0e-\x1a\x1c-\x1f\
 _SURE: Dict[str, bytes] = {
     'zstd': rb'\x28\xb5\x2f\xfd',
     'zstd or lz4 (a frame that is skipped)': rb'[\x50-\x5f]\x2a\x4d\x18',
-    'lz4': rb'\x04\x22\x4d\x18|[\x02\x03]\x21\x4c\x18|mozLz40\0',
+    'lz4': rb'\x04\x22\x4d\x18',
+    'lz4 of another kind': rb'[\x02\x03]\x21\x4c\x18|mozLz40\0',
     '7z': rb'7z\xbc\xaf\x27\x1c',
     'rar': rb'Rar!\x1a\x07',
     'lzip': rb'LZIP[\0\1]',

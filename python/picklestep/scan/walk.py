@@ -1,7 +1,7 @@
 """Goes from opcode to opcode over bytes in memory: quick enough to be tried at many places.
 
-It finds where pickles may begin and end, and decides nothing: what is in one, the program says. All it knows of the opcodes is what
-`pickletools` has.
+It finds where pickles may begin and end, so it decides which bytes the program is asked about. What is in a pickle, the program says. All it
+knows of the opcodes is what `pickletools` has.
 """
 
 from __future__ import annotations
@@ -10,7 +10,7 @@ import pickletools
 import re
 from typing import List, Optional, Set, Tuple
 
-__all__ = ['CHECKSUM', 'FIXED', 'MOST', 'Walk', 'is_opcode', 'length_at', 'may_begin', 'stops_at_end', 'walk']
+__all__ = ['CHECKSUM', 'MOST', 'Walk', 'is_opcode', 'length_at', 'may_begin', 'stops_at_end', 'walk']
 
 _PAIR, _LINE, _ONE, _FOUR, _EIGHT, _UNKNOWN = -1, -2, -3, -4, -5, -6
 
@@ -55,8 +55,6 @@ for _each in pickletools.opcodes:
     _STEPS[ord(_each.code)] = _step_of(_each)
     _NEEDS[ord(_each.code)] = _needs_of(_each)
     _WHAT[ord(_each.code)] = (_each.name in _IMPORTS) + 2 * (_each.name in _CALLS)
-# The lengths of opcodes, with their arguments, where these are always the same; 0 where they are not.
-FIXED = tuple(max(0, step) for step in _STEPS)
 _TAKES_NUMBER = frozenset(ord(each.code) for each in pickletools.opcodes if each.name in _NUMBERS)
 _MARK = next(ord(each.code) for each in pickletools.opcodes if each.name == 'MARK')
 _STACK_GLOBAL = next(ord(each.code) for each in pickletools.opcodes if each.name == 'STACK_GLOBAL')

@@ -17,7 +17,8 @@ from ..replies import is_mark, last_words, number_in_word, words_of
 from ..session import SHIFTS, Session
 from ..sources import Input, Source
 from ..tasks import modes
-from ..texts import as_made, broken_places, end_of_texts, held_in, holding, made_by, without_number
+from ..texts import as_made, broken_places, end_of_texts, held_in, holding, without_number
+from ..texts_of_calls import made_by
 from ..wording import shown
 from .lines import Lines, OpcodeLines, add_items, cut_text, lines_of, read_all, read_answers, silent
 

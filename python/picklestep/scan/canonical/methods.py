@@ -9,7 +9,8 @@ from ..blobs import Blob
 __all__ = ['CALLED', 'CALLED_ALONE', 'CALLED_OF_ITEMS', 'REPLACING', 'names_methods']
 
 # What loaders call under such a name of an object, with what the pickle gives: unpicklers, and `__setstate__` and makers in the sets' libraries.
-CALLED_ALONE = frozenset(('__setstate__', '__new__', '__init__', '__getinitargs__', '_build_f', '_hook_for_profile', '_simple_new', 'from_arrays'))
+CALLED_ALONE = frozenset(('__setstate__', '__new__', '__init__', '__getinitargs__', '_build_f', '_hook_for_profile', '_simple_new', 'from_arrays',
+                          'holidays', '_isdst', 'detach', 'untyped', '_untyped'))
 # Attributes that decide what all others are, methods too. No pickler gives them by a state.
 REPLACING = frozenset(('__dict__', '__class__'))
 CALLED_OF_ITEMS = frozenset(('append', 'extend', 'add'))

@@ -186,16 +186,12 @@ def _has_kind(values: Any, depth: int = 0) -> bool:
     """Whether a kind of items is among arguments, or in a container among them."""
     if isinstance(values, Made):
         return not _is_wrapper(values.function)
-    return depth < 3 and isinstance(values, (tuple, PList)) and any(_has_kind(value, depth + 1) for value in values)
+    return depth < 3 and isinstance(values, (tuple, PList)) and any(type(each) in _HOLDERS and _has_kind(each, depth + 1) for each in values)
 
 
 def _has_dtype(arguments: Any) -> bool:
     """Whether numpy.dtype itself is among arguments: a call may make a kind of items by it."""
-    if isinstance(arguments, tuple):
-        for each in arguments:
-            if type(each) is Global and each.is_kept:
-                return True
-    return False
+    return isinstance(arguments, tuple) and any(type(each) is Global and each.is_kept for each in arguments)
 
 
 def _may_be_of_kind(state: Any) -> bool:

@@ -1,7 +1,7 @@
 """Compressed files in the form that their usual writers write: one stream that fills the file, with nothing before or behind it.
 
-Sources: RFC 1952 (gzip), RFC 1950 (zlib), RFC 8878 (zstd), xz-file-format.txt and lzma-file-format.txt of XZ Utils, joblib/numpy_pickle_compat.py (ZF), and
-what Python, gzip, pigz, bzip2 and xz write.
+Sources: RFC 1952 (gzip), RFC 1950 (zlib), RFC 8878 (zstd), xz-file-format.txt and lzma-file-format.txt of XZ Utils, lz4_Frame_format.md of LZ4,
+README_CHUNK_FORMAT.rst of C-Blosc, joblib/numpy_pickle_compat.py (ZF), and what Python, gzip, pigz, bzip2 and xz write.
 """
 
 from __future__ import annotations
@@ -15,10 +15,10 @@ from typing import Callable, FrozenSet, Optional
 
 from ..begins import HEAD
 from ..blobs import Blob
-from ..packed import LZMA_MEMORY, Decompressor, Unpacking, Zstd, inflate_gzip, inflate_zlib, unpack_lzma, unpack_xz
+from ..packed import BLOSC_MODULES, LZMA_MEMORY, Blosc, Decompressor, Lz4, Unpacking, Zstd, inflate_gzip, inflate_zlib, module_of, unpack_lzma, unpack_xz
 from .forms import require
 
-__all__ = ['BZ2', 'GZIP', 'LZMA', 'Stream', 'XZ', 'ZFILE', 'ZLIB', 'ZSTD']
+__all__ = ['BLOSC', 'BZ2', 'GZIP', 'LZ4', 'LZMA', 'Stream', 'XZ', 'ZFILE', 'ZLIB', 'ZSTD']
 
 _FNAME = 8
 _EMPTY = bytes(18)
@@ -118,6 +118,17 @@ def _zstd(packed: Blob) -> None:
     require(not head[4] & 0b11011, 'a dictionary, or a bit that no writer sets', 4)
 
 
+def _lz4(packed: Blob) -> None:
+    head = packed.read(0, 6)
+    require(len(head) == 6 and head[:4] == b'\x04\x22\x4d\x18', 'no header of lz4')
+    require(head[4] & 0b11000011 == 0b01000000, 'another version, a dictionary, or a bit that no writer sets', 4)
+    require(head[5] in (0x40, 0x50, 0x60, 0x70), 'a size of blocks that no writer sets', 5)
+
+
+def _blosc(packed: Blob) -> None:
+    require(packed.read(3, 1) != b'\0', 'items without a size', 3)
+
+
 def _zfile(packed: Blob) -> None:
     require(_ZFILE.fullmatch(packed.read(0, _ZFILE_HEADER)) is not None, 'no header of joblib before 0.10')
 
@@ -179,6 +190,12 @@ def _is_zlib(head: bytes) -> bool:
         return False
 
 
+def _is_blosc(blob: Blob, head: bytes) -> bool:
+    """Whether a chunk of Blosc begins so, by its versions and by its size, and can be unpacked here. (There is no other sign, and most chunks hold
+    numbers.)"""
+    return head[:2] == b'\2\1' and int.from_bytes(head[12:16], 'little') == blob.size and module_of(BLOSC_MODULES) is not None
+
+
 # --- Where they begin, and the sizes in their headers ---
 
 def _start_of_zfile(packed: Blob) -> int:
@@ -202,4 +219,6 @@ LZMA = Stream(unpack_lzma, _lzma, size_in_header=_size_of_lzma, has_several=Fals
               is_weak=True, is_any=True)
 ZLIB = Stream(inflate_zlib, _zlib, takes=lambda blob, head: _is_zlib(head), firsts=_BEGINS_ZLIB, is_weak=True, behind_few=rb'\x78[\x01\x5e\x9c\xda]')
 ZSTD = Stream(Zstd, _zstd, behind_few=rb'\x28\xb5\x2f\xfd')
+LZ4 = Stream(Lz4, _lz4, behind_few=rb'\x04\x22\x4d\x18')
+BLOSC = Stream(Blosc, _blosc, has_several=False, takes=_is_blosc, firsts=frozenset(b'\2'))
 ZFILE = Stream(inflate_zlib, _zfile, _start_of_zfile, _size_of_zfile, is_weak=True)

@@ -9,7 +9,7 @@ import re
 from typing import Any, Dict, List, NamedTuple, Optional, Sequence, Tuple
 
 from ...hints import OLD_TORCH as MAGIC
-from ...texts import persistent_lines, storage_of
+from ...texts_of_calls import persistent_lines, storage_of
 from ..blobs import Blob, Budget
 from .forms import Member, require, wrong
 from .pickles import Global, PDict, PList, Pickle, read_pickle

@@ -14,7 +14,8 @@ from typing import Iterator, List, Optional, Sequence
 
 from ...errors import PicklestepError
 from ...program import Process, time_to_wait
-from ...texts import before_headings, lines_with_offsets, lowered
+from ...texts import lines_with_offsets
+from ...texts_of_calls import before_headings, lowered
 from ..blobs import Budget, BytesBlob, Limits, spooled
 from ..reading import Asked, Enough, Summary, calls_words
 from ..walk import stops_at_end

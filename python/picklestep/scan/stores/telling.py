@@ -54,8 +54,7 @@ PREFIX = 80
 _PROTO = re.compile(rb'\x80[\x02-\x05]')
 
 # How packed bytes begin, and base64 or hexadecimal of a pickle with PROTO or of packed bytes.
-_LZ4 = rb'\x04\x22\x4d\x18'
-_PACKED = re.compile(b'(?=%b)' % b'|'.join([*(each.stream.behind_few for each in PACKED if each.stream and each.stream.behind_few), _LZ4]))
+_PACKED = re.compile(b'(?=%b)' % b'|'.join(each.stream.behind_few for each in PACKED if each.stream and each.stream.behind_few))
 _AS_TEXT = re.compile(rb'gA[I-X]|eJ[wxyz0-3]|eN[o-r]|eA[EF]|H4sI|800[2-5][2-9][0-9a-fA-F]|1[fF]8[bB]08|78(?:01|5[eE]|9[cC]|[dD][aA])')
 _JSON = re.compile(rb'(?:\xef\xbb\xbf)?[ \t\r\n]*[{\["]')
 

@@ -5,7 +5,6 @@ Most values are small and there are many, so those that read as pickles wait, an
 
 from __future__ import annotations
 
-from concurrent.futures import Future, ThreadPoolExecutor
 from typing import TYPE_CHECKING, Callable, Iterator, List, NamedTuple, Optional, Sequence, Set, Tuple
 
 from ..begins import HEAD
@@ -28,6 +27,7 @@ from .long_texts import LongText
 from .telling import LEAST, PREFIX, is_json, may_hold, packed_places, prefixes, stands_for_bytes
 
 if TYPE_CHECKING:
+    from concurrent.futures import Future
     from ..looking import Looker
 
 __all__ = ['SMALL', 'Values', 'key_name', 'not_looked_at']
@@ -155,6 +155,7 @@ class Values:
         self._found: Set[int] = set()
         self._waiting: List[_Waiting] = []
         # While the program reads, the next values are looked at.
+        from concurrent.futures import ThreadPoolExecutor  # (a file without values needs none)
         self._background = ThreadPoolExecutor(1)
         self._asked: List[_Waiting] = []
         self._answers: 'Optional[Future[List[Optional[Summary]]]]' = None

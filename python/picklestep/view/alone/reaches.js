@@ -64,8 +64,8 @@ class Reaches {
     else this.readEnd(at);
   }
 
-  // The counts, the container that the bytes begin like, whether an import leads to the unpickler, and a line for each part: what loaders may
-  // reach where this reading has ended.
+  // The counts, the container that the bytes begin like, whether an import leads to the unpickler, a line for each part: what loaders may
+  // reach where this reading has ended, and whether frames may be mixed.
   readEnd(from) {
     let heading = null;
     for (let at = from; at < this.lines.length; at += 1) {
@@ -77,6 +77,8 @@ class Reaches {
       if (container && !heading) this.behind.push(`begins like a container: ${container} (picklestep scan looks into it)`);
       const warning = closingOf([line], 'warning');
       if (warning && !heading) this.behind.push(`warning: ${warning}`);
+      const unsure = closingOf([line], 'unsure');
+      if (unsure && unsure.startsWith('U3 ')) this.behind.push(`unsure: ${unsure}`);
       if (counts && !heading) this.counts = counts;
       else if (counts) this.behind.push(`${heading}: ${counts[0]} imports, ${counts[1]} calls (picklestep calls shows them)`);
     }
