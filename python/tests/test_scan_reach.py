@@ -159,6 +159,24 @@ class Given(ScanCase):
         lines = [b'charset-1.dist-info/METADATA,sha256=81,27', b'charset-1.dist-info/RECORD,,', b'charset/md.py,sha256=58,19', b'charset/utils.py,sha256=75,11']
         self.assertFalse(leads_of(BytesBlob(b'\n'.join([*lines, *lines, b'scripts-3/normalizer,sha256=16,2', b'']))))
 
+    def test_texts_that_begin_with_a_point_in_the_first_word(self) -> None:
+        """Python would import what stands before the point. Only where it is Python's own, or no text stands around it, these are pickles."""
+        texts = (b'commit.yaml: x\nfoo\n', b'cat.0.jpg 0\ncat.1.jpg 0\n', b'image_01.png,3\nimage_02.png,5\n', b'crc32.o: crc32.c zlib.h\ncast.o: cast.c\n',
+                 b'com.example.name=a b\ncom.example.size=7\n', b'i.e. two\nlines\n', b'(see\nconfig.yaml for more)\nR\n', b'(please look\ncity.of x\ny\n',
+                 b'(city.of x\nfoo\nover there', b'index.html: a\n<b>\n')
+        for text in texts:
+            with self.subTest(text):
+                self.assertTrue(picklestep.reach(text) or text.startswith(b'(please') or text.startswith(b'(see'))
+                self.assertFalse(leads_of(BytesBlob(text)))
+                self.assertEqual(notes_of(self.look('notes', text)), '')
+        for content in (b'cthis.a b\nx\n', b'(ithis.a b\nx\n', b'\x80\x02cmyapp.a b\nx\n', b'U\x01acmyapp.a b\nx\n', b'K\x01(imyapp.a b\nx\n',
+                        b"cmyapp.a b\nf\n(S'id'\ntR", b"capp/part\nf\n(S'id'\ntR"):
+            with self.subTest(content):
+                self.assertTrue(leads_of(BytesBlob(content)))
+                looks = [*Judge().looks(self.look('notes', content))]
+                self.assertTrue(looks)
+        self.assertIn('Python imports this before it raises', [*Judge().looks(self.look('notes', b'cthis.a b\nx\n'))][0].text)
+
     def test_a_find_class_that_takes_any_module(self) -> None:
         """torch's takes any module for a name with `Storage`; others answer all names with stubs. They go on behind what can be no module's."""
         asked: List[str] = []

@@ -1,14 +1,17 @@
--- Which lines and texts may name a module.
--- Source: Lib/pickle.py: `load_global`, `load_inst` (lines of UTF-8 without escapes), `load_unicode` (escapes). Lib/importlib/_bootstrap_external.py:
--- a module is a file of its name, or in one. That none has a blank or one of these signs in its name is this project's own.
-use Rattle.std.specs.Prelude.{ℕ, ◌==◌, ◌&&◌, ◌||◌, not, nat_lt, nat_le, if◌then◌else◌, Bool, true, false, List, length}
+-- Which lines and texts may name a module. Python imports what stands before the first point of a name before it looks at the rest: so a name
+-- whose beginning may be a module's is taken for one, whatever follows.
+-- Source: Lib/pickle.py: `load_global`, `load_inst` (lines of UTF-8 without escapes), `load_unicode` (escapes). Lib/importlib/_bootstrap.py:
+-- `_find_and_load_unlocked` (what is before the last point is imported first). Lib/importlib/_bootstrap_external.py: a module is a file of its name,
+-- or in one; Lib/zipimport.py: of a name with `/`, in an archive (with a backslash on Windows). That none has a blank or one of these signs in its
+-- name is this project's own.
+use Rattle.std.specs.Prelude.{ℕ, ◌==◌, ◌&&◌, ◌||◌, not, nat_lt, nat_le, if◌then◌else◌, Bool, true, false, List, [], ◌∷◌, length}
 use Rattle.std.specs.List.{list_all}
 use Rattle.pickle_names.specs.declared.coding.Coding.TheVariants as coding
 use Rattle.pickle_names.specs.Value.{decode_all}
 
--- " & ' ( ) * , /
+-- " & ' ( ) * ,
 abbrev pub is_sign : ℕ → Bool
-is_sign byte = byte == 34 || ((nat_le 38 byte && nat_le byte 42) || (byte == 44 || byte == 47))
+is_sign byte = byte == 34 || ((nat_le 38 byte && nat_le byte 42) || byte == 44)
 
 -- : ; < = > ? [ ] { | }
 abbrev pub is_bracket : ℕ → Bool
@@ -21,13 +24,19 @@ is_fine byte = nat_lt 32 byte && (not (byte == 127) && (not (is_sign byte) && no
 abbrev pub is_no_backslash : ℕ → Bool
 is_no_backslash byte = not (byte == 92)
 
+-- what is imported first ends before a point. A byte that is in no module's name ends it, too
+abbrev pub ends_head : ℕ → Bool
+ends_head byte = byte == 46 || not (is_fine byte)
+
+-- what is imported first may be a module. (Of a name that begins with a point Python looks for a file of the rest.)
+unfoldable pub head_is_fine : List ℕ → Bool
+head_is_fine [] = true
+head_is_fine (byte ∷ rest) = if ends_head byte then byte == 46 else head_is_fine rest
+
 -- a text: with a backslash it may be spelled by escapes
 abbrev pub text_names : List ℕ → Bool
-text_names text = if length text == 0 then false else if list_all is_no_backslash text then list_all is_fine text else true
+text_names text = if length text == 0 then false else if list_all is_no_backslash text then head_is_fine text else true
 
 -- a line, which has no escapes
 abbrev pub line_names : List ℕ → Bool
-line_names line =
-    if length line == 0 then false
-    else if list_all is_no_backslash line then (if list_all is_fine line then (decode_all coding.Utf8 line).good else false)
-    else false
+line_names line = if length line == 0 then false else if head_is_fine line then (decode_all coding.Utf8 line).good else false

@@ -10,7 +10,7 @@ from ..records import End
 from .allow import sets_with
 from .known import known_names
 from .names import Names
-from .reading import is_plain_name, is_worked_out
+from .reading import begun_module, is_plain_name, is_worked_out
 from .results import OF_ARGUMENTS, ODD, Call, Import, Pickle, Place, Result, Verdict
 from .severity import UNREAD, severity_of
 from .through import part_through, why_through
@@ -184,7 +184,9 @@ class Judge:
         if self._with_known and is_worked_out(name):
             return 'worked-out', 'what it imports is worked out while loading'
         if self._with_known and not is_plain_name(name):
-            return 'known', 'no dotted name, so no program imports it, and yet it may lead to any module'
+            begun = begun_module(name)
+            why = f'Python imports {begun} before it raises' if begun else 'yet it may lead to any module'
+            return 'known', f'no dotted name, so no program imports it, and {why}'
         return None
 
     def _severity(self, rule: str, name: str, member: str = '') -> str:

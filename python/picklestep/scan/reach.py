@@ -19,7 +19,7 @@ from ..records import ReachAnswer
 from ..replies import reach_answer
 from ..sources import LIMIT
 from ..texts import LinesError
-from .begins import HEAD
+from .begins import HEAD, is_begun_alone, is_text, may_be_imported
 from .blobs import Blob, Budget, BytesBlob, FileBlob, Limits, PartMet, spooled
 from .reading import Asked, Summary
 from .walk import is_opcode, length_at
@@ -120,6 +120,8 @@ def _confirmed(blob: Blob, budget: Optional[Budget], reach: Reach, is_whole: boo
     answer = _asked(blob, budget)
     if answer.names or answer.is_sure:
         return Leads(reach)
+    if _lines_of_import(blob, reach.offset):
+        return _stops(answer, blob, is_whole)
     passed = blob.read(0, reach.offset)
     if not answer.is_over and b'p' in passed and b'g' in passed and passed.count(b'\n') > 1:
         return Leads(replace(reach, is_beyond=True))  # (by such keys of the memo Python 2 may take other objects out of it)
@@ -164,11 +166,23 @@ def _behind_lines(blob: Blob, budget: Optional[Budget], is_whole: bool, answer: 
     at = _after_line(blob, end)
     while at is not None:
         answer = _answer_of(_Behind(blob, at), budget, _NOTHING, is_whole)
+        offset = at + max(0, (answer.offset or 0) - len(_TEXT))
         if answer.offset is None or answer.reached:
-            return _First(Reach(answer.line or answer.text, at + (answer.offset or len(_TEXT)) - len(_TEXT), is_beyond=True))
-        end = at + max(0, answer.offset - len(_TEXT))
+            lines = _lines_of_import(blob, offset)
+            if lines is None or may_be_imported(*lines) or not is_text(blob.read(0, min(offset, library.MOST_BYTES))):
+                return _First(Reach(answer.line or answer.text, offset, is_beyond=True))
+            return _First(None, offset, answer.whatever_follows)  # (a text)
+        end = offset
         at = _after_line(blob, end)
     return _First(None, end, answer.whatever_follows)
+
+
+def _lines_of_import(blob: Blob, offset: int) -> Optional[Tuple[bytes, bytes]]:
+    """The module and the name that stand in two lines behind an opcode there; None where it has none, or Python may import all of them."""
+    if blob.read(offset, 1) not in (b'c', b'i'):
+        return None
+    module, name, *_ = (*blob.read(offset + 1, HEAD).split(b'\n', 2), b'')
+    return (module, name) if is_begun_alone(module) else None
 
 
 def _after_line(blob: Blob, end: int) -> Optional[int]:
@@ -201,6 +215,11 @@ def _by_calls(blob: Blob, budget: Optional[Budget], is_whole: bool) -> Leads:
         pickle = answer.pickle((), blob.size)
         first = pickle.imports[0] if pickle.imports else None
         return Leads(Reach(pickle.calls[0].text, pickle.calls[0].offset) if first is None else Reach(f'an import of {first.name}', first.offset))
+    return _stops(answer, blob, is_whole)
+
+
+def _stops(answer: Summary, blob: Blob, is_whole: bool) -> Leads:
+    """Whether a loader that was given more, such as its own find_class, comes to a STOP."""
     is_cut = answer.end.code != _NO_OPCODE and (not is_whole or blob.size > library.MOST_BYTES)
     return Leads(stops=answer.end.is_stopped or is_cut or answer.trouble is not None)
 

@@ -18,7 +18,7 @@ from ..records import End, Extension, Global, Name, Ref
 from ..replies import IN_FORM, where_of
 from ..texts import closing_in, offset_of_item, with_offset
 from ..texts_of_calls import given_in, headings_in
-from .begins import is_dotted, may_be_imported
+from .begins import is_dotted, is_text, may_be_begun, may_be_imported
 from .blobs import CHUNK, Blob, Budget, FileBlob, Spooled, spooled
 from .canonical.formed import content_of
 from .canonical.items import oddness
@@ -27,7 +27,7 @@ from .canonical.joblib import SIGN
 from .item_kinds import ItemKinds
 from .results import OF_ARGUMENTS, ODD, Call, Import, Pickle, Place
 
-__all__ = ['Asked', 'Enough', 'Summary', 'calls_in_form', 'calls_words', 'is_odd_name', 'is_plain_name', 'is_worked_out', 'shown_name', 'why_unread']
+__all__ = ['Asked', 'Enough', 'Summary', 'begun_module', 'calls_in_form', 'calls_words', 'is_odd_name', 'is_plain_name', 'is_worked_out', 'shown_name', 'why_unread']
 
 # The heading of what a loader does that goes on where the lines ended.
 _GOES_ON = 'a loader may go on'
@@ -68,7 +68,12 @@ _MOST_NAMES = 4096
 _PLAIN = re.compile(r"'?[^\W\d]\w*(\.[^\W\d]\w*)*('? #[0-9]+)?")
 # (A folder may be named so, and Python imports from it.)
 _ODD = re.compile(r"'(?=[^']*[^\W\d])[\w.+@-]+' '?[^\W\d]\w*(\.[^\W\d]\w*)*'?")
+# A module that is none, and what Python imports of it.
+_BEGUN = re.compile(r"'([\w+@-]+)\.[\w.+@-]*[^\w.+@'-]")
 _WORKED_OUT = re.compile(r'^#| #[0-9]+$|^ext ')
+
+# Opcodes that import by lines, as texts have them; and one that calls, as none has it behind such lines.
+_OF_LINES, _REDUCE = (b'c', b'i'), b'R'
 
 _LEGACY_TORCH = b'\x80\x02' + OLD_TORCH + b'.'
 
@@ -105,15 +110,24 @@ class Summary:
         self._is_over = False
         # Whether all imports so far cannot be there, of which texts have many: then nothing that is called or filled shows a pickle.
         self._is_doubtful: Optional[bool] = None
+        # The first such import of which a loader imports what begins the module's name, with its parts; and the first call so far.
+        self._begun_import: Optional[Tuple[int, Tuple[str, str]]] = None
+        self._doubtful_call: Optional[int] = None
         self._kinds = ItemKinds()
         # The first call of something that is given to it by arguments which are not shown.
         self._hidden: Optional[Tuple[int, str, str]] = None
         self.oddness = ''
 
-    def ask_oddness(self, blob: Blob, budget: Budget) -> None:
-        """Asks the bytes where lines do not show whether what numpy gets fits, or what loaders call."""
+    def ask(self, blob: Blob, budget: Budget) -> None:
+        """Asks the bytes where lines do not show whether what numpy gets fits, or what loaders call, or whether this is a text."""
+        if self._begun_import is not None:
+            offset, parts = self._begun_import
+            if not is_text(blob.read(0, offset)) or blob.read(offset, 1) not in _OF_LINES:
+                self.names.add(parts)
+        if self._doubtful_call is not None and blob.read(self._doubtful_call, 1) == _REDUCE:
+            self.is_sure = True
         if self._kinds.unsure is not None and (self._kinds.of_numpy or self._kinds.makes_texts or names_methods(blob)):
-            self.oddness = oddness(blob, budget, self._kinds.of_numpy)
+            self.oddness = oddness(blob, budget, self._kinds.of_numpy, self._kinds.makes_texts)
 
     @property
     def is_over(self) -> bool:
@@ -225,11 +239,20 @@ class Summary:
             self._is_over = self._is_over or self._part != '' and known.is_impossible
             self._is_doubtful = known.is_impossible and self._is_doubtful is not False
         if not self._is_over:
+            self._keep_doubts(what, known, offset_of(match))
             self.is_sure = self.is_sure or (known.can_be_there if what in _IMPORTS else what not in _WEAK and not self._is_doubtful)
-            self.names.update([known.parts] if what in _IMPORTS and known.parts is not None else [])
+            self.names.update([known.parts] if what in _IMPORTS and known.parts is not None and not known.is_impossible else ())
         found = self._found[what, name, self._part] = _Found(what, known.shown, self._place(offset_of(match)), text, self._part,
                                                            member=known.member)
         return found
+
+    def _keep_doubts(self, what: str, known: '_Known', offset: int) -> None:
+        """Keeps the first import and the first call of what no module has, where the bytes decide whether they are a pickle."""
+        if self._is_doubtful and what in _IMPORTS and known.begins and self._begun_import is None:
+            assert known.parts is not None
+            self._begun_import = offset, known.parts
+        if self._is_doubtful and what == 'call' and self._doubtful_call is None:
+            self._doubtful_call = offset
 
     def _keep_line(self, match: 're.Match[str]') -> None:
         """Keeps a whole line."""
@@ -302,13 +325,14 @@ class _Found:
 @dataclass(frozen=True)
 class _Known:
     """What is known of a name: how it is shown, whether its import shows that the bytes are a pickle, its member where that has a point, and its
-    parts where a loader may import something by them. It is impossible where it has parts by which none does."""
+    parts. It is impossible where no loader imports something by these, unless it `begins` with a module."""
 
     shown: str
     can_be_there: bool
     member: str = ''
     parts: Optional[Tuple[str, str]] = None
     is_impossible: bool = False
+    begins: bool = False
 
 
 def _known(name: Optional[Name]) -> _Known:
@@ -322,7 +346,7 @@ def _known(name: Optional[Name]) -> _Known:
     module, named = (part if isinstance(part, bytes) else b'_' for part in (name.module, name.name))
     parts = module.decode('utf-8', 'backslashreplace'), named.decode('utf-8', 'backslashreplace')
     is_possible = may_be_imported(module, named)
-    return _Known(shown_name(name), is_dotted(module) and is_possible, member, parts if is_possible else None, not is_possible)
+    return _Known(shown_name(name), is_dotted(module) and is_possible, member, parts, not is_possible, may_be_begun(module))
 
 
 _NO_NAME = _Known('', False)
@@ -393,7 +417,7 @@ class Asked:
                 summary.take(text[at:at + CHUNK] for at in range(0, len(text), CHUNK))
             except Enough as limit:
                 summary.trouble = f'{limit}: the rest of it is not looked at'
-        summary.ask_oddness(self._blob, budget)
+        summary.ask(self._blob, budget)
         return summary
 
     def offset_of_item(self, item: int, budget: Budget) -> Optional[int]:
@@ -484,6 +508,16 @@ def is_odd_name(name: str) -> bool:
     [True, False, False]
     """
     return _ODD.fullmatch(name) is not None
+
+
+def begun_module(name: str) -> str:
+    """What Python imports of a name that is shown, if its module is none: what stands before the first point.
+
+    >>> begun_module("'this.a b' 'x'"), begun_module("'lib-dynload._ctypes' 'dlopen'"), begun_module("'os ' 'x'")
+    ('this', '', '')
+    """
+    begun = _BEGUN.match(name)
+    return '' if begun is None else begun[1]
 
 
 def is_worked_out(name: str) -> bool:

@@ -1,8 +1,0 @@
--- What is left decides.
-use Rattle.std.proofs.Common.{◌≡◌, drop}
-use Rattle.std.specs.List.{list_all}
-use Rattle.pickle_reach.specs.Names.{is_fine}
-use Rattle.pickle_reach.proofs.name.are_fine.Given as goal
-
-abbrev pub invariant-loop-byte : goal.invariant-loop-byte
-invariant-loop-byte l = list_all is_fine (drop l.byte-index l.bytes) ≡ list_all is_fine l.bytes
