@@ -40,7 +40,7 @@ use Rattle.pickle_allow.specs.declared.list.Entry.{Entry}
 use Rattle.pickle_allow.specs.Allow.{Source, may_find, may_use}
 use Rattle.pickle_allow.specs.Source.{line_text, literal_text, source_at}
 use Rattle.pickle_allow.specs.Arguments.{may_be_given, may_be_set}
-use Rattle.pickle_gate.specs.Gate.{protocol_of, sources, has_state, is_of_ready, may_make, may_happen, is_allowed_on, is_allowed, first_forbidden}
+use Rattle.pickle_gate.specs.Gate.{protocol_of, sources, is_of_ready, may_be_state, may_change, Past, past_at, may_make, may_happen, is_allowed_on, is_allowed, first_forbidden}
 use Rattle.gate_laws.specs.Permitted.{name_text, value_source, permits}
 use Rattle.gate_laws.proofs.Walk.{both, in_either, one_of, sources_by}
 use Rattle.gate_laws.proofs.Agreeing.{Agrees, Reads, ReadsParts, use_agrees, name_found, find_given, callee_agrees}
@@ -89,21 +89,21 @@ making_permits list V proto heap from acts kind.Persistent parts a h reads e is 
 making_permits list V proto heap from acts (kind.Buffer n) parts a h reads e is = one_act list (sources_by [] acts) a (NextBuffer n) e is
 making_permits list V proto heap from acts _ parts a h reads e is = absurd is
 
-happens_permits : (list : List Entry) (V : ℕ → Value) (proto : ℕ) (from : List (Option Source)) (had : ℕ → Bool) (acts : List Act) (s t : State) (x : Option Event) (a : Act) → Agrees V from acts → ReadsMade V t.heap x
-    → may_happen list proto t.heap from had x ≡ true → IsAct a (acts_listed V proto s t x) → permits list (sources_by [] acts) a ≡ true
-happens_permits list V proto from had acts s t None a h reads e is = absurd is
-happens_permits list V proto from had acts s t (Some (event.Made id)) a h reads e is = go (slice_get t.heap id) refl e is
+happens_permits : (list : List Entry) (V : ℕ → Value) (proto : ℕ) (from : List (Option Source)) (past : Past) (acts : List Act) (s t : State) (x : Option Event) (a : Act) → Agrees V from acts → ReadsMade V t.heap x
+    → may_happen list proto t.heap from past x ≡ true → IsAct a (acts_listed V proto s t x) → permits list (sources_by [] acts) a ≡ true
+happens_permits list V proto from past acts s t None a h reads e is = absurd is
+happens_permits list V proto from past acts s t (Some (event.Made id)) a h reads e is = go (slice_get t.heap id) refl e is
   where
-    go : (y : Option Object) → slice_get t.heap id ≡ y → option_map_or (λ (o : Object). may_make list proto t.heap from o.kind o.parts && (may_be_given list proto t.heap o.kind o.parts && not (is_of_ready had o.kind o.parts))) y true ≡ true → IsAct a (option_map_or (λ (o : Object). making proto o.kind (map V o.parts)) y []) → permits list (sources_by [] acts) a ≡ true
+    go : (y : Option Object) → slice_get t.heap id ≡ y → option_map_or (λ (o : Object). may_make list proto t.heap from o.kind o.parts && (may_be_given list proto t.heap o.kind o.parts && not (is_of_ready past.had o.kind o.parts))) y true ≡ true → IsAct a (option_map_or (λ (o : Object). making proto o.kind (map V o.parts)) y []) → permits list (sources_by [] acts) a ≡ true
     go None at f g = absurd g
     go (Some o) at f g =
         making_permits list V proto t.heap from acts o.kind o.parts a h (reads o at)
-        (both (may_make list proto t.heap from o.kind o.parts) (may_be_given list proto t.heap o.kind o.parts && not (is_of_ready had o.kind o.parts)) f).0 g
-happens_permits list V proto from had acts s t (Some (event.State value target)) a h reads e is =
+        (both (may_make list proto t.heap from o.kind o.parts) (may_be_given list proto t.heap o.kind o.parts && not (is_of_ready past.had o.kind o.parts)) f).0 g
+happens_permits list V proto from past acts s t (Some (event.State value target)) a h reads e is =
     one_act list (sources_by [] acts) a (SetState (V target) (V value))
-    (use_agrees list use_of.State V from acts h target (both (may_use list use_of.State (source_at from target)) (may_be_set list proto t.heap value target && not (had target)) e).0) is
-happens_permits list V proto from had acts s t (Some (event.Filled how n target)) a h reads e is =
-    fill_permits list V from acts how target (map V (take (objects_in how n) (taken s t))) (nat_lt 0 n) a h (both (may_use list use_of.Fill (source_at from target)) (not (had target)) e).0 is
+    (use_agrees list use_of.State V from acts h target (both (may_use list use_of.State (source_at from target)) (may_be_set list proto t.heap value target && (may_be_state past.named t.heap value && may_change past target)) e).0) is
+happens_permits list V proto from past acts s t (Some (event.Filled how n target)) a h reads e is =
+    fill_permits list V from acts how target (map V (take (objects_in how n) (taken s t))) (nat_lt 0 n) a h (both (may_use list use_of.Fill (source_at from target)) (may_change past target) e).0 is
 
 -- ---- what becomes of the heap
 
@@ -230,12 +230,12 @@ all_allowed list d (suc n) e k less =
 
 -- the event of an item that is allowed may happen
 may_event : (list : List Entry) (V : ℕ → Value) (d : Contents) (n : ℕ) (a : Act) (i : ItemOf V d n a) → is_allowed list d i.place ≡ true
-    → may_happen list (protocol_of d) i.after.heap (sources d i.place) (has_state d i.place) (event_of (row_of i.code) (before_of (fresh i.before)) i.after) ≡ true
+    → may_happen list (protocol_of d) i.after.heap (sources d i.place) (past_at d i.place) (event_of (row_of i.code) (before_of (fresh i.before)) i.after) ≡ true
 unfolding is_allowed
 may_event list V d n a i e =
-    sym (ap (λ (x : Option Operation). is_allowed_on list (protocol_of d) (sources d i.place) (has_state d i.place) x (run (start d.many) (ops_of d) i.place) (run (start d.many) (ops_of d) (suc i.place))) i.there
-    ∙ ap (λ (y : Option State). is_allowed_on list (protocol_of d) (sources d i.place) (has_state d i.place) (Some i.code) y (run (start d.many) (ops_of d) (suc i.place))) i.runs
-    ∙ ap (λ (z : Option State). is_allowed_on list (protocol_of d) (sources d i.place) (has_state d i.place) (Some i.code) (Some i.before) z) i.runs_on)
+    sym (ap (λ (x : Option Operation). is_allowed_on list (protocol_of d) (sources d i.place) (past_at d i.place) x (run (start d.many) (ops_of d) i.place) (run (start d.many) (ops_of d) (suc i.place))) i.there
+    ∙ ap (λ (y : Option State). is_allowed_on list (protocol_of d) (sources d i.place) (past_at d i.place) (Some i.code) y (run (start d.many) (ops_of d) (suc i.place))) i.runs
+    ∙ ap (λ (z : Option State). is_allowed_on list (protocol_of d) (sources d i.place) (past_at d i.place) (Some i.code) (Some i.before) z) i.runs_on)
     ∙ e
 
 -- the number of the object that an event makes
@@ -280,7 +280,7 @@ item_permits list V d n a acts i proto e h reads =
     let heap : HeapOf (row_of i.code) (fresh i.before) i.after = subst (λ (t : State). HeapOf (row_of i.code) (fresh i.before) t) leads (heap_of (row_of i.code) (kind_of i.code) i.place (fresh i.before)) in
     let x : Option Event = event_of (row_of i.code) (before_of (fresh i.before)) i.after in
     let fresh_reads : Reads V (fresh i.before).heap = subst (λ (l : List Object). Reads V l) (sym (fresh_heap i.before)) reads in
-    happens_permits list V (protocol_of d) (sources d i.place) (has_state d i.place) acts (fresh i.before) i.after x a h (reads_made V (row_of i.code) (fresh i.before) i.after x refl heap fresh_reads) (may_event list V d n a i e)
+    happens_permits list V (protocol_of d) (sources d i.place) (past_at d i.place) acts (fresh i.before) i.after x a h (reads_made V (row_of i.code) (fresh i.before) i.after x refl heap fresh_reads) (may_event list V d n a i e)
     (subst (λ (p : ℕ). IsAct a (acts_listed V p (fresh i.before) i.after x)) proto i.acts)
 
 -- what finds something does so by the protocol of its item

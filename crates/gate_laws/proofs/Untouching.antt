@@ -10,12 +10,14 @@ use Rattle.pickle_loader.specs.Environment.{Act, Find, World}
 use Rattle.pickle_loader.specs.FindClass.{find_class}
 use Rattle.pickle_loader.specs.Bytes.{Loading, load_next, load_bytes}
 use Rattle.pickle_loader.specs.CLoad.{COnward, c_load_on, c_load_way}
+use Rattle.pickle_loader.specs.ShownFile.{CLoading, c_load_next, c_load_file}
 use Rattle.pickle_allow.specs.declared.list.Entry.{Entry}
 use Rattle.pickle_allow.specs.Allow.{Source, may_find}
 use Rattle.gate_laws.specs.Permitted.{name_text, found, found_by, answer_source, permits, permits_all}
-use Rattle.gate_laws.specs.Untouched.{import_leads, act_leads, LeadsNowhere, touched, Untouched, acts_loaded, acts_loaded_in_c, NothingIsTouched, NothingIsTouchedInC}
+use Rattle.gate_laws.specs.Untouched.{import_leads, act_leads, LeadsNowhere, touched, Untouched, acts_loaded, acts_loaded_in_c, acts_loaded_of_a_file, NothingIsTouched, NothingIsTouchedInC, NothingIsTouchedInAFile}
 use Rattle.gate_laws.proofs.Law.{only_what_is_allowed}
 use Rattle.gate_laws.proofs.LawC.{only_what_is_allowed_in_c}
+use Rattle.gate_laws.proofs.Files.{only_what_is_allowed_in_a_file}
 
 -- ---- permitted acts
 
@@ -57,6 +59,10 @@ c_load_goes : (w : World) (way : Way) (bytes : List ℕ) (n : ℕ) → c_load_wa
 unfolding c_load_way
 c_load_goes w way bytes n = refl
 
+file_goes : (w : World) (shows : ℕ → ℕ) (bytes : List ℕ) (n : ℕ) → c_load_file w shows pickles.First bytes (suc n) ≡ c_load_next w shows pickles.First (c_load_file w shows pickles.First bytes n)
+unfolding c_load_file
+file_goes w shows bytes n = refl
+
 pub nothing_is_touched : NothingIsTouched
 nothing_is_touched list bytes p nowhere w touch alone n =
     untouched_by acts_loaded (load_next w false) touch (load_bytes w false bytes) alone (load_goes w bytes) (λ m. none_leads list nowhere [] (acts_loaded (load_bytes w false bytes m)) (only_what_is_allowed list bytes p w m)) n
@@ -68,3 +74,8 @@ nothing_is_touched_in_c list bytes p nowhere w touch alone n = (
   untouched_by acts_loaded_in_c (c_load_on w (buffering pickles.First)) touch (c_load_way w (buffering pickles.First) bytes) alone (c_load_goes w (buffering pickles.First) bytes)
       (λ m. none_leads list nowhere [] (acts_loaded_in_c (c_load_way w (buffering pickles.First) bytes m)) (only_what_is_allowed_in_c list bytes p w m).1) n,
 )
+
+pub nothing_is_touched_in_a_file : NothingIsTouchedInAFile
+nothing_is_touched_in_a_file list bytes p nowhere w shows touch alone n =
+    untouched_by acts_loaded_of_a_file (c_load_next w shows pickles.First) touch (c_load_file w shows pickles.First bytes) alone (file_goes w shows bytes)
+    (λ m. none_leads list nowhere [] (acts_loaded_of_a_file (c_load_file w shows pickles.First bytes m)) (only_what_is_allowed_in_a_file list bytes p w shows m)) n

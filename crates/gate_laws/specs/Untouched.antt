@@ -14,6 +14,7 @@ use Rattle.pickle_loader.specs.FindClass.{find_class}
 use Rattle.pickle_loader.specs.Dispatch.{acts_of}
 use Rattle.pickle_loader.specs.Bytes.{Loading, load_next, load_bytes}
 use Rattle.pickle_loader.specs.CLoad.{COnward, seen_loaded, c_load_on, c_load_way}
+use Rattle.pickle_loader.specs.ShownFile.{CLoading, c_load_next, c_load_file}
 use Rattle.pickle_allow.specs.declared.list.Entry.{Entry}
 use Rattle.pickle_allow.specs.Allow.{is_in}
 use Rattle.pickle_allow.specs.Source.{dotted}
@@ -53,6 +54,9 @@ acts_loaded x = acts_of x.now
 abbrev pub acts_loaded_in_c : COnward → List Act
 acts_loaded_in_c x = acts_of (seen_loaded x.now)
 
+abbrev pub acts_loaded_of_a_file : CLoading → List Act
+acts_loaded_of_a_file x = acts_of (seen_loaded x.now)
+
 -- ---- the law
 
 -- whatever else such an environment may do, the unpickler in Python loads bytes that pass as if it reached it by its answers alone: so the laws about
@@ -67,3 +71,9 @@ NothingIsTouchedInC = (list : List Entry) (bytes : List ℕ) → Passes list byt
     → (n : ℕ)
     → (touched (c_load_on w (ignoring pickles.First)) touch (c_load_way w (ignoring pickles.First) bytes 0) n ≡ c_load_way w (ignoring pickles.First) bytes n)
     × (touched (c_load_on w (buffering pickles.First)) touch (c_load_way w (buffering pickles.First) bytes 0) n ≡ c_load_way w (buffering pickles.First) bytes n)
+
+-- and so does the one in C from a file that shows bytes ahead, however many at each of its turns: what is left alone is its input buffer and the file too
+abbrev pub NothingIsTouchedInAFile : Type 0
+NothingIsTouchedInAFile = (list : List Entry) (bytes : List ℕ) → Passes list bytes → LeadsNowhere list → (w : World) (shows : ℕ → ℕ) (touch : CLoading → CLoading)
+    → Untouched acts_loaded_of_a_file touch
+    → (n : ℕ) → touched (c_load_next w shows pickles.First) touch (c_load_file w shows pickles.First bytes 0) n ≡ c_load_file w shows pickles.First bytes n

@@ -1,7 +1,7 @@
 //! Laws of the definitions. The functions do nothing: what they ensure holds of all lists, all bytes and all environments.
 
-ghost use Rattle.gate_laws.specs.Laws.{ImportsAreInTheList, UsesAreGranted, OnlyWhatIsAllowed, OnlyWhatIsAllowedInC, OnlyWhatIsAllowedInAFile, OnlyWhatIsAllowedOfAPipe, StatesComeLast};
-ghost use Rattle.gate_laws.specs.Untouched.{NothingIsTouched, NothingIsTouchedInC};
+ghost use Rattle.gate_laws.specs.Laws.{ImportsAreInTheList, UsesAreGranted, OnlyWhatIsAllowed, OnlyWhatIsAllowedInC, OnlyWhatIsAllowedInAFile, OnlyWhatIsAllowedOfAPipe, StatesComeLast, StatesArePlain, MakersStay};
+ghost use Rattle.gate_laws.specs.Untouched.{NothingIsTouched, NothingIsTouchedInC, NothingIsTouchedInAFile};
 
 /// Among permitted acts each import is of a name in the list.
 pub fn imports_are_in_the_list()
@@ -34,9 +34,20 @@ pub fn only_what_is_allowed_of_a_pipe()
     ensures { OnlyWhatIsAllowedOfAPipe }
 {}
 
-/// In a pickle that passes an object gets its state once, after its items: behind it no item gives it a state or items, or makes a new instance of it.
+/// In a pickle that passes an object gets its state once, after its items: behind it no item gives it a state or items, or makes an instance of it; nor
+/// does one do so with what was made of it.
 pub fn states_come_last()
     ensures { StatesComeLast }
+{}
+
+/// In a pickle that passes what has attributes by a state is no state of another object, and no half of one that is a pair.
+pub fn states_are_plain()
+    ensures { StatesArePlain }
+{}
+
+/// In a pickle that passes no item gives a state or items to an object of which an item before it made something.
+pub fn makers_stay()
+    ensures { MakersStay }
 {}
 
 /// Bytes that pass by a list of which no name leads to the unpickler are loaded as if no environment could reach it but by its answers, where the
@@ -48,4 +59,9 @@ pub fn nothing_is_touched()
 /// So they are by the unpickler in C, from bytes or from a stream.
 pub fn nothing_is_touched_in_c()
     ensures { NothingIsTouchedInC }
+{}
+
+/// So they are by the unpickler in C from a file that shows bytes ahead, however many.
+pub fn nothing_is_touched_in_a_file()
+    ensures { NothingIsTouchedInAFile }
 {}

@@ -4,7 +4,8 @@
 mod laws;
 
 pub use laws::{
-    imports_are_in_the_list, nothing_is_touched, nothing_is_touched_in_c, only_what_is_allowed,
-    only_what_is_allowed_in_a_file, only_what_is_allowed_in_c, only_what_is_allowed_of_a_pipe,
-    states_come_last, uses_are_granted,
+    imports_are_in_the_list, makers_stay, nothing_is_touched, nothing_is_touched_in_a_file,
+    nothing_is_touched_in_c, only_what_is_allowed, only_what_is_allowed_in_a_file,
+    only_what_is_allowed_in_c, only_what_is_allowed_of_a_pipe, states_are_plain, states_come_last,
+    uses_are_granted,
 };

@@ -28,6 +28,8 @@ pub use laws::no_word_is_an_import;
 pub use limit::limits_of;
 pub use list::{Entry, Use, Uses};
 pub use listing::Listing;
+pub use named::arguments_of;
 pub use names::{import_name, line_text, part_text};
 pub use read::read_list;
+pub use takes::is_held;
 pub use word::extension_word;

@@ -204,7 +204,7 @@ fn other_parts(parts: &[ObjId]) -> &[ObjId]
 }
 
 /// The arguments of a call that made an object, if they are a tuple, and have no names.
-pub(crate) fn arguments_of<'a, M: Inspect>(machine: &'a M, look: Look<'a>) -> Option<&'a [ObjId]>
+pub fn arguments_of<'a, M: Inspect>(machine: &'a M, look: Look<'a>) -> Option<&'a [ObjId]>
     ensures { option_map (λ t. t.now) result ≡ arguments_of (M.state machine.now).heap (kind_view look.entry.kind) look.entry.parts.now }
 {
     match look.kind {

@@ -183,7 +183,7 @@ fn is_text_fraction(kind: KindRef<'_>) -> bool
 }
 
 /// Whether it is an object that the pickle made.
-fn is_held(kind: KindRef<'_>) -> bool
+pub fn is_held(kind: KindRef<'_>) -> bool
     ensures { result ≡ is_held (kind_view kind.entry) }
 {
     match kind {

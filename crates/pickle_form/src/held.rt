@@ -689,6 +689,7 @@ impl Held {
 
     /// Does what an opcode does that makes an object of this role, if it makes one, in a pickle of at least this protocol; or says why no
     /// pickler does that. It fails only where memory runs out.
+    #[inline(always)]
     pub fn take(
         &mut self,
         protocol: u64,

@@ -459,6 +459,7 @@ impl Run {
     }
 
     /// Reads an opcode, of which this is the last protocol: why no pickler writes it behind these, if none does. Else it counts among them.
+    #[inline(never)]
     fn take_any(&mut self, op: &OpRef<'_>, last: u64) -> Option<Reason>
         requires last { last ≡ last_protocol op.now.opcode op.now.arg }
         requires small { self.old.loose + size_of op.now < 2 ^ 63 }

@@ -42,6 +42,7 @@ impl FormSoFar {
 
     /// Reads the next opcode, whose row this is: why no pickler writes it here, if none does. Else it counts among those that were read. It
     /// fails only where memory runs out.
+    #[inline(always)]
     pub fn take(&mut self, op: &OpRef<'_>, row: Row) -> Result<Option<Reason>, AllocError>
         requires row { row ≡ row_of op.now }
         requires small { self.old.run.loose + size_of op.now < 2 ^ 63 }

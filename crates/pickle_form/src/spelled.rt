@@ -204,6 +204,7 @@ fn number_in(form: Form, op: &OpRef<'_>) -> u64
 }
 
 /// How an opcode with its argument is spelled.
+#[inline(always)]
 pub(crate) fn spelling_of(op: &OpRef<'_>) -> Spelled
     ensures { result ≡ spelling_of op.now.opcode op.now.arg }
 {

@@ -1,7 +1,7 @@
 -- The loop of the gate: what is kept while it goes over the items, and what it says.
 use Rattle.std.proofs.Common.{◌≡◌, ℕ, zero, suc, ◌+◌, ◌-◌, ◌<◌, ◌≤◌, Bool, true, false, List, [], ◌∷◌, ◌++◌, length, drop, Option, Some, None, Ok, refl, sym, ap, ap₂, subst, ◌∙◌, inl, inr, add-one, arith, length-append}
-use Rattle.std.specs.Prelude.{◌==◌, ◌||◌, not, slice_get, if◌then◌else◌, ⊤}
-use Rattle.std.proofs.lemmas.Bool.{lt-ltb, le-ltb, ne_eqb, or_cases, false_from_ne_true}
+use Rattle.std.specs.Prelude.{◌==◌, ◌&&◌, ◌||◌, not, slice_get, if◌then◌else◌, ⊤}
+use Rattle.std.proofs.lemmas.Bool.{lt-ltb, le-ltb, eq-eqb, ne_eqb}
 use Rattle.std.proofs.lemmas.List.{drop_all}
 use Rattle.pickle_ops.specs.Spelling.{Operation, size_of}
 use Rattle.pickle_ops.specs.Object.{Object}
@@ -28,17 +28,17 @@ use Rattle.pickle_form.specs.declared.reason.Reason.{Reason}
 use Rattle.pickle_form.specs.declared.reason.Other.{Other}
 use Rattle.pickle_form.specs.Form.{Before, end_reason, after, reason_of, at_place, other_here, first_from, first_other}
 use Rattle.pickle_allow.specs.declared.list.Entry.{Entry}
-use Rattle.pickle_allow.specs.declared.grant.Grant.{Grant}
 use Rattle.pickle_allow.specs.Allow.{Source}
 use Rattle.pickle_allow.specs.Source.{source_at, source_of, with_more}
+use Rattle.pickle_gate.specs.declared.packed.Kept.{Kept}
 use Rattle.pickle_gate.specs.declared.verdict.Verdict.TheVariants as verdict
 use Rattle.pickle_gate.specs.declared.judge.Made.TheVariants as made
-use Rattle.pickle_gate.specs.Gate.{protocol_said, protocol_of, sources, sources_behind, event_on, event_at, gives_state, has_state, may_happen, is_allowed_on, is_allowed, first_forbidden}
-use Rattle.pickle_gate.specs.Kept.{kept_of, if_ready, granted, AreKept, judged_event, ready_by, kept_behind, protocol_here, judged, event_source}
+use Rattle.pickle_gate.specs.Gate.{protocol_said, protocol_of, sources, sources_behind, event_on, event_at, heap_of, heap_at, maker_by, part_is, is_this, gives_state, has_state, has_made, names_by, is_named, Past, past_at, may_happen, is_allowed_on, is_allowed, first_forbidden}
+use Rattle.pickle_gate.specs.Kept.{nothing_kept, kept_of, kept_at, AreKept, judged_event, ready_by, used_by, kept_behind, protocol_here, judged, event_source}
 use Rattle.pickle_gate.specs.Verdict.{in_form, verdict_by, verdict_to, verdict_of}
 use Rattle.pickle_gate.proofs.Judged.{kept_is_judged}
-use Rattle.pickle_gate.proofs.Growth.{Growth, Same, One, few_behind, grows, last_one, made_source}
-use Rattle.pickle_gate.proofs.Ready.{or_false, ready_length, ready_each, more_each, ready_within}
+use Rattle.pickle_gate.proofs.Growth.{Growth, Same, One, is_making, few_behind, grows, last_one, made_source}
+use Rattle.pickle_gate.proofs.Ready.{or_false, kept_past, past_with, moved, ready_length, ready_each, used_length, used_with, used_each, more_each, ready_within, maker_within}
 
 -- ---- what is kept
 
@@ -47,23 +47,18 @@ abbrev pub HasProtocol : Contents → ℕ → ℕ → Type 0
 HasProtocol d zero proto = ⊤
 HasProtocol d (suc k) proto = proto ≡ protocol_of d
 
--- what got its state is there
-abbrev pub AreThere : Contents → ℕ → Type 0
-AreThere d k = (id : ℕ) → has_state d k id ≡ true → id < length (sources d k)
-
--- the first k items were run and are allowed; this is the state that they reach, and this is granted to its objects
-pub record Far (list : List Entry) (d : Contents) (k offset : ℕ) (s : State) (proto : ℕ) (grants : List Grant) : Type 0 where
+-- the first k items were run and are allowed; this is the state that they reach, and this is kept of its objects
+pub record Far (list : List Entry) (d : Contents) (k offset : ℕ) (s : State) (proto : ℕ) (keeps : List Kept) : Type 0 where
   pub reached : run (start d.many) (ops_of d) k ≡ Some s
   pub stands : offset ≡ offset_of d k
   pub heap : length s.heap ≤ k
   pub protocol : HasProtocol d k proto
-  pub kept : AreKept list (sources d k) (has_state d k) grants
+  pub kept : AreKept list (sources d k) (past_at d k) keeps
   pub count : length (sources d k) ≡ length s.heap
-  pub ready : AreThere d k
   pub allowed : first_forbidden list d k ≡ None
 
 pub far_begins : (list : List Entry) (d : Contents) (proto : ℕ) → d.many ≡ false → Far list d 0 0 (start false) proto []
-unfolding sources has_state first_forbidden
+unfolding sources has_state has_made is_named first_forbidden
 far_begins list d proto m = record {
   reached = run_nothing (start d.many) (ops_of d) ∙ ap (λ (b : Bool). Some (start b)) m;
   stands = refl;
@@ -71,7 +66,6 @@ far_begins list d proto m = record {
   protocol = tt;
   kept = record { count = refl; each = λ id. refl };
   count = refl;
-  ready = λ id e. absurd cc;
   allowed = refl;
 }
 
@@ -91,32 +85,32 @@ event_is o k s t e = event_by s.stopped (row_of o) s t (accepted (refusal_at o s
 
 -- whether it is allowed
 allowed_is : (list : List Entry) (d : Contents) (k : ℕ) (o : Operation) (s t : State) → item_at d k ≡ Some o → run (start d.many) (ops_of d) k ≡ Some s → move o k s ≡ Ok t
-    → is_allowed list d k ≡ may_happen list (protocol_of d) t.heap (sources d k) (has_state d k) (event_of (row_of o) (before_of s) t)
+    → is_allowed list d k ≡ may_happen list (protocol_of d) t.heap (sources d k) (past_at d k) (event_of (row_of o) (before_of s) t)
 unfolding is_allowed
 allowed_is list d k o s t e r m =
-    ap (λ (x : Option Operation). is_allowed_on list (protocol_of d) (sources d k) (has_state d k) x (run (start d.many) (ops_of d) k) (run (start d.many) (ops_of d) (suc k))) e
-    ∙ ap (λ (y : Option State). is_allowed_on list (protocol_of d) (sources d k) (has_state d k) (Some o) y (run (start d.many) (ops_of d) (suc k))) r
-    ∙ ap (λ (z : Option State). is_allowed_on list (protocol_of d) (sources d k) (has_state d k) (Some o) (Some s) z) (runs_on d k o s t e r m)
-    ∙ ap (λ (x : Option Event). may_happen list (protocol_of d) t.heap (sources d k) (has_state d k) x) (sym (event_is o k s t m))
+    ap (λ (x : Option Operation). is_allowed_on list (protocol_of d) (sources d k) (past_at d k) x (run (start d.many) (ops_of d) k) (run (start d.many) (ops_of d) (suc k))) e
+    ∙ ap (λ (y : Option State). is_allowed_on list (protocol_of d) (sources d k) (past_at d k) (Some o) y (run (start d.many) (ops_of d) (suc k))) r
+    ∙ ap (λ (z : Option State). is_allowed_on list (protocol_of d) (sources d k) (past_at d k) (Some o) (Some s) z) (runs_on d k o s t e r m)
+    ∙ ap (λ (x : Option Event). may_happen list (protocol_of d) t.heap (sources d k) (past_at d k) x) (sym (event_is o k s t m))
 
 -- what comes of its event
-judged_is : (list : List Entry) (d : Contents) (k : ℕ) (o : Operation) (s t : State) (proto : ℕ) (grants : List Grant) → item_at d k ≡ Some o
-    → run (start d.many) (ops_of d) k ≡ Some s → move o k s ≡ Ok t → proto ≡ protocol_of d → AreKept list (sources d k) (has_state d k) grants
-    → judged_event list proto t.heap grants (event_of (row_of o) (before_of s) t)
-    ≡ judged list (is_allowed list d k) (event_source (protocol_of d) t.heap (sources d k) (event_of (row_of o) (before_of s) t))
-judged_is list d k o s t proto grants e r m p kept =
+judged_is : (list : List Entry) (d : Contents) (k : ℕ) (o : Operation) (s t : State) (proto : ℕ) (keeps : List Kept) → item_at d k ≡ Some o
+    → run (start d.many) (ops_of d) k ≡ Some s → move o k s ≡ Ok t → proto ≡ protocol_of d → AreKept list (sources d k) (past_at d k) keeps
+    → judged_event list proto t.heap keeps (event_of (row_of o) (before_of s) t)
+    ≡ judged list (is_allowed list d k) (event_source (protocol_of d) t.heap (sources d k) (event_of (row_of o) (before_of s) t)) (part_is (has_state d k) (maker_by t.heap (event_of (row_of o) (before_of s) t))) (part_is (is_named d k) (maker_by t.heap (event_of (row_of o) (before_of s) t)))
+judged_is list d k o s t proto keeps e r m p kept =
     let x : Option Event = event_of (row_of o) (before_of s) t in
-    ap (λ (n : ℕ). judged_event list n t.heap grants x) p
-    ∙ kept_is_judged list (protocol_of d) t.heap (sources d k) (has_state d k) grants x kept
-    ∙ ap (λ (b : Bool). judged list b (event_source (protocol_of d) t.heap (sources d k) x)) (sym (allowed_is list d k o s t e r m))
+    ap (λ (n : ℕ). judged_event list n t.heap keeps x) p
+    ∙ kept_is_judged list (protocol_of d) t.heap (sources d k) (past_at d k) keeps x kept
+    ∙ ap (λ (b : Bool). judged list b (event_source (protocol_of d) t.heap (sources d k) x) (part_is (has_state d k) (maker_by t.heap x)) (part_is (is_named d k) (maker_by t.heap x))) (sym (allowed_is list d k o s t e r m))
 
-is_good : (list : List Entry) (b : Bool) (x : Option Source) (g : Grant) → made.Allowed g ≡ judged list b x → (b ≡ true) × (g ≡ kept_of list x)
-is_good list true x g e = (refl, cc)
-is_good list false x g e = absurd cc
+is_good : (list : List Entry) (b : Bool) (x : Option Source) (r n : Bool) (g : Kept) → made.Allowed g ≡ judged list b x r n → (b ≡ true) × (g ≡ kept_of list x r false n)
+is_good list true x r n g e = (refl, cc)
+is_good list false x r n g e = absurd cc
 
-is_bad : (list : List Entry) (b : Bool) (x : Option Source) → made.Forbidden ≡ judged list b x → b ≡ false
-is_bad list true x e = absurd cc
-is_bad list false x e = refl
+is_bad : (list : List Entry) (b : Bool) (x : Option Source) (r n : Bool) → made.Forbidden ≡ judged list b x r n → b ≡ false
+is_bad list true x r n e = absurd cc
+is_bad list false x r n e = refl
 
 -- ---- the objects behind a step, and what they come of
 
@@ -134,105 +128,173 @@ event_there d k o s t e r m =
     ∙ ap (λ (z : Option State). event_on (Some o) (Some s) z) (runs_on d k o s t e r m)
     ∙ sym (event_is o k s t m)
 
-state_next : (d : Contents) (k id : ℕ) (x : Option Event) → event_at d k ≡ x → has_state d (suc k) id ≡ (has_state d k id || gives_state x id)
+heap_there : (d : Contents) (k : ℕ) (t : State) → run (start d.many) (ops_of d) k ≡ Some t → heap_at d k ≡ t.heap
+unfolding heap_at
+heap_there d k t e = ap heap_of e
+
+state_next : (d : Contents) (k id : ℕ) (heap : List Object) (x : Option Event) → heap_at d (suc k) ≡ heap → event_at d k ≡ x → has_state d (suc k) id ≡ (has_state d k id || gives_state heap (has_state d k) x id)
 unfolding has_state
-state_next d k id x e = ap (λ (y : Option Event). has_state d k id || gives_state y id) e
+state_next d k id heap x h e = ap₂ (λ (l : List Object) (y : Option Event). has_state d k id || gives_state l (has_state d k) y id) h e
 
--- the making of an object gives no state
-shown_gives : (b : Bool) (n id : ℕ) → gives_state (if b then Some (event.Made n) else None) id ≡ false
-shown_gives true n id = refl
-shown_gives false n id = refl
+made_next : (d : Contents) (k id : ℕ) (heap : List Object) (x : Option Event) → heap_at d (suc k) ≡ heap → event_at d k ≡ x → has_made d (suc k) id ≡ (has_made d k id || part_is (is_this id) (maker_by heap x))
+unfolding has_made
+made_next d k id heap x h e = ap₂ (λ (l : List Object) (y : Option Event). has_made d k id || part_is (is_this id) (maker_by l y)) h e
 
-made_gives : (heap : List Object) (n id : ℕ) (y : Option Object) → gives_state (made_as heap n y) id ≡ false
-made_gives heap n id None = refl
-made_gives heap n id (Some o) = shown_gives (is_shown heap o) n id
+named_next : (d : Contents) (k id : ℕ) (heap : List Object) (x : Option Event) → heap_at d (suc k) ≡ heap → event_at d k ≡ x → is_named d (suc k) id ≡ (is_named d k id || names_by heap (is_named d k) x id)
+unfolding is_named
+named_next d k id heap x h e = ap₂ (λ (l : List Object) (y : Option Event). is_named d k id || names_by l (is_named d k) y id) h e
 
--- with the object that was made, if one was, and the state that was given, if one was
-pub record Kept (list : List Entry) (d : Contents) (k : ℕ) (t : State) (grants : List Grant) : Type 0 where
-  pub kept : AreKept list (sources d k) (has_state d k) grants
+-- with the object that was made, if one was, and what was done
+pub record KeptThere (list : List Entry) (d : Contents) (k : ℕ) (t : State) (keeps : List Kept) : Type 0 where
+  pub kept : AreKept list (sources d k) (past_at d k) keeps
   pub count : length (sources d k) ≡ length t.heap
-  pub ready : AreThere d k
 
--- what the step gives a state is there
-ready_next : (list : List Entry) (d : Contents) (k proto : ℕ) (t : State) (grants : List Grant) (g : Grant) (x : Option Event) → event_at d k ≡ x → AreKept list (sources d k) (has_state d k) grants → AreThere d k
-    → made.Allowed g ≡ judged_event list proto t.heap grants x → (id : ℕ) → has_state d (suc k) id ≡ true → id < length (sources d k)
-ready_next list d k proto t grants g x ev kept ready good id e =
-    elim (or_cases (has_state d k id) (gives_state x id) (sym (state_next d k id x ev) ∙ e)) [
-      | inl old ↦ ready id old
-      | inr new ↦ let there : id < length grants = ready_within list proto t.heap grants x g id good new in omega (arith, there, kept.count)
-    ]
-
-kept_same : (list : List Entry) (d : Contents) (k : ℕ) (t : State) (grants : List Grant) (g : Grant) (x : Option Event) → run (start d.many) (ops_of d) (suc k) ≡ Some t → event_at d k ≡ x
-    → AreKept list (sources d k) (has_state d k) grants → length (sources d k) ≡ length t.heap → ((id : ℕ) → has_state d (suc k) id ≡ true → id < length (sources d k))
-    → Kept list d (suc k) t (kept_behind (length t.heap) g x grants)
-kept_same list d k t grants g x r ev kept n ready =
+kept_same : (list : List Entry) (d : Contents) (k : ℕ) (t : State) (keeps : List Kept) (g : Kept) (x : Option Event) → run (start d.many) (ops_of d) (suc k) ≡ Some t → event_at d k ≡ x
+    → AreKept list (sources d k) (past_at d k) keeps → length (sources d k) ≡ length t.heap → is_making x ≡ false → ((id : ℕ) → gives_state t.heap (has_state d k) x id ≡ true → id < length keeps)
+    → KeptThere list d (suc k) t (kept_behind t.heap g x keeps)
+kept_same list d k t keeps g x r ev kept n quiet within =
     let none : drop (length (sources d k)) t.heap ≡ [] = drop_all (length (sources d k)) t.heap (omega (arith, n)) in
     let same : sources d (suc k) ≡ sources d k = sources_next d k t r ∙ ap (with_more (protocol_of d) t.heap (sources d k)) none in
-    let stay : kept_behind (length t.heap) g x grants ≡ ready_by x grants = rw (le-ltb (length grants) (length t.heap) (omega (arith, n, kept.count))) refl in
+    let stay : kept_behind t.heap g x keeps ≡ ready_by t.heap x keeps = rw (le-ltb (length keeps) (length t.heap) (omega (arith, n, kept.count))) refl in
+    let heap : heap_at d (suc k) ≡ t.heap = heap_there d (suc k) t r in
     record {
       kept = record {
-        count = ap length stay ∙ ready_length x grants ∙ kept.count ∙ ap length (sym same);
+        count = ap length stay ∙ ready_length t.heap x keeps ∙ kept.count ∙ ap length (sym same);
         each = λ id.
-            ap (λ (l : List Grant). granted l id) stay
-            ∙ ready_each list (sources d k) (has_state d k) grants x kept id
-            ∙ ap₂ (λ (b : Bool) (from : List (Option Source)). if_ready b (kept_of list (source_at from id))) (sym (state_next d k id x ev)) (sym same);
+            ap (λ (l : List Kept). kept_at l id) stay
+            ∙ ready_each list (sources d k) t.heap (past_at d k) keeps x kept quiet within id
+            ∙ moved list (source_at (sources d k) id) (past_with t.heap (past_at d k) x) (past_at d (suc k)) id (sym (state_next d k id t.heap x heap ev)) (sym (made_next d k id t.heap x heap ev)) (sym (named_next d k id t.heap x heap ev))
+            ∙ ap (λ (from : List (Option Source)). kept_of list (source_at from id) (has_state d (suc k) id) (has_made d (suc k) id) (is_named d (suc k) id)) (sym same);
       };
       count = rw same n;
-      ready = λ id e. let there : id < length (sources d k) = ready id e in omega (arith, there, ap length same);
     }
 
-kept_more : (list : List Entry) (d : Contents) (k : ℕ) (t : State) (grants : List Grant) (g : Grant) (x : Option Event) → run (start d.many) (ops_of d) (suc k) ≡ Some t → event_at d k ≡ x
-    → AreKept list (sources d k) (has_state d k) grants → length t.heap ≡ length (sources d k) + 1 → x ≡ made_event t.heap (length (sources d k)) → AreThere d k
-    → g ≡ kept_of list (event_source (protocol_of d) t.heap (sources d k) x) → Kept list d (suc k) t (kept_behind (length t.heap) g x grants)
-kept_more list d k t grants g x r ev kept n made ready is =
+-- the making of an object gives a state to no other
+shown_gives : (b : Bool) (heap : List Object) (had : ℕ → Bool) (n id : ℕ) → (id ≡ n → ⊥) → gives_state heap had (if b then Some (event.Made n) else None) id ≡ false
+shown_gives true heap had n id other = ap (λ (b : Bool). b && part_is had (maker_by heap (Some (event.Made n)))) (ne_eqb n id (λ e. other (sym e)))
+shown_gives false heap had n id other = refl
+
+made_gives : (heap : List Object) (had : ℕ → Bool) (n id : ℕ) (y : Option Object) → (id ≡ n → ⊥) → gives_state heap had (made_as heap n y) id ≡ false
+made_gives heap had n id None other = refl
+made_gives heap had n id (Some o) other = shown_gives (is_shown heap o) heap had n id other
+
+-- and to it, if it is made of what has one
+shown_self : (b : Bool) (heap : List Object) (had : ℕ → Bool) (n : ℕ)
+    → gives_state heap had (if b then Some (event.Made n) else None) n ≡ part_is had (maker_by heap (if b then Some (event.Made n) else None))
+shown_self true heap had n = ap (λ (b : Bool). b && part_is had (maker_by heap (Some (event.Made n)))) (eq-eqb n n refl)
+shown_self false heap had n = refl
+
+made_self : (heap : List Object) (had : ℕ → Bool) (n : ℕ) (y : Option Object) → gives_state heap had (made_as heap n y) n ≡ part_is had (maker_by heap (made_as heap n y))
+made_self heap had n None = refl
+made_self heap had n (Some o) = shown_self (is_shown heap o) heap had n
+
+-- the same of attributes by a state
+shown_names : (b : Bool) (heap : List Object) (named : ℕ → Bool) (n id : ℕ) → (id ≡ n → ⊥) → names_by heap named (if b then Some (event.Made n) else None) id ≡ false
+shown_names true heap named n id other = ap (λ (b : Bool). b && part_is named (maker_by heap (Some (event.Made n)))) (ne_eqb n id (λ e. other (sym e)))
+shown_names false heap named n id other = refl
+
+made_names : (heap : List Object) (named : ℕ → Bool) (n id : ℕ) (y : Option Object) → (id ≡ n → ⊥) → names_by heap named (made_as heap n y) id ≡ false
+made_names heap named n id None other = refl
+made_names heap named n id (Some o) other = shown_names (is_shown heap o) heap named n id other
+
+shown_named : (b : Bool) (heap : List Object) (named : ℕ → Bool) (n : ℕ)
+    → names_by heap named (if b then Some (event.Made n) else None) n ≡ part_is named (maker_by heap (if b then Some (event.Made n) else None))
+shown_named true heap named n = ap (λ (b : Bool). b && part_is named (maker_by heap (Some (event.Made n)))) (eq-eqb n n refl)
+shown_named false heap named n = refl
+
+made_named : (heap : List Object) (named : ℕ → Bool) (n : ℕ) (y : Option Object) → names_by heap named (made_as heap n y) n ≡ part_is named (maker_by heap (made_as heap n y))
+made_named heap named n None = refl
+made_named heap named n (Some o) = shown_named (is_shown heap o) heap named n
+
+-- it is made of another
+not_self : (m : Option ℕ) (n : ℕ) → ((i : ℕ) → m ≡ Some i → i < n) → part_is (is_this n) m ≡ false
+not_self None n within = refl
+not_self (Some i) n within = let there : i < n = within i refl in ne_eqb i n (λ e. absurd (omega (arith, there, e)))
+
+kept_more : (list : List Entry) (d : Contents) (k : ℕ) (t : State) (keeps : List Kept) (g : Kept) (x : Option Event) → run (start d.many) (ops_of d) (suc k) ≡ Some t → event_at d k ≡ x
+    → AreKept list (sources d k) (past_at d k) keeps → length t.heap ≡ length (sources d k) + 1 → x ≡ made_event t.heap (length (sources d k))
+    → ((i : ℕ) → maker_by t.heap x ≡ Some i → i < length keeps)
+    → g ≡ kept_of list (event_source (protocol_of d) t.heap (sources d k) x) (part_is (has_state d k) (maker_by t.heap x)) false (part_is (is_named d k) (maker_by t.heap x)) → KeptThere list d (suc k) t (kept_behind t.heap g x keeps)
+kept_more list d k t keeps g x r ev kept n made within is =
     let from : List (Option Source) = sources d k in
     let last = last_one t.heap (length from) n in
     let o : Object = last.0 in
     let y : Option Source = source_of (protocol_of d) t.heap from o.kind o.parts in
+    let m : Option ℕ = maker_by t.heap x in
     let more : sources d (suc k) ≡ from ++ y ∷ [] = sources_next d k t r ∙ ap (with_more (protocol_of d) t.heap from) last.2 in
-    let g_is : g ≡ kept_of list y =
-    is ∙ ap (λ (z : Option Event). kept_of list (event_source (protocol_of d) t.heap from z)) made ∙ ap (kept_of list) (made_source (protocol_of d) t.heap from (length from) o last.1) in
-    let grow : kept_behind (length t.heap) g x grants ≡ grants ++ g ∷ [] = rw (lt-ltb (length grants) (length t.heap) (omega (arith, kept.count, n))) refl in
-    let had : (id : ℕ) → has_state d (suc k) id ≡ has_state d k id = λ id.
-    state_next d k id x ev
-    ∙ ap (λ (b : Bool). has_state d k id || b) (ap (λ (z : Option Event). gives_state z id) made ∙ made_gives t.heap (length from) id (slice_get t.heap (length from)))
-    ∙ or_false (has_state d k id) in
-    let no_state : has_state d k (length from) ≡ false = false_from_ne_true (has_state d k (length from)) (λ e. let there : length from < length from = ready (length from) e in omega (arith, there)) in
+    let source_is : event_source (protocol_of d) t.heap from x ≡ y =
+    ap (λ (z : Option Event). event_source (protocol_of d) t.heap from z) made ∙ made_source (protocol_of d) t.heap from (length from) o last.1 in
+    let heap : heap_at d (suc k) ≡ t.heap = heap_there d (suc k) t r in
+    let grow : kept_behind t.heap g x keeps ≡ used_by m keeps ++ g ∷ [] = rw (lt-ltb (length keeps) (length t.heap) (omega (arith, kept.count, n))) refl in
+    let used : AreKept list from (used_with (past_at d k) m) (used_by m keeps) =
+    record { count = used_length m keeps ∙ kept.count; each = used_each list from (past_at d k) keeps m kept within } in
+    let had : (id : ℕ) → (id ≡ length from → ⊥) → has_state d k id ≡ has_state d (suc k) id = λ id other.
+    sym (state_next d k id t.heap x heap ev
+    ∙ ap (λ (b : Bool). has_state d k id || b) (ap (λ (z : Option Event). gives_state t.heap (has_state d k) z id) made ∙ made_gives t.heap (has_state d k) (length from) id (slice_get t.heap (length from)) other)
+    ∙ or_false (has_state d k id)) in
+    let named : (id : ℕ) → (id ≡ length from → ⊥) → is_named d k id ≡ is_named d (suc k) id = λ id other.
+    sym (named_next d k id t.heap x heap ev
+    ∙ ap (λ (b : Bool). is_named d k id || b) (ap (λ (z : Option Event). names_by t.heap (is_named d k) z id) made ∙ made_names t.heap (is_named d k) (length from) id (slice_get t.heap (length from)) other)
+    ∙ or_false (is_named d k id)) in
+    let past : kept_at keeps (length from) ≡ nothing_kept = kept_past keeps (length from) (omega (arith, kept.count)) in
+    let nothing : nothing_kept ≡ kept_of list (source_at from (length from)) (has_state d k (length from)) (has_made d k (length from)) (is_named d k (length from)) = sym past ∙ kept.each (length from) in
+    let new_had : has_state d (suc k) (length from) ≡ part_is (has_state d k) m =
+    state_next d k (length from) t.heap x heap ev
+    ∙ ap (λ (b : Bool). b || gives_state t.heap (has_state d k) x (length from)) (sym (ap (λ (z : Kept). z.ready) nothing))
+    ∙ ap (λ (z : Option Event). gives_state t.heap (has_state d k) z (length from)) made
+    ∙ made_self t.heap (has_state d k) (length from) (slice_get t.heap (length from))
+    ∙ ap (λ (z : Option Event). part_is (has_state d k) (maker_by t.heap z)) (sym made) in
+    let new_made : has_made d (suc k) (length from) ≡ false =
+    made_next d k (length from) t.heap x heap ev
+    ∙ ap₂ (λ (a b : Bool). a || b) (sym (ap (λ (z : Kept). z.used) nothing)) (not_self m (length from) (λ i q. let there : i < length keeps = within i q in omega (arith, there, kept.count))) in
+    let new_named : is_named d (suc k) (length from) ≡ part_is (is_named d k) m =
+    named_next d k (length from) t.heap x heap ev
+    ∙ ap (λ (b : Bool). b || names_by t.heap (is_named d k) x (length from)) (sym (ap (λ (z : Kept). z.named) nothing))
+    ∙ ap (λ (z : Option Event). names_by t.heap (is_named d k) z (length from)) made
+    ∙ made_named t.heap (is_named d k) (length from) (slice_get t.heap (length from))
+    ∙ ap (λ (z : Option Event). part_is (is_named d k) (maker_by t.heap z)) (sym made) in
+    let g_is : g ≡ kept_of list y (has_state d (suc k) (length from)) (has_made d (suc k) (length from)) (is_named d (suc k) (length from)) =
+    is
+    ∙ ap (λ (z : Option Source). kept_of list z (part_is (has_state d k) m) false (part_is (is_named d k) m)) source_is
+    ∙ ap₂ (λ (h u : Bool). kept_of list y h u (part_is (is_named d k) m)) (sym new_had) (sym new_made)
+    ∙ ap (λ (b : Bool). kept_of list y (has_state d (suc k) (length from)) (has_made d (suc k) (length from)) b) (sym new_named) in
     record {
       kept = record {
-        count = omega (arith, ap length grow, length-append grants (g ∷ []), kept.count, ap length more, length-append from (y ∷ []));
+        count = omega (arith, ap length grow, length-append (used_by m keeps) (g ∷ []), used_length m keeps, kept.count, ap length more, length-append from (y ∷ []));
         each = λ id.
-            ap (λ (l : List Grant). granted l id) grow
-            ∙ more_each list from (has_state d k) grants y g kept.count kept.each no_state g_is id
-            ∙ ap₂ (λ (b : Bool) (l : List (Option Source)). if_ready b (kept_of list (source_at l id))) (sym (had id)) (sym more);
+            ap (λ (l : List Kept). kept_at l id) grow
+            ∙ more_each list from (used_with (past_at d k) m) (past_at d (suc k)) (used_by m keeps) y g (used_length m keeps ∙ kept.count) used.each had (λ i. sym (made_next d k i t.heap x heap ev)) named g_is id
+            ∙ ap (λ (l : List (Option Source)). kept_of list (source_at l id) (has_state d (suc k) id) (has_made d (suc k) id) (is_named d (suc k) id)) (sym more);
       };
       count = omega (arith, ap length more, length-append from (y ∷ []), n);
-      ready = λ id e. let there : id < length from = ready id (sym (had id) ∙ e) in omega (arith, there, ap length more, length-append from (y ∷ []));
     }
 
-kept_next : (list : List Entry) (d : Contents) (k proto : ℕ) (o : Operation) (s t : State) (grants : List Grant) (g : Grant) → run (start d.many) (ops_of d) (suc k) ≡ Some t
-    → event_at d k ≡ event_of (row_of o) (before_of s) t → AreKept list (sources d k) (has_state d k) grants → length (sources d k) ≡ length s.heap → AreThere d k
-    → Growth (row_of o) (before_of s) (length s.heap) t → made.Allowed g ≡ judged_event list proto t.heap grants (event_of (row_of o) (before_of s) t)
-    → g ≡ kept_of list (event_source (protocol_of d) t.heap (sources d k) (event_of (row_of o) (before_of s) t))
-    → Kept list d (suc k) t (kept_behind (length t.heap) g (event_of (row_of o) (before_of s) t) grants)
-kept_next list d k proto o s t grants g r ev kept n ready (Same e) good is =
+kept_next : (list : List Entry) (d : Contents) (k proto : ℕ) (o : Operation) (s t : State) (keeps : List Kept) (g : Kept) → run (start d.many) (ops_of d) (suc k) ≡ Some t
+    → event_at d k ≡ event_of (row_of o) (before_of s) t → AreKept list (sources d k) (past_at d k) keeps → length (sources d k) ≡ length s.heap
+    → Growth (row_of o) (before_of s) (length s.heap) t → made.Allowed g ≡ judged_event list proto t.heap keeps (event_of (row_of o) (before_of s) t)
+    → g ≡ kept_of list (event_source (protocol_of d) t.heap (sources d k) (event_of (row_of o) (before_of s) t)) (part_is (has_state d k) (maker_by t.heap (event_of (row_of o) (before_of s) t))) false (part_is (is_named d k) (maker_by t.heap (event_of (row_of o) (before_of s) t)))
+    → KeptThere list d (suc k) t (kept_behind t.heap g (event_of (row_of o) (before_of s) t) keeps)
+kept_next list d k proto o s t keeps g r ev kept n (Same e quiet) good is =
     let x : Option Event = event_of (row_of o) (before_of s) t in
-    kept_same list d k t grants g x r ev kept (n ∙ sym e) (ready_next list d k proto t grants g x ev kept ready good)
-kept_next list d k proto o s t grants g r ev kept n ready (One e made) good is =
-    kept_more list d k t grants g (event_of (row_of o) (before_of s) t) r ev kept (omega (arith, e, n)) (made ∙ ap (made_event t.heap) (sym n)) ready is
+    kept_same list d k t keeps g x r ev kept (n ∙ sym e) quiet (λ id q. ready_within list proto t.heap (past_at d k) keeps x g id good quiet q)
+kept_next list d k proto o s t keeps g r ev kept n (One e made) good is =
+    let x : Option Event = event_of (row_of o) (before_of s) t in
+    kept_more list d k t keeps g x r ev kept (omega (arith, e, n)) (made ∙ ap (made_event t.heap) (sym n)) (maker_within list proto t.heap keeps x g good) is
 
 -- the item is allowed
-pub far_goes_on : (list : List Entry) (d : Contents) (k offset : ℕ) (o : Operation) (s t : State) (proto p : ℕ) (grants : List Grant) (g : Grant) → Far list d k offset s proto grants
-    → item_at d k ≡ Some o → move o k s ≡ Ok t → p ≡ protocol_here k o proto → made.Allowed g ≡ judged_event list p t.heap grants (event_of (row_of o) (before_of s) t)
-    → Far list d (k + 1) (offset + size_of o) t p (kept_behind (length t.heap) g (event_of (row_of o) (before_of s) t) grants)
+pub far_goes_on : (list : List Entry) (d : Contents) (k offset : ℕ) (o : Operation) (s t : State) (proto p : ℕ) (keeps : List Kept) (g : Kept) → Far list d k offset s proto keeps
+    → item_at d k ≡ Some o → move o k s ≡ Ok t → p ≡ protocol_here k o proto → made.Allowed g ≡ judged_event list p t.heap keeps (event_of (row_of o) (before_of s) t)
+    → Far list d (k + 1) (offset + size_of o) t p (kept_behind t.heap g (event_of (row_of o) (before_of s) t) keeps)
 unfolding first_forbidden
-far_goes_on list d k offset o s t proto p grants g w e m q good =
+far_goes_on list d k offset o s t proto p keeps g w e m q good =
     let here : p ≡ protocol_of d = q ∙ protocol_is d k o proto e w.protocol in
     let x : Option Source = event_source (protocol_of d) t.heap (sources d k) (event_of (row_of o) (before_of s) t) in
-    let is = is_good list (is_allowed list d k) x g (good ∙ judged_is list d k o s t p grants e w.reached m here w.kept) in
+    let ready : Bool = part_is (has_state d k) (maker_by t.heap (event_of (row_of o) (before_of s) t)) in
+    let named : Bool = part_is (is_named d k) (maker_by t.heap (event_of (row_of o) (before_of s) t)) in
+    let is = is_good list (is_allowed list d k) x ready named g (good ∙ judged_is list d k o s t p keeps e w.reached m here w.kept) in
     let run_is : run (start d.many) (ops_of d) (suc k) ≡ Some t = runs_on d k o s t e w.reached m in
     let growth = grows o k s t m in
-    let all = kept_next list d k p o s t grants g run_is (event_there d k o s t e w.reached m) w.kept w.count w.ready growth good is.1 in
+    let all = kept_next list d k p o s t keeps g run_is (event_there d k o s t e w.reached m) w.kept w.count growth good is.1 in
     let none : first_forbidden list d (suc k) ≡ None = ap (λ (y : Option ℕ). or_here y (not (is_allowed list d k)) k) w.allowed ∙ ap (λ (b : Bool). or_here None (not b) k) is.0 in
     record {
       reached = rw (add-one k) run_is;
@@ -241,7 +303,6 @@ far_goes_on list d k offset o s t proto p grants g w e m q good =
       protocol = subst (λ (n : ℕ). HasProtocol d n p) (sym (add-one k)) here;
       kept = rw (add-one k) all.kept;
       count = rw (add-one k) all.count;
-      ready = rw (add-one k) all.ready;
       allowed = rw (add-one k) none;
     }
 
@@ -265,16 +326,16 @@ forbidden_of list d k j n h e =
     subst (λ (m : ℕ). first_forbidden list d m ≡ Some j) z (forbidden_stays list d k j (n - k) e)
 
 -- what has no state behind it is not asked
-stuck_allowed : (list : List Entry) (proto : ℕ) (from : List (Option Source)) (had : ℕ → Bool) (x : Option Operation) (y : Option State) → is_allowed_on list proto from had x y None ≡ true
-stuck_allowed list proto from had None y = refl
-stuck_allowed list proto from had (Some o) None = refl
-stuck_allowed list proto from had (Some o) (Some s) = refl
+stuck_allowed : (list : List Entry) (proto : ℕ) (from : List (Option Source)) (past : Past) (x : Option Operation) (y : Option State) → is_allowed_on list proto from past x y None ≡ true
+stuck_allowed list proto from past None y = refl
+stuck_allowed list proto from past (Some o) None = refl
+stuck_allowed list proto from past (Some o) (Some s) = refl
 
 stuck_is_allowed : (list : List Entry) (d : Contents) (k : ℕ) → run (start d.many) (ops_of d) (suc k) ≡ None → is_allowed list d k ≡ true
 unfolding is_allowed
 stuck_is_allowed list d k e =
-    ap (λ (z : Option State). is_allowed_on list (protocol_of d) (sources d k) (has_state d k) (item_at d k) (run (start d.many) (ops_of d) k) z) e
-    ∙ stuck_allowed list (protocol_of d) (sources d k) (has_state d k) (item_at d k) (run (start d.many) (ops_of d) k)
+    ap (λ (z : Option State). is_allowed_on list (protocol_of d) (sources d k) (past_at d k) (item_at d k) (run (start d.many) (ops_of d) k) z) e
+    ∙ stuck_allowed list (protocol_of d) (sources d k) (past_at d k) (item_at d k) (run (start d.many) (ops_of d) k)
 
 none_behind : (list : List Entry) (d : Contents) (k n : ℕ) → first_forbidden list d k ≡ None → run (start d.many) (ops_of d) (suc k) ≡ None → first_forbidden list d (n + k) ≡ None
 unfolding first_forbidden
@@ -359,14 +420,14 @@ says_passes list d k s e all none r =
     ∙ ap (λ (y : Option State). verdict_by d None y None) r)
 
 -- an item in the form that is not allowed
-pub says_forbidden : (list : List Entry) (d : Contents) (k offset : ℕ) (o : Operation) (s t : State) (proto p : ℕ) (grants : List Grant) → Far list d k offset s proto grants
-    → item_at d k ≡ Some o → move o k s ≡ Ok t → p ≡ protocol_here k o proto → made.Forbidden ≡ judged_event list p t.heap grants (event_of (row_of o) (before_of s) t)
+pub says_forbidden : (list : List Entry) (d : Contents) (k offset : ℕ) (o : Operation) (s t : State) (proto p : ℕ) (keeps : List Kept) → Far list d k offset s proto keeps
+    → item_at d k ≡ Some o → move o k s ≡ Ok t → p ≡ protocol_here k o proto → made.Forbidden ≡ judged_event list p t.heap keeps (event_of (row_of o) (before_of s) t)
     → k + 1 ≤ in_form d (first_other d) → verdict.Forbidden k offset ≡ verdict_of list d
 unfolding verdict_of first_forbidden
-says_forbidden list d k offset o s t proto p grants w e m q bad far =
+says_forbidden list d k offset o s t proto p keeps w e m q bad far =
     let here : p ≡ protocol_of d = q ∙ protocol_is d k o proto e w.protocol in
     let x : Option Source = event_source (protocol_of d) t.heap (sources d k) (event_of (row_of o) (before_of s) t) in
-    let is : is_allowed list d k ≡ false = is_bad list (is_allowed list d k) x (bad ∙ judged_is list d k o s t p grants e w.reached m here w.kept) in
+    let is : is_allowed list d k ≡ false = is_bad list (is_allowed list d k) x (part_is (has_state d k) (maker_by t.heap (event_of (row_of o) (before_of s) t))) (part_is (is_named d k) (maker_by t.heap (event_of (row_of o) (before_of s) t))) (bad ∙ judged_is list d k o s t p keeps e w.reached m here w.kept) in
     let found : first_forbidden list d (suc k) ≡ Some k = ap (λ (y : Option ℕ). or_here y (not (is_allowed list d k)) k) w.allowed ∙ ap (λ (b : Bool). or_here None (not b) k) is in
     let all : first_forbidden list d (in_form d (first_other d)) ≡ Some k = forbidden_of list d (suc k) k (in_form d (first_other d)) (omega (arith, far)) found in
     ap (verdict.Forbidden k) w.stands

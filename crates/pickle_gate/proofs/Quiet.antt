@@ -21,9 +21,9 @@ use Rattle.pickle_show.specs.declared.event.Before.{Before}
 use Rattle.pickle_show.specs.Event.{is_view, is_shown, object_is, top_of, taken_count, filled_count, made_event, filled_event, event_of}
 use Rattle.pickle_show.proofs.Looks.{opaque_by_class, opaque_without_class, loose_by_class, loose_without_class, shown_by_class, shown_without_class, made_if_shown}
 use Rattle.pickle_allow.specs.declared.list.Entry.{Entry}
-use Rattle.pickle_allow.specs.declared.grant.Grant.{Grant}
+use Rattle.pickle_gate.specs.declared.packed.Kept.{Kept}
 use Rattle.pickle_gate.specs.declared.judge.Made.TheVariants as made
-use Rattle.pickle_gate.specs.Kept.{nothing_granted, judged_event, kept_behind, KeepsBehind}
+use Rattle.pickle_gate.specs.Kept.{nothing_kept, judged_event, kept_behind, KeepsBehind}
 use Rattle.pickle_gate.specs.Quiet.{IsUnseen, puts_items, filling_of}
 
 neither_is : (a b : Bool) → not (a || b) ≡ true → (a ≡ false) × (b ≡ false)
@@ -82,17 +82,17 @@ pub ruleset quiet_rules = (unseen_there, unseen_without, fill_is_quiet, quiet_fi
 
 -- ---- what is kept
 
-pub keeps_bad : (list : List Entry) (proto : ℕ) (r : Row) (b : Before) (t : State) (old : List Grant) → made.Forbidden ≡ judged_event list proto t.heap old (event_of r b t)
+pub keeps_bad : (list : List Entry) (proto : ℕ) (r : Row) (b : Before) (t : State) (old : List Kept) → made.Forbidden ≡ judged_event list proto t.heap old (event_of r b t)
     → KeepsBehind list proto r b t old old false
 keeps_bad list proto r b t old e = record { bad = λ _. e; fine = λ q. absurd (false≢true q) }
 
-pub keeps_good : (list : List Entry) (proto : ℕ) (r : Row) (b : Before) (t : State) (old new : List Grant) (g : Grant) → made.Allowed g ≡ judged_event list proto t.heap old (event_of r b t)
-    → new ≡ kept_behind (length t.heap) g (event_of r b t) old → KeepsBehind list proto r b t old new true
+pub keeps_good : (list : List Entry) (proto : ℕ) (r : Row) (b : Before) (t : State) (old new : List Kept) (g : Kept) → made.Allowed g ≡ judged_event list proto t.heap old (event_of r b t)
+    → new ≡ kept_behind t.heap g (event_of r b t) old → KeepsBehind list proto r b t old new true
 keeps_good list proto r b t old new g e k = record { bad = λ q. absurd (false≢true (sym q)); fine = λ _. (g, e, k) }
 
-pub keeps_quiet : (list : List Entry) (proto : ℕ) (r : Row) (b : Before) (t : State) (old new : List Grant) → None ≡ event_of r b t → new ≡ kept_behind (length t.heap) nothing_granted None old
+pub keeps_quiet : (list : List Entry) (proto : ℕ) (r : Row) (b : Before) (t : State) (old new : List Kept) → None ≡ event_of r b t → new ≡ kept_behind t.heap nothing_kept None old
     → KeepsBehind list proto r b t old new true
 keeps_quiet list proto r b t old new e k =
-    keeps_good list proto r b t old new nothing_granted (ap (judged_event list proto t.heap old) e) (k ∙ ap (λ (x : Option Event). kept_behind (length t.heap) nothing_granted x old) e)
+    keeps_good list proto r b t old new nothing_kept (ap (judged_event list proto t.heap old) e) (k ∙ ap (λ (x : Option Event). kept_behind t.heap nothing_kept x old) e)
 
 pub ruleset kept_rules = (keeps_bad, keeps_good, keeps_quiet)

@@ -5,11 +5,12 @@ ghost use Rattle.std.specs.Option.{option_map};
 ghost use Rattle.pickle_ops.specs.KindRef.{kind_view};
 ghost use Rattle.pickle_allow.specs.Source.{import_name};
 ghost use Rattle.pickle_allow.specs.Arguments.{limits_of, may_be_given, may_be_set};
-ghost use Rattle.pickle_gate.specs.Gate.{protocol_said};
-ghost use Rattle.pickle_gate.specs.Kept.{granted, may_do, named, found_made, callee, called, making, allowed_if, only_if, judged_event, of_ready, ready_by, nothing_granted, kept_behind, KeepsBehind, protocol_here};
+ghost use Rattle.pickle_gate.specs.Gate.{protocol_said, may_name_at, may_be_state};
+ghost use Rattle.pickle_gate.specs.Kept.{kept_at, is_named, may_change, named, found_made, made_by, callee, called, instance, making, allowed_if, only_if, judged_event, set_ready, set_used, ready_by, used_by, nothing_kept, kept_behind, KeepsBehind, protocol_here};
 
-use crate::packed::Packed;
+use crate::packed::{Kept, Packed};
 use crate::seen::is_quiet;
+use crate::state::{maker_by, may_be_state, may_name_at};
 use pickle_allow::{
     Entry, Grant, Use, Uses, extension_word, grant_of, import_name, line_text, may_be_given,
     may_be_set, part_text,
@@ -27,10 +28,15 @@ const NO_USES: Uses = Uses {
     fill: false,
 };
 
-/// Nothing is granted.
-const NOTHING: Grant = Grant {
-    now: NO_USES,
-    made: NO_USES,
+/// Nothing is granted, and nothing was done.
+const NOTHING: Kept = Kept {
+    grant: Grant {
+        now: NO_USES,
+        made: NO_USES,
+    },
+    ready: false,
+    used: false,
+    named: false,
 };
 
 /// What came of an object that is made.
@@ -38,8 +44,8 @@ const NOTHING: Grant = Grant {
 pub enum Made {
     /// It is not allowed.
     Forbidden,
-    /// It is, and this is granted to it.
-    Allowed(Grant),
+    /// It is, and this is kept of it.
+    Allowed(Kept),
 }
 
 /// The protocol that PROTO in front says, or 0.
@@ -64,34 +70,40 @@ pub fn protocol_here(place: usize, op: &OpRef<'_>, before: u64) -> u64
     }
 }
 
-/// What is granted to an object.
-fn grant_at(grants: &[Packed], id: ObjId) -> Grant
-    ensures { result ≡ granted grants.now id }
+/// What is kept of an object.
+fn kept_at(keeps: &[Packed], id: ObjId) -> Kept
+    ensures { result ≡ kept_at keeps.now id }
 {
-    match grants.get(id as usize) {
-        Some(packed) => packed.grant(),
+    match keeps.get(id as usize) {
+        Some(packed) => packed.kept(),
         None => NOTHING,
     }
 }
 
-/// Whether this may be done with an object.
-fn may_use(grants: &[Packed], what: Use, id: ObjId) -> bool
-    ensures { result ≡ may_do what (granted grants.now id) }
+/// Whether something may be put into an object.
+fn may_change(keeps: &[Packed], what: Use, id: ObjId) -> bool
+    ensures { result ≡ may_change what (kept_at keeps.now id) }
 {
-    grant_at(grants, id).now.has(what)
+    let kept = kept_at(keeps, id);
+    kept.grant.now.has(what) && !(kept.ready || kept.used)
 }
 
-/// What is granted to what has a name, if a list has it.
+/// What is kept of what has a name, if a list has it.
 fn named(alloc: Global, list: &[Entry<'_>], name: &[u8]) -> Result<Made, AllocError>
     ensures { IfOk result (λ m. m ≡ named list.now name.now) }
 {
     match grant_of(alloc, list, name)? {
-        Some(grant) => Ok(Made::Allowed(grant)),
+        Some(grant) => Ok(Made::Allowed(Kept {
+            grant,
+            ready: false,
+            used: false,
+            named: false,
+        })),
         None => Ok(Made::Forbidden),
     }
 }
 
-/// What is granted to an import by these names.
+/// What is kept of an import by these names.
 fn imported(
     alloc: Global,
     list: &[Entry<'_>],
@@ -107,41 +119,65 @@ fn imported(
     }
 }
 
-/// What is granted to what is called, the first part of an object.
-fn callee(grants: &[Packed], parts: &[ObjId]) -> Grant
-    ensures { result ≡ callee grants.now (slice_get parts.now 0) }
+/// What is kept of what is called, the first part of an object.
+fn callee(keeps: &[Packed], parts: &[ObjId]) -> Kept
+    ensures { result ≡ callee keeps.now (slice_get parts.now 0) }
 {
     match parts.get(0) {
-        Some(id) => grant_at(grants, *id),
+        Some(id) => kept_at(keeps, *id),
         None => NOTHING,
     }
 }
 
-/// What is granted to what a call makes.
-fn called(grants: &[Packed], what: Use, parts: &[ObjId]) -> Made
-    ensures { result ≡ called grants.now what parts.now }
+/// What is kept of an object that is made of this one.
+fn made_by(maker: Kept) -> Kept
+    ensures { result ≡ made_by maker }
 {
-    let grant = callee(grants, parts);
-    if grant.now.has(what) {
-        Made::Allowed(Grant {
-            now: grant.made,
-            made: grant.made,
-        })
+    Kept {
+        grant: Grant {
+            now: maker.grant.made,
+            made: maker.grant.made,
+        },
+        ready: maker.ready,
+        used: false,
+        named: maker.named,
+    }
+}
+
+/// What is kept of what a call makes.
+fn called(keeps: &[Packed], what: Use, parts: &[ObjId]) -> Made
+    ensures { result ≡ called keeps.now what parts.now }
+{
+    let kept = callee(keeps, parts);
+    if kept.grant.now.has(what) {
+        Made::Allowed(made_by(kept))
     } else {
         Made::Forbidden
     }
 }
 
-/// What is granted to an object that is made.
+/// What is kept of a new instance. None is made of what has its state.
+fn instance(keeps: &[Packed], what: Use, parts: &[ObjId]) -> Made
+    ensures { result ≡ instance keeps.now what parts.now }
+{
+    let kept = callee(keeps, parts);
+    if kept.grant.now.has(what) && !kept.ready {
+        Made::Allowed(made_by(kept))
+    } else {
+        Made::Forbidden
+    }
+}
+
+/// What is kept of an object that is made.
 fn make<M: Inspect>(
     alloc: Global,
     list: &[Entry<'_>],
     protocol: u64,
     machine: &M,
-    grants: &[Packed],
+    keeps: &[Packed],
     look: Look<'_>,
 ) -> Result<Made, AllocError>
-    ensures { IfOk result (λ m. m ≡ making list.now protocol (M.state machine.now).heap grants.now (kind_view look.entry.kind) look.entry.parts.now) }
+    ensures { IfOk result (λ m. m ≡ making list.now protocol (M.state machine.now).heap keeps.now (kind_view look.entry.kind) look.entry.parts.now) }
 {
     match look.kind {
         KindRef::Global(names) => {
@@ -158,29 +194,29 @@ fn make<M: Inspect>(
         KindRef::PersistentLine(_) => named(alloc, list, b"persistent"),
         KindRef::Persistent => named(alloc, list, b"persistent"),
         KindRef::Buffer(_) => named(alloc, list, b"buffer"),
-        KindRef::Call => Ok(called(grants, Use::Call, look.parts)),
-        KindRef::New => Ok(called(grants, Use::New, look.parts)),
-        KindRef::NewEx => Ok(called(grants, Use::New, look.parts)),
-        KindRef::Obj => Ok(called(grants, Use::Call, look.parts)),
+        KindRef::Call => Ok(called(keeps, Use::Call, look.parts)),
+        KindRef::New => Ok(instance(keeps, Use::New, look.parts)),
+        KindRef::NewEx => Ok(instance(keeps, Use::New, look.parts)),
+        KindRef::Obj => Ok(instance(keeps, Use::Call, look.parts)),
         KindRef::Inst(_) => Ok(Made::Forbidden),
         _ => Ok(Made::Allowed(NOTHING)),
     }
 }
 
-/// What is granted to an object that is made, if its arguments are allowed.
+/// What is kept of an object that is made, if its arguments are allowed.
 fn make_given<M: Inspect>(
     alloc: Global,
     list: &[Entry<'_>],
     limits: &[Entry<'_>],
     protocol: u64,
     machine: &M,
-    grants: &[Packed],
+    keeps: &[Packed],
     look: Look<'_>,
 ) -> Result<Made, AllocError>
     requires { limits.now ≡ limits_of list.now }
-    ensures { IfOk result (λ m. m ≡ only_if (may_be_given list.now protocol (M.state machine.now).heap (kind_view look.entry.kind) look.entry.parts.now) (making list.now protocol (M.state machine.now).heap grants.now (kind_view look.entry.kind) look.entry.parts.now)) }
+    ensures { IfOk result (λ m. m ≡ only_if (may_be_given list.now protocol (M.state machine.now).heap (kind_view look.entry.kind) look.entry.parts.now) (making list.now protocol (M.state machine.now).heap keeps.now (kind_view look.entry.kind) look.entry.parts.now)) }
 {
-    let made = make(alloc, list, protocol, machine, grants, look)?;
+    let made = make(alloc, list, protocol, machine, keeps, look)?;
     if may_be_given(alloc, list, limits, protocol, machine, look)? {
         Ok(made)
     } else {
@@ -195,14 +231,17 @@ fn set<M: Inspect>(
     limits: &[Entry<'_>],
     protocol: u64,
     machine: &M,
-    grants: &[Packed],
+    keeps: &[Packed],
     value: ObjId,
     target: ObjId,
 ) -> Result<Made, AllocError>
     requires { limits.now ≡ limits_of list.now }
-    ensures { IfOk result (λ m. m ≡ allowed_if (may_do Use.State (granted grants.now target) && may_be_set list.now protocol (M.state machine.now).heap value target)) }
+    ensures { IfOk result (λ m. m ≡ allowed_if (may_change Use.State (kept_at keeps.now target) && (may_be_state (is_named keeps.now) (M.state machine.now).heap value && may_be_set list.now protocol (M.state machine.now).heap value target))) }
 {
-    if !may_use(grants, Use::State, target) {
+    if !may_change(keeps, Use::State, target) {
+        return Ok(Made::Forbidden);
+    }
+    if !may_be_state(keeps, machine, value) {
         return Ok(Made::Forbidden);
     }
     let good = may_be_set(alloc, list, limits, protocol, machine, value, target)?;
@@ -220,7 +259,7 @@ fn allowed_if(good: bool) -> Made
     }
 }
 
-/// What comes of the event of a step: whether it is allowed, and what is granted to the object that it made. A name is decoded and matched once,
+/// What comes of the event of a step: whether it is allowed, and what is kept of the object that it made. A name is decoded and matched once,
 /// where it is imported, and once more where it is called, if the list limits arguments. `limits` are the entries that limit something.
 #[tactic(auto, using(crate::proofs::Looked::judge_rules))]
 fn judge<M: Inspect>(
@@ -229,96 +268,115 @@ fn judge<M: Inspect>(
     limits: &[Entry<'_>],
     protocol: u64,
     machine: &M,
-    grants: &[Packed],
+    keeps: &[Packed],
     event: Option<Event>,
 ) -> Result<Made, AllocError>
     requires { limits.now ≡ limits_of list.now }
-    ensures { IfOk result (λ m. m ≡ judged_event list.now protocol (M.state machine.now).heap grants.now event) }
+    ensures { IfOk result (λ m. m ≡ judged_event list.now protocol (M.state machine.now).heap keeps.now event) }
 {
     match event {
         None => Ok(Made::Allowed(NOTHING)),
         Some(Event::Made(id)) => match machine.look(id) {
-            Some(look) => make_given(alloc, list, limits, protocol, machine, grants, look),
+            Some(look) => make_given(alloc, list, limits, protocol, machine, keeps, look),
             None => Ok(Made::Allowed(NOTHING)),
         },
         Some(Event::State(value, target)) => {
-            set(
-                alloc, list, limits, protocol, machine, grants, value, target,
-            )
+            set(alloc, list, limits, protocol, machine, keeps, value, target)
         }
-        Some(Event::Filled(_, _, target)) => Ok(allowed_if(may_use(grants, Use::Fill, target))),
+        Some(Event::Filled(_, _, target)) => Ok(allowed_if(may_change(keeps, Use::Fill, target))),
     }
 }
 
-/// What is left of what is granted to an object that has its state: to call it.
-fn of_ready(grant: Grant) -> Grant
-    ensures { result ≡ of_ready grant }
-{
-    Grant {
-        now: Uses {
-            call: grant.now.call,
-            new: false,
-            state: false,
-            fill: false,
-        },
-        made: grant.made,
-    }
-}
-
-/// Keeps of an object that it has its state.
+/// Keeps of an object that it has its state, which may name attributes.
 #[tactic(auto, using(crate::proofs::Ready::ready_rules))]
-fn keep_ready(grants: &mut Vec<Packed>, target: ObjId)
-    ensures { grants.new.items ≡ slice_set grants.old.items target (of_ready (granted grants.old.items target)) }
+fn keep_ready(keeps: &mut Vec<Packed>, target: ObjId, names: bool)
+    ensures { keeps.new.items ≡ slice_set keeps.old.items target (set_ready names (kept_at keeps.old.items target)) }
 {
-    let left = of_ready(grant_at(grants.as_slice(), target));
+    let kept = kept_at(keeps.as_slice(), target);
     let at = target as usize;
-    if at < grants.len() {
-        grants[at] = Packed::of(left);
+    if at < keeps.len() {
+        keeps[at] = Packed::of(Kept {
+            grant: kept.grant,
+            ready: true,
+            used: kept.used,
+            named: kept.named || names,
+        });
+    }
+}
+
+/// Keeps of an object that something was made of it.
+#[tactic(auto, using(crate::proofs::Ready::ready_rules))]
+fn keep_used(keeps: &mut Vec<Packed>, id: ObjId)
+    ensures { keeps.new.items ≡ slice_set keeps.old.items id (set_used (kept_at keeps.old.items id)) }
+{
+    let kept = kept_at(keeps.as_slice(), id);
+    let at = id as usize;
+    if at < keeps.len() {
+        keeps[at] = Packed::of(Kept {
+            grant: kept.grant,
+            ready: kept.ready,
+            used: true,
+            named: kept.named,
+        });
     }
 }
 
 /// Keeps of the object that an event gives a state, if it gives one, that it has it.
-fn keep_event(grants: &mut Vec<Packed>, event: Option<Event>)
-    ensures { grants.new.items ≡ ready_by event grants.old.items }
+fn keep_event<M: Inspect>(keeps: &mut Vec<Packed>, machine: &M, event: Option<Event>)
+    ensures { keeps.new.items ≡ ready_by (M.state machine.now).heap event keeps.old.items }
 {
     match event {
-        Some(Event::State(_, target)) => keep_ready(grants, target),
+        Some(Event::State(value, target)) => {
+            keep_ready(keeps, target, may_name_at(machine, value));
+        }
         Some(Event::Made(_)) => {}
         Some(Event::Filled(_, _, _)) => {}
         None => {}
     }
 }
 
-/// Keeps what is granted to the newest of so many objects, if it is not kept yet; else what the event of the step gives a state.
-fn keep(
-    grants: &mut Vec<Packed>,
-    objects: usize,
-    grant: Grant,
+/// Keeps of what an object is made of, if it is made of something, that it was.
+fn keep_maker(keeps: &mut Vec<Packed>, maker: Option<ObjId>)
+    ensures { keeps.new.items ≡ used_by maker keeps.old.items }
+{
+    match maker {
+        Some(id) => keep_used(keeps, id),
+        None => {}
+    }
+}
+
+/// Keeps this of the newest object, if nothing is kept of it yet, and of what it is made of that it was; else what the event of the step gives a
+/// state.
+fn keep<M: Inspect>(
+    keeps: &mut Vec<Packed>,
+    machine: &M,
+    kept: Kept,
     event: Option<Event>,
 ) -> Result<(), AllocError>
-    ensures { OnOk result (grants.new.items ≡ kept_behind objects grant event grants.old.items) }
+    ensures { OnOk result (keeps.new.items ≡ kept_behind (M.state machine.now).heap kept event keeps.old.items) }
 {
-    if grants.len() < objects {
-        grants.push(Packed::of(grant))?;
+    if keeps.len() < machine.objects() {
+        keep_maker(keeps, maker_by(machine, event));
+        keeps.push(Packed::of(kept))?;
         return Ok(());
     }
-    keep_event(grants, event);
+    keep_event(keeps, machine, event);
     Ok(())
 }
 
-/// Keeps that nothing is granted to the newest of so many objects, if it is not kept yet.
+/// Keeps nothing of the newest object, if nothing is kept of it yet.
 #[inline(always)]
-fn keep_nothing(grants: &mut Vec<Packed>, objects: usize) -> Result<(), AllocError>
-    ensures { OnOk result (grants.new.items ≡ kept_behind objects nothing_granted None grants.old.items) }
+fn keep_nothing<M: Inspect>(keeps: &mut Vec<Packed>, machine: &M) -> Result<(), AllocError>
+    ensures { OnOk result (keeps.new.items ≡ kept_behind (M.state machine.now).heap nothing_kept None keeps.old.items) }
 {
-    if grants.len() < objects {
-        grants.push(Packed::nothing())?;
+    if keeps.len() < machine.objects() {
+        keeps.push(Packed::nothing())?;
     }
     Ok(())
 }
 
 /// Whether the event of a step of this row is allowed, if it has one: this was looked at before it, and this is the machine after it. What is
-/// granted to the object that it made is kept.
+/// kept of the object that it made is kept.
 #[tactic(auto, using(crate::proofs::Quiet::kept_rules))]
 #[inline(never)]
 fn allow_event<M: Inspect>(
@@ -329,10 +387,10 @@ fn allow_event<M: Inspect>(
     machine: &M,
     row: Row,
     before: Before,
-    grants: &mut Vec<Packed>,
+    keeps: &mut Vec<Packed>,
 ) -> Result<bool, AllocError>
     requires { limits.now ≡ limits_of list.now }
-    ensures { IfOk result (KeepsBehind list.now protocol row before (M.state machine.now) grants.old.items grants.new.items) }
+    ensures { IfOk result (KeepsBehind list.now protocol row before (M.state machine.now) keeps.old.items keeps.new.items) }
 {
     let event = event_of(row, before, machine);
     let made = judge(
@@ -341,13 +399,13 @@ fn allow_event<M: Inspect>(
         limits,
         protocol,
         machine,
-        grants.as_slice(),
+        keeps.as_slice(),
         event,
     )?;
     match made {
         Made::Forbidden => Ok(false),
-        Made::Allowed(grant) => {
-            keep(grants, machine.objects(), grant, event)?;
+        Made::Allowed(kept) => {
+            keep(keeps, machine, kept, event)?;
             Ok(true)
         }
     }
@@ -364,15 +422,15 @@ pub fn allow_step<M: Inspect>(
     machine: &M,
     row: Row,
     before: Before,
-    grants: &mut Vec<Packed>,
+    keeps: &mut Vec<Packed>,
 ) -> Result<bool, AllocError>
     requires { limits.now ≡ limits_of list.now }
-    ensures { IfOk result (KeepsBehind list.now protocol row before (M.state machine.now) grants.old.items grants.new.items) }
+    ensures { IfOk result (KeepsBehind list.now protocol row before (M.state machine.now) keeps.old.items keeps.new.items) }
 {
     if is_quiet(row, before, machine) {
-        keep_nothing(grants, machine.objects())?;
+        keep_nothing(keeps, machine)?;
         return Ok(true);
     }
-    let good = allow_event(alloc, list, limits, protocol, machine, row, before, grants)?;
+    let good = allow_event(alloc, list, limits, protocol, machine, row, before, keeps)?;
     Ok(good)
 }

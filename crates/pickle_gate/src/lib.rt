@@ -6,6 +6,7 @@ mod laws;
 mod line;
 mod packed;
 mod seen;
+mod state;
 mod verdict;
 mod walk;
 

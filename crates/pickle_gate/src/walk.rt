@@ -56,7 +56,7 @@ pub fn gate(alloc: Global, list: &[Entry<'_>], bytes: &[u8]) -> Result<Verdict, 
     let mut reader = Items::new(bytes);
     let mut form = FormSoFar::begin(alloc);
     let mut machine = Slim::new(alloc, false, bytes);
-    let mut grants = Vec::new(alloc);
+    let mut keeps = Vec::new(alloc);
     let mut protocol = 0;
     let mut place = 0;
     let mut offset = 0;
@@ -84,7 +84,7 @@ pub fn gate(alloc: Global, list: &[Entry<'_>], bytes: &[u8]) -> Result<Verdict, 
                     &machine,
                     row,
                     before,
-                    &mut grants,
+                    &mut keeps,
                 )?;
                 if !good {
                     return Ok(Verdict::Forbidden(place, offset));

@@ -18,7 +18,7 @@ use Rattle.pickle_gate.proofs.walk.gate.Goals as goal
 pub items-init : goal.items-init
 items-init c =
     let some = some_document false false c.args.bytes.now (λ i. omega (arith, c.type_inv.bytes i)) in
-    rw (c.new-reader.ensures, c.begin-form.ensures, c.new-machine.ensures, c.new-grants.ensures.items) (refl, begins _ _ _ some c.requires, (refl, refl))
+    rw (c.new-reader.ensures, c.begin-form.ensures, c.new-machine.ensures, c.new-keeps.ensures.items) (refl, begins _ _ _ some c.requires, (refl, refl))
 
 pub returns-in-Tail : goal.returns-in-Tail
 returns-in-Tail c =
@@ -51,7 +51,7 @@ returns-then-not-good c =
     let formed : None ≡ reason_of c.in-Item.op c.items.form = sym c.in_default.is ∙ c.in_ok-why-in-Item.ensures.first in
     let moves : move c.in-Item.op c.items.place c.items.machine.state ≡ Ok c.step.new.self.state = rw c.items.invariant.2.1 at c.in_default-step.ensures.ok in
     let step : Stepped c.items.place c.items.form c.items.machine.state c.step.new.self.state c.in-Item.op c.items.protocol c.protocol_here-protocol.result = record { formed = formed; moves = moves; protocol = c.protocol_here-protocol.ensures } in
-    let bad : made.Forbidden ≡ judged_event c.args.list.now c.protocol_here-protocol.result c.step.new.self.state.heap c.items.grants.items (event_of (row_of c.in-Item.op) (before_of c.items.machine.state) c.step.new.self.state) =
+    let bad : made.Forbidden ≡ judged_event c.args.list.now c.protocol_here-protocol.result c.step.new.self.state.heap c.items.keeps.items (event_of (row_of c.in-Item.op) (before_of c.items.machine.state) c.step.new.self.state) =
     rw (c.looked_before-before.ensures c.step.new.self.state, c.of_ref-row.ensures) at (c.in_ok-good-in-Item.ensures.bad c.if-not-good.true) in
     ends_forbidden _ _ _ _ _ _ _ c.step.new.self.state c.in-Item.op c.protocol_here-protocol.result w here step bad
 
@@ -65,7 +65,7 @@ returns-then-is_stop c =
     let moves : move c.in-Item.op c.items.place c.items.machine.state ≡ Ok c.step.new.self.state = rw c.items.invariant.2.1 at c.in_default-step.ensures.ok in
     let step : Stepped c.items.place c.items.form c.items.machine.state c.step.new.self.state c.in-Item.op c.items.protocol c.protocol_here-protocol.result = record { formed = formed; moves = moves; protocol = c.protocol_here-protocol.ensures } in
     let fine = c.in_ok-good-in-Item.ensures.fine c.if-not-good.false in
-    let good : made.Allowed fine.0 ≡ judged_event c.args.list.now c.protocol_here-protocol.result c.step.new.self.state.heap c.items.grants.items (event_of (row_of c.in-Item.op) (before_of c.items.machine.state) c.step.new.self.state) =
+    let good : made.Allowed fine.0 ≡ judged_event c.args.list.now c.protocol_here-protocol.result c.step.new.self.state.heap c.items.keeps.items (event_of (row_of c.in-Item.op) (before_of c.items.machine.state) c.step.new.self.state) =
     rw (c.looked_before-before.ensures c.step.new.self.state, c.of_ref-row.ensures) at fine.1 in
     let stop : is_stop c.in-Item.op.opcode ≡ c.is_stop.result = sym (c.is_stop.ensures ∙ ap is_stop c.opcode.ensures) in
     let rest : c.unread_len.result ≡ length (drop (size_of c.in-Item.op) c.items.reader.rest) = c.unread_len.ensures ∙ ap (λ (u : Unread). length u.rest) n.1 in
@@ -81,10 +81,10 @@ items-preserved c =
     let moves : move c.in-Item.op c.items.place c.items.machine.state ≡ Ok c.step.new.self.state = rw c.items.invariant.2.1 at c.in_default-step.ensures.ok in
     let step : Stepped c.items.place c.items.form c.items.machine.state c.step.new.self.state c.in-Item.op c.items.protocol c.protocol_here-protocol.result = record { formed = formed; moves = moves; protocol = c.protocol_here-protocol.ensures } in
     let fine = c.in_ok-good-in-Item.ensures.fine c.if-not-good.false in
-    let good : made.Allowed fine.0 ≡ judged_event c.args.list.now c.protocol_here-protocol.result c.step.new.self.state.heap c.items.grants.items (event_of (row_of c.in-Item.op) (before_of c.items.machine.state) c.step.new.self.state) =
+    let good : made.Allowed fine.0 ≡ judged_event c.args.list.now c.protocol_here-protocol.result c.step.new.self.state.heap c.items.keeps.items (event_of (row_of c.in-Item.op) (before_of c.items.machine.state) c.step.new.self.state) =
     rw (c.looked_before-before.ensures c.step.new.self.state, c.of_ref-row.ensures) at fine.1 in
     let stop : is_stop c.in-Item.op.opcode ≡ c.is_stop.result = sym (c.is_stop.ensures ∙ ap is_stop c.opcode.ensures) in
-    let kept : _ ≡ kept_behind (length c.step.new.self.state.heap) fine.0 (event_of (row_of c.in-Item.op) (before_of c.items.machine.state) c.step.new.self.state) c.items.grants.items =
+    let kept : _ ≡ kept_behind c.step.new.self.state.heap fine.0 (event_of (row_of c.in-Item.op) (before_of c.items.machine.state) c.step.new.self.state) c.items.keeps.items =
     rw (c.looked_before-before.ensures c.step.new.self.state, c.of_ref-row.ensures) at fine.2 in
     let along : c.step.new.self.rest ≡ c.next.new.self.rest =
     c.in_default-step.ensures.rest ∙ ap (λ (l : List ℕ). drop (size_of c.in-Item.op) l) c.items.invariant.2.0 ∙ sym (ap (λ (u : Unread). u.rest) n.1) in
