@@ -4,10 +4,12 @@ from __future__ import annotations
 
 import functools
 import pickle
+import struct
 import zipfile
+import zlib
 from dataclasses import dataclass
 
-from .members import NO_END, zipped
+from .members import CHECKSUM, METHOD, NO_END, SIZE, in_both, zipped
 from .room import Room, run
 from .row import CLOSED, FULL, LITTLE_MEMORY, MISSING, Row, fails, trials_of
 from .samples import NOT_ALLOWED, SEVERAL
@@ -34,7 +36,7 @@ ITEM_BEFORE = OBJECT + b"K\x01a}q\x02X\x01\x00\x00\x00aq\x03K\x01sb."
 STATES = OBJECT + b"}q\x02X\x01\x00\x00\x00aq\x03h\x00)\x81q\x04}q\x05h\x03h\x00)\x81q\x06}q\x07h\x03K\x01sbsbsb."
 # What `functools.partial` makes gets a state and is called, as picklers of protocol 2 do it for a class whose arguments have names.
 CALLED_BEHIND = b"\x80\x02cm\nP\nq\x00)Rq\x01(K\x01K\x02K\x03tq\x02b)Rq\x03."
-ANY_STATE = b"m.C: new made-new made-state made-fill\nposix.system:\n"
+ANY_STATE = b"m.C: new made-call made-new made-state made-fill\nposix.system:\n"
 # `bytes` in protocol 2: a call with a text and the name of an encoding.
 ENCODED = pickle.dumps(b"abc", 2)
 # In Python 2 `reduce` was in `__builtin__`.
@@ -52,6 +54,28 @@ STATE = "27: not allowed: state #3 to #2\n"
 # `.npy` files before what is behind their headers: the length of a header has two bytes, and from the second version on four.
 ARRAY = b"\x93NUMPY\x01\x00\x06\x00{'a'}\n"
 WIDE_ARRAY = b"\x93NUMPY\x02\x00\x06\x00\x00\x00{'a'}\n"
+# Where the header of a member and its row of the directory tell these.
+CHECKSUMS, SIZES = (CHECKSUM, CHECKSUM + 2), (SIZE, SIZE + 2)
+# `N.` as one block of deflate that stores it: the last block, the length, its complement, the bytes.
+BLOCK = b"\x01\x02\x00\xfd\xffN."
+TOO_LARGE = f"it unpacks to more than {1 << 30} bytes: it is not looked at\n"
+
+
+def number(value: int) -> bytes:
+    return struct.pack("<I", value)
+
+
+def deflated(content: bytes, data: bytes) -> bytes:
+    """An archive of one member, of which it is told that this content unpacks to these data."""
+    made = in_both(zipped(("a.pkl", content)), METHOD, b"\x08")
+    return in_both(in_both(made, SIZES, number(len(data))), CHECKSUMS, number(zlib.crc32(data)))
+
+
+def broken(why: str) -> str:
+    return f"'a.pkl': {why}\n"
+
+
+PACKED = zipped(("a.pkl", ORDERED), ("b.npy", ARRAY + bytes(640)), method=zipfile.ZIP_DEFLATED)
 MODEL = zipped(("archive/data.pkl", ORDERED), ("archive/data/0", bytes(64)), ("archive/version", b"3\n"))
 
 
@@ -106,6 +130,14 @@ CASES = (
     Case("items behind a state", ANY_STATE, ITEMS_BEHIND, "66: not allowed: append 2 to #2\n"),
     Case("a new instance of what has its state", ANY_STATE, NEW_BEHIND, "49: not allowed: new #2 () as #7\n"),
     Case("the same by a list without words", b"**", STATE_TWICE, "62: not allowed: state 'id' to #2\n"),
+    Case("a state of what an instance is made of", ANY_STATE, OBJECT + b"h\x01)\x81q\x02h\x01}q\x03b.", "24: not allowed: state #5 to #2\n"),
+    Case("a state of what is made of an object with a state", ANY_STATE, OBJECT + b"}q\x02bh\x01)Rq\x03}q\x04b.", "26: not allowed: state #6 to #5\n"),
+    Case("OBJ of a class with a state", ANY_STATE, OBJECT + b"}q\x02b(h\x01oq\x03.", "20: not allowed: call #2 () as #4\n"),
+    Case("a state with attributes by a state of its own", ANY_STATE, OBJECT + b"h\x00)\x81q\x02}q\x03bb.", "23: not allowed: state #4 to #2\n"),
+    Case("a half of a state with such attributes", ANY_STATE, OBJECT + b"h\x00)\x81q\x02}q\x03bN\x86q\x04b.", "27: not allowed: state (#4, none) to #2\n"),
+    Case("a half whose own state is no dictionary", ANY_STATE, OBJECT + b"h\x00)\x81q\x02K\x01K\x02K\x03\x87q\x03bN\x86q\x04b.", PASSES),
+    Case("a state that a class made of such a half", ANY_STATE, OBJECT + b"h\x00h\x00)\x81q\x02}q\x03bN\x86q\x04\x81q\x05b.", "32: not allowed: state #8 to #2\n"),
+    Case("a state that a class made of literals", ANY_STATE, OBJECT + b"h\x00X\x01\x00\x00\x00aq\x02K\x01\x86q\x03\x81q\x04b.", PASSES),
     Case("an item before a state", ANY_STATE, ITEM_BEFORE, PASSES),
     Case("states of three objects of one class", ANY_STATE, STATES, PASSES),
     Case("a call of what has its state", b"m.P: call made-call made-state\n", CALLED_BEHIND, PASSES),
@@ -145,8 +177,27 @@ CASES = (
     Case("the second member, whose name has a quote", b"", zipped(("a.pkl", b"N."), ("it's", ORDERED)), f"'it\\'s': {IMPORT}"),
     Case("a member that no pickler writes, in which nothing is reached", b"", zipped(("a.pkl", b"J\x01\0\0\0.")), PASSES),
     Case("a member that no pickler writes, in which something is", b"", zipped(("a.pkl", b"J\x01\0\0\0" + SYSTEM)), "'a.pkl': not in form: item 0 at 0: a number that has a shorter form\n"),
+    Case("a text of which a loader imports what stands before a point", b"", zipped(("a", b"cthis.a b\nx\n")), "'a': not in form: item 0 at 0: an import whose names are not plain\n"),
+    Case("a text that no loader imports from", b"", zipped(("a", b"ca b.this\nx\n")), PASSES),
     Case("a member that ends too early", b"**", zipped(("a.pkl", ORDERED[:-1])), "'a.pkl': not in form: item 10 at 44: no opcode can be read\n"),
-    Case("a member that is packed", b"**", zipped(("a.pkl", b"N."), method=zipfile.ZIP_DEFLATED), "'a.pkl': packed: it is not looked at\n"),
+    Case("packed members", b"collections.OrderedDict: call made-fill", PACKED, PASSES),
+    Case("a packed member that is not allowed", b"", PACKED, f"'a.pkl': {IMPORT}"),
+    Case("a packed array of objects", b"", zipped(("a.npy", ARRAY + SYSTEM), method=zipfile.ZIP_DEFLATED), "'a.npy': behind its header: 0: not allowed: import 'posix' 'system' as #0\n"),
+    Case("a packed archive", b"**", zipped(("a.zip", zipped(("a.pkl", b"N."))), method=zipfile.ZIP_DEFLATED), "'a.zip': an archive itself: it is not looked at\n"),
+    Case("a stored member with another checksum", b"", in_both(zipped(("a.pkl", b"N.")), CHECKSUMS, number(1)), broken("another checksum than is told")),
+    Case("one of many bytes", b"", in_both(zipped(("a.pkl", bytes(9000))), CHECKSUMS, number(1)), broken("another checksum than is told")),
+    Case("a packed member with another checksum", b"", in_both(deflated(BLOCK, b"N."), CHECKSUMS, number(1)), broken("another checksum than is told")),
+    Case("a stream of one block", b"", deflated(BLOCK, b"N."), PASSES),
+    Case("a stream of fewer bytes", b"", deflated(BLOCK, b"N.N"), broken("not deflated: fewer bytes than are told")),
+    Case("a stream of more bytes", b"", deflated(BLOCK, b"N"), broken("not deflated: 5: more bytes than are told")),
+    Case("bytes behind a stream", b"", deflated(BLOCK + b"?", b"N."), broken("not deflated: bytes behind the stream")),
+    Case("a stream that is cut", b"", deflated(BLOCK[:-1], b"N."), broken("not deflated: 6: it ends too early")),
+    Case("a block of no kind", b"", deflated(b"\x07", b"N."), broken("not deflated: 0: no block")),
+    Case("a code of no distance", b"", deflated(b"\x03\x3e\x00", b"N.."), broken("not deflated: 1: no code")),
+    Case("a copy of what is not there", b"", deflated(b"\x03\x02\x00", b"N.."), broken("not deflated: 1: a copy from before the first byte")),
+    Case("a member that unpacks to too much", b"", in_both(PACKED, SIZES, number((1 << 30) + 1), 1), TOO_LARGE),
+    Case("members that do so together", b"", in_both(in_both(PACKED, SIZES, number(1 << 29), 0), SIZES, number((1 << 29) + 1), 1), TOO_LARGE),
+    Case("names that differ in case alone", b"", zipped(("a.pkl", b"N."), ("A.pkl", b"N.")), "two names that differ in case alone: it is not looked at\n"),
     Case("an archive in an archive", b"**", zipped(("a.zip", zipped(("a.pkl", b"N.")))), "'a.zip': an archive itself: it is not looked at\n"),
     Case("an archive without members in an archive", b"**", zipped(("a.zip", zipped())), "'a.zip': an archive itself: it is not looked at\n"),
     Case("arrays of numbers", b"", zipped(("a.npy", ARRAY + bytes(16)), ("b.npy", WIDE_ARRAY + bytes(16))), PASSES),

@@ -14,41 +14,18 @@ use Rattle.pickle_reach.specs.declared.spot.Spot.{Spot}
 use Rattle.pickle_reach.specs.declared.spot.Step.{Step}
 use Rattle.pickle_reach.specs.declared.spot.Step.TheVariants as step
 use Rattle.pickle_reach.specs.Reach.{Turn, as_shown, first_spot, step_at, reaches_on, reaches_from, stands_on, stands_from, NothingFrom, IsReach}
-use Rattle.zip_archive.specs.Entry.{Entry, front_of}
-use Rattle.zip_archive.specs.Archive.{fronts}
+use Rattle.zip_archive.specs.Entry.{Entry}
 use Rattle.zip_archive.specs.Reader.{member_of}
 use Rattle.archive_gate.specs.declared.fault.Fault.{Fault}
 use Rattle.archive_gate.specs.declared.fault.Fault.TheVariants as fault
-use Rattle.archive_gate.specs.Members.{with_ids, header_size, behind_header, Gives, MemberPasses, AllPass, IsRefusedAs, HasFault, AreSmall}
+use Rattle.zip_open.specs.Opened.{OpensTo, IsOpenable, AreOpenable, unpacked_total}
+use Rattle.archive_gate.specs.Members.{with_ids, header_size, behind_header, Gives, BytesPass, MemberPasses, AllPass, BytesFail, IsRefusedAs, OpenedFails, HasFault}
 use Rattle.archive_gate.specs.File.{NoneFails}
-use Rattle.archive_gate.proofs.Passing.{small_in}
+use Rattle.zip_open.proofs.Opening.{same_opening, broken_opens, small_opened}
+use Rattle.zip_open.proofs.Openable.{openable_in, openable_among}
 use Rattle.zip_archive.proofs.Whole.{one_zip}
 
--- ---- bytes of a part are bytes
-
-bytes_right : (a x : List ℕ) → AreBytes (a ++ x) → AreBytes x
-bytes_right [] x h = h
-bytes_right (c ∷ a) x h = bytes_right a x (λ k. h (suc k))
-
-bytes_left : (a x : List ℕ) → AreBytes (a ++ x) → AreBytes a
-bytes_left [] x h i = omega arith
-bytes_left (c ∷ a) x h zero = h 0
-bytes_left (c ∷ a) x h (suc i) = bytes_left a x (λ k. h (suc k)) i
-
-content_bytes : (e : Entry) → AreBytes (front_of e) → AreBytes e.content
-content_bytes e h =
-    bytes_left e.content e.behind (bytes_right e.head_extra (e.content ++ e.behind) (bytes_right e.head_name (e.head_extra ++ (e.content ++ e.behind))
-    (bytes_right e.head (e.head_name ++ (e.head_extra ++ (e.content ++ e.behind))) h)))
-
-among_bytes : (before : List Entry) (e : Entry) (after : List Entry) → AreBytes (fronts (before ++ e ∷ after)) → AreBytes e.content
-among_bytes [] e after h = content_bytes e (bytes_left (front_of e) (fronts after) h)
-among_bytes (b ∷ before) e after h = among_bytes before e after (bytes_right (front_of b) (fronts (before ++ e ∷ after)) h)
-
 -- ---- a member among others
-
-among_small : (before : List Entry) (e : Entry) (after : List Entry) → AreSmall (before ++ e ∷ after) → length e.content ≤ size_limit
-among_small [] e after a = a.0
-among_small (b ∷ before) e after a = among_small before e after a.1
 
 among_pass : (list : List Allowed) (before : List Entry) (e : Entry) (after : List Entry) → AllPass list (before ++ e ∷ after) → MemberPasses list (member_of e)
 among_pass list [] e after a = a.0
@@ -102,22 +79,40 @@ dropped_bytes zero xs h = h
 dropped_bytes (suc n) [] h = h
 dropped_bytes (suc n) (x ∷ xs) h = dropped_bytes n xs (λ i. h (suc i))
 
-fault_ways : (list : List Allowed) (e : Entry) (f : Fault) → AreBytes e.content → length e.content ≤ size_limit → MemberPasses list (member_of e) → HasFault list e f
-    → IsReach with_ids e.content answer.TooMany ⊎ IsReach with_ids (behind_header e.content) answer.TooMany
-fault_ways list e fault.Packed small few m has = let bad : false ≡ true = sym has ∙ m.stored in absurd cc
-fault_ways list e fault.Archive small few m has = let bad : false ≡ true = sym m.bytes.apart ∙ has in absurd cc
-fault_ways list e (fault.Refused v) small few m has = inl (refused_ways list e.content v small few m.bytes.gives has)
-fault_ways list e (fault.Behind v) small few m has =
-    let less : length (behind_header e.content) ≤ size_limit = omega (arith, few, length-drop (header_size e.content) e.content) in
-    inr (refused_ways list (behind_header e.content) v (dropped_bytes (header_size e.content) e.content small) less (m.bytes.array has.0) has.1)
+-- what a member opens to, of which there are too many ways to read it or what is behind its header
+record HasWays (e : Entry) : Type 0 where
+  held : List ℕ
+  opens : OpensTo (member_of e) held
+  ways : IsReach with_ids held answer.TooMany ⊎ IsReach with_ids (behind_header held) answer.TooMany
+
+opened_ways : (list : List Allowed) (e : Entry) (bytes : List ℕ) (f : Fault) → OpensTo (member_of e) bytes → AreBytes bytes → length bytes ≤ size_limit → BytesPass list bytes
+    → BytesFail list bytes f → HasWays e
+opened_ways list e bytes (fault.Broken b) opens small few p has = absurd has
+opened_ways list e bytes fault.Archive opens small few p has = let bad : false ≡ true = sym p.apart ∙ has in absurd cc
+opened_ways list e bytes (fault.Refused v) opens small few p has = record { held = bytes; opens = opens; ways = inl (refused_ways list bytes v small few p.gives has) }
+opened_ways list e bytes (fault.Behind v) opens small few p has =
+    let less : length (behind_header bytes) ≤ size_limit = omega (arith, few, length-drop (header_size bytes) bytes) in
+    record { held = bytes; opens = opens; ways = inr (refused_ways list (behind_header bytes) v (dropped_bytes (header_size bytes) bytes small) less (p.array has.0) has.1) }
+
+fails_ways : (list : List Allowed) (e : Entry) (f : Fault) → IsOpenable e → MemberPasses list (member_of e) → OpenedFails list (member_of e) f → HasWays e
+fails_ways list e f o m has =
+    let same : has.bytes ≡ m.bytes = same_opening (member_of e) m.bytes has.bytes m.opens has.opens in
+    opened_ways list e has.bytes f has.opens has.small (small_opened e has.bytes o has.opens) (subst (BytesPass list) (sym same) m.pass) has.fail
+
+fault_ways : (list : List Allowed) (e : Entry) (f : Fault) → IsOpenable e → MemberPasses list (member_of e) → HasFault list e f → HasWays e
+fault_ways list e (fault.Broken b) o m has = absurd (broken_opens (member_of e) b has m.bytes m.opens)
+fault_ways list e fault.Archive o m has = fails_ways list e fault.Archive o m has
+fault_ways list e (fault.Refused v) o m has = fails_ways list e (fault.Refused v) o m has
+fault_ways list e (fault.Behind v) o m has = fails_ways list e (fault.Behind v) o m has
 
 pub none_fails : NoneFails
-none_fails list bytes es f small few p z failing =
+none_fails list bytes es f few p z failing =
     let same : p.entries ≡ es = one_zip bytes p.entries es p.archive z in
     let parts : p.entries ≡ failing.before ++ failing.entry ∷ failing.after = same ∙ failing.is in
     let passes : AllPass list (failing.before ++ failing.entry ∷ failing.after) = subst (AllPass list) parts p.members in
-    let few_members : AreSmall (failing.before ++ failing.entry ∷ failing.after) = subst AreSmall failing.is (small_in bytes es z few) in
-    let of_bytes : AreBytes (fronts es) = bytes_left (fronts es) _ (subst AreBytes z.spelled small) in
+    let within : unpacked_total es ≤ size_limit = subst (λ (l : List Entry). unpacked_total l ≤ size_limit) same p.within in
+    let all : AreOpenable (failing.before ++ failing.entry ∷ failing.after) = subst AreOpenable failing.is (openable_in bytes es z few within) in
+    let found = fault_ways list failing.entry f.fault (openable_among failing.before failing.entry failing.after all) (among_pass list failing.before failing.entry failing.after passes) failing.has in
     record {
       entries = es;
       archive = z;
@@ -125,9 +120,7 @@ none_fails list bytes es f small few p z failing =
       entry = failing.entry;
       after = failing.after;
       is = failing.is;
-      ways = fault_ways list failing.entry f.fault
-          (among_bytes failing.before failing.entry failing.after (subst (λ (l : List Entry). AreBytes (fronts l)) failing.is of_bytes))
-          (among_small failing.before failing.entry failing.after few_members)
-          (among_pass list failing.before failing.entry failing.after passes)
-          failing.has;
+      held = found.held;
+      opens = found.opens;
+      ways = found.ways;
     }

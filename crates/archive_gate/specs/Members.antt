@@ -1,9 +1,9 @@
--- Which members of an archive pass a list.
+-- Which members of an archive pass a list, by what they open to.
 -- Source: own. How an archive begins: APPNOTE 6.3.10, 4.3.7 (local file header) and 4.3.16 (end record). How an `.npy` file begins: numpy's
 -- lib/format.py, `read_magic` and `_read_array_header`; behind the header `read_array` reads raw numbers, or loads a pickle.
 use Rattle.std.specs.Prelude.{◌≡◌, ◌≢◌, ◌⊎◌, ◌≤◌, ℕ, ◌+◌, ◌-◌, ◌*◌, ◌==◌, ◌&&◌, ◌||◌, not, eqb, nat_le, if◌then◌else◌, Bool, true, false, List, [], ◌∷◌, ◌++◌, length, take, drop, get_or, All, ⊤}
 use Rattle.std.specs.List.{starts_with}
-use Rattle.pickle_doc.specs.Document.{size_limit}
+use Rattle.pickle_doc.specs.Document.{AreBytes, size_limit}
 use Rattle.pickle_allow.specs.declared.list.Entry.{Entry as Allowed}
 use Rattle.pickle_gate.specs.Gate.{Passes}
 use Rattle.pickle_gate.specs.Verdict.{IsVerdict}
@@ -14,11 +14,12 @@ use Rattle.pickle_reach.specs.declared.answer.Reach.{Reach}
 use Rattle.pickle_reach.specs.declared.answer.Reach.TheVariants as answer
 use Rattle.pickle_reach.specs.Reach.{first_spot, NothingFrom, IsReach}
 use Rattle.zip_archive.specs.Entry.{Entry}
-use Rattle.zip_archive.specs.Archive.{Counts, IsZip}
+use Rattle.zip_archive.specs.Archive.{Counts, IsZip, are_distinct, any_case}
 use Rattle.zip_archive.specs.Reader.{Member, member_of, by_directory}
 use Rattle.archive_gate.specs.declared.fault.Fault.{Fault}
 use Rattle.archive_gate.specs.declared.fault.Fault.TheVariants as fault
 use Rattle.archive_gate.specs.declared.fault.Failing.{Failing}
+use Rattle.zip_open.specs.Opened.{unpacked_total, OpensTo, IsReadAs, IsBroken}
 
 -- ---- a member
 
@@ -71,19 +72,17 @@ GivesNothing bytes = (raises_first bytes ≡ true) ⊎ NothingFrom with_ids byte
 abbrev pub Gives : List Allowed → List ℕ → Type 0
 Gives list bytes = Passes list bytes ⊎ GivesNothing bytes
 
-abbrev pub is_stored : Entry → Bool
-is_stored e = (member_of e).method == 0
-
 -- they are no archive themselves; and of an array this holds of what is behind its header, too
 pub record BytesPass (list : List Allowed) (bytes : List ℕ) : Type 0 where
   pub apart : begins_as_archive bytes ≡ false
   pub gives : Gives list bytes
   pub array : begins_as_array bytes ≡ true → Gives list (behind_header bytes)
 
--- a member that a reader gives: it needs no unpacking
+-- what the member opens to does
 pub record MemberPasses (list : List Allowed) (m : Member) : Type 0 where
-  pub stored : m.method == 0 ≡ true
-  pub bytes : BytesPass list m.content
+  pub bytes : List ℕ
+  pub opens : OpensTo m bytes
+  pub pass : BytesPass list bytes
 
 abbrev pub AllPass : List Allowed → List Entry → Type 0
 AllPass list [] = ⊤
@@ -103,16 +102,23 @@ pub record IsRefusedAs (list : List Allowed) (bytes : List ℕ) (v : Verdict) : 
   pub reach : IsReach with_ids bytes found
   pub reaches : (offset : ℕ) (settled : Bool) → found ≢ answer.Nothing offset settled
 
--- of bytes that need no unpacking
 abbrev pub BytesFail : List Allowed → List ℕ → Fault → Type 0
-BytesFail list bytes fault.Packed = ⊥
+BytesFail list bytes (fault.Broken b) = ⊥
 BytesFail list bytes fault.Archive = begins_as_archive bytes ≡ true
 BytesFail list bytes (fault.Refused v) = IsRefusedAs list bytes v
 BytesFail list bytes (fault.Behind v) = (begins_as_array bytes ≡ true) × IsRefusedAs list (behind_header bytes) v
 
+-- what the member opens to does not pass
+pub record OpenedFails (list : List Allowed) (m : Member) (f : Fault) : Type 0 where
+  pub bytes : List ℕ
+  pub opens : OpensTo m bytes
+  pub small : AreBytes bytes
+  pub fail : BytesFail list bytes f
+
+-- or it does not open
 abbrev pub HasFault : List Allowed → Entry → Fault → Type 0
-HasFault list e fault.Packed = is_stored e ≡ false
-HasFault list e f = BytesFail list e.content f
+HasFault list e (fault.Broken b) = IsBroken (member_of e) b
+HasFault list e f = OpenedFails list (member_of e) f
 
 pub record IsFailing (list : List Allowed) (es : List Entry) (f : Failing) : Type 0 where
   pub before : List Entry
@@ -123,18 +129,26 @@ pub record IsFailing (list : List Allowed) (es : List Entry) (f : Failing) : Typ
   pub passed : AllPass list before
   pub has : HasFault list entry f.fault
 
--- each member is small enough for a pickle
-abbrev pub AreSmall : List Entry → Type 0
-AreSmall [] = ⊤
-AreSmall (e ∷ es) = (length e.content ≤ size_limit) × AreSmall es
-
 -- ---- an archive
 
+-- each member passes. No two names differ in case alone, and the packed members unpack to no more bytes than a file may have
 pub record PassesArchive (list : List Allowed) (bytes : List ℕ) : Type 0 where
   pub entries : List Entry
   pub archive : IsZip bytes entries
+  pub apart : are_distinct any_case entries ≡ true
+  pub within : unpacked_total entries ≤ size_limit
   pub members : AllPass list entries
+
+-- ---- laws
 
 -- each member passes that a reader by the directory finds
 abbrev pub EachMemberPasses : (List ℕ → ℕ → Counts) → Type 0
 EachMemberPasses told = (list : List Allowed) (bytes : List ℕ) → PassesArchive list bytes → All (MemberPasses list) (by_directory told bytes (length bytes - 22))
+
+-- and so does what a reader makes of it that compares nothing: it has the size and the checksum that are told
+pub record ReadPasses (list : List Allowed) (m : Member) (read : List ℕ) : Type 0 where
+  pub opens : OpensTo m read
+  pub pass : BytesPass list read
+
+abbrev pub WhatIsReadPasses : Type 0
+WhatIsReadPasses = (list : List Allowed) (m : Member) (read : List ℕ) → MemberPasses list m → IsReadAs m read → ReadPasses list m read

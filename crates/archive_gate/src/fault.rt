@@ -1,17 +1,18 @@
 //! Which member does not pass, and why.
 
 use pickle_gate::Verdict;
+use zip_open::Broken;
 
 /// Why a member does not pass.
 #[derive(Clone, Copy)]
 pub enum Fault {
-    /// It is packed: what it unpacks to is not looked at.
-    Packed,
-    /// It is an archive itself, which is not looked at.
+    /// It does not open.
+    Broken(Broken),
+    /// What it opens to is an archive itself, which is not looked at.
     Archive,
-    /// It is no pickle that passes, and a loader may reach something in it.
+    /// What it opens to is no pickle that passes, and a loader may reach something in it.
     Refused(Verdict),
-    /// It begins as an `.npy` file does, and this is so of what is behind its header.
+    /// What it opens to begins as an `.npy` file does, and this is so of what is behind its header.
     Behind(Verdict),
 }
 

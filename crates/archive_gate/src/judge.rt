@@ -1,8 +1,9 @@
 //! What is said of one member.
 
 ghost use Rattle.std.specs.Prelude.{◌≡◌, ◌≤◌, true, length, IfOk, MatchOption};
-ghost use Rattle.pickle_doc.specs.Document.{size_limit};
-ghost use Rattle.archive_gate.specs.Members.{with_ids, raises_first, begins_as_array, behind_header, is_stored, Gives, BytesPass, MemberPasses, IsRefusal, IsRefusedAs, BytesFail, HasFault};
+ghost use Rattle.pickle_doc.specs.Document.{AreBytes, size_limit};
+ghost use Rattle.zip_open.specs.Opened.{IsOpenable};
+ghost use Rattle.archive_gate.specs.Members.{with_ids, raises_first, begins_as_array, behind_header, Gives, BytesPass, MemberPasses, IsRefusal, IsRefusedAs, BytesFail, HasFault};
 ghost use Rattle.pickle_gate.specs.Gate.{Passes};
 ghost use Rattle.zip_archive.specs.Reader.{member_of};
 
@@ -13,6 +14,7 @@ use pickle_gate::{Verdict, gate};
 use pickle_reach::{Granted, Reach, first_reach};
 use std::alloc::{AllocError, Global};
 use zip_archive::EntryRef;
+use zip_open::open_member;
 
 /// What a loader was given that knows persistent ids, as torch's does.
 fn with_ids() -> Granted
@@ -23,13 +25,6 @@ fn with_ids() -> Granted
         persistent: true,
         buffers: false,
     }
-}
-
-/// Whether a member is stored.
-fn is_stored(entry: &EntryRef<'_>) -> bool
-    ensures { result ≡ is_stored entry.now }
-{
-    entry.method() == 0
 }
 
 /// The verdict of the gate about the bytes of a member, unless they pass or no loader reaches anything in them.
@@ -81,7 +76,7 @@ fn refused_behind(
     }
 }
 
-/// Why the bytes of a stored member do not pass, if they do not.
+/// Why the bytes that a member opens to do not pass, if they do not.
 fn fault_in(alloc: Global, list: &[Entry<'_>], bytes: &[u8]) -> Result<Option<Fault>, AllocError>
     requires { length bytes.now ≤ size_limit }
     ensures { IfOk result (λ o. MatchOption o (BytesPass list.now bytes.now) (λ f. BytesFail list.now bytes.now f)) }
@@ -98,17 +93,30 @@ fn fault_in(alloc: Global, list: &[Entry<'_>], bytes: &[u8]) -> Result<Option<Fa
     }
 }
 
+/// The same, with what is known of numbers that stand in bytes.
+fn fault_in_bytes(
+    alloc: Global,
+    list: &[Entry<'_>],
+    bytes: &[u8],
+) -> Result<Option<Fault>, AllocError>
+    requires { length bytes.now ≤ size_limit }
+    ensures found { IfOk result (λ o. MatchOption o (BytesPass list.now bytes.now) (λ f. BytesFail list.now bytes.now f)) }
+    ensures small { AreBytes bytes.now }
+{
+    fault_in(alloc, list, bytes)
+}
+
 /// Why a member does not pass, if it does not.
 pub(crate) fn fault_of(
     alloc: Global,
     list: &[Entry<'_>],
     entry: &EntryRef<'_>,
 ) -> Result<Option<Fault>, AllocError>
-    requires { length entry.now.content ≤ size_limit }
+    requires { IsOpenable entry.now }
     ensures { IfOk result (λ o. MatchOption o (MemberPasses list.now (member_of entry.now)) (λ f. HasFault list.now entry.now f)) }
 {
-    if !is_stored(entry) {
-        return Ok(Some(Fault::Packed));
+    match open_member(alloc, entry)? {
+        Ok(opened) => fault_in_bytes(alloc, list, opened.as_slice()),
+        Err(broken) => Ok(Some(Fault::Broken(broken))),
     }
-    fault_in(alloc, list, entry.content())
 }

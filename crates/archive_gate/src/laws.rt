@@ -1,7 +1,7 @@
 //! Laws of archives that pass. The functions do nothing: what they ensure holds of all bytes.
 
 ghost use Rattle.zip_archive.specs.Reader.{told_by_locator, told_before};
-ghost use Rattle.archive_gate.specs.Members.{EachMemberPasses};
+ghost use Rattle.archive_gate.specs.Members.{EachMemberPasses, WhatIsReadPasses};
 ghost use Rattle.archive_gate.specs.File.{NothingInArchives, NoneFails};
 
 /// Each member that a reader by the directory finds in an archive that passes, passes: one that goes where the locator tells, as miniz.
@@ -12,6 +12,11 @@ pub fn by_locator_passes()
 /// And one that looks before the locator, as zipfile.
 pub fn by_place_passes()
     ensures { EachMemberPasses told_before }
+{}
+
+/// What any reader makes of a member that passes, passes, also one that compares neither size nor checksum.
+pub fn read_passes()
+    ensures { WhatIsReadPasses }
 {}
 
 /// Bytes that begin as an archive give nothing to a loader that takes them for a pickle.

@@ -9,5 +9,5 @@ mod walk;
 
 pub use begins::{begins_as_archive, behind_header};
 pub use fault::{Failing, Fault};
-pub use laws::{by_locator_passes, by_place_passes, none_fails, nothing_in_archives};
+pub use laws::{by_locator_passes, by_place_passes, none_fails, nothing_in_archives, read_passes};
 pub use walk::first_failing;

@@ -1,25 +1,32 @@
 -- The text of the gate, of what was judged.
-use Rattle.std.proofs.Common.{◌≡◌, ◌⊎◌, ◌<◌, ◌≤◌, ℕ, zero, suc, Bool, true, false, List, [], ◌∷◌, ◌++◌, length, length-append, get_or, inl, inr, Ok, Err, refl, sym, ap, subst, ◌∙◌, arith}
+use Rattle.std.proofs.Common.{◌≡◌, ◌⊎◌, ◌<◌, ◌≤◌, ℕ, zero, suc, Bool, true, false, List, [], ◌∷◌, ◌++◌, length, length-append, length-drop, get_or, inl, inr, Ok, Err, refl, sym, ap, subst, ◌∙◌, arith}
 use Rattle.std.specs.Prelude.{Result, MatchBool, IfOk, IfErr, IsErrAnd}
 use Rattle.pickle_io.specs.Device.{Told, Wrote, Broke}
-use Rattle.pickle_doc.specs.Document.{size_limit}
+use Rattle.pickle_doc.specs.Document.{Contents, ReadsAs, size_limit}
 use Rattle.pickle_show.specs.Output.{Output}
 use Rattle.pickle_allow.specs.declared.list.Entry.{Entry as Allowed}
 use Rattle.pickle_allow.specs.declared.listing.Listing.{Listing}
 use Rattle.pickle_allow.specs.declared.listing.Listing.TheVariants as listing
 use Rattle.pickle_allow.specs.Grammar.{IsListing}
-use Rattle.pickle_script.specs.GateText.{IsVerdictText, StopsGate}
+use Rattle.pickle_gate.specs.declared.verdict.Verdict.{Verdict}
+use Rattle.pickle_script.specs.GateText.{line_for, IsVerdictText, StopsGate}
 use Rattle.pickle_script.specs.declared.stop.Stop.{Stop}
 use Rattle.pickle_script.specs.declared.stop.Stop.TheVariants as stop
 use Rattle.zip_archive.specs.declared.reason.Refusal.{Refusal}
 use Rattle.zip_archive.specs.Entry.{Entry}
-use Rattle.zip_archive.specs.Archive.{IsZip, NoZip}
+use Rattle.zip_archive.specs.Archive.{IsZip, NoZip, are_distinct, any_case}
 use Rattle.zip_archive.specs.Refused.{IsRefused}
+use Rattle.zip_archive.specs.Reader.{member_of}
+use Rattle.zip_open.specs.declared.broken.Broken.{Broken}
 use Rattle.archive_gate.specs.declared.fault.Failing.{Failing}
-use Rattle.archive_gate.specs.Members.{begins_as_archive, AreSmall, IsFailing}
+use Rattle.archive_gate.specs.declared.fault.Fault.TheVariants as fault
+use Rattle.zip_open.specs.Opened.{OpensTo, IsBroken, IsOpenable, AreOpenable, unpacked_total}
+use Rattle.archive_gate.specs.Members.{begins_as_archive, header_size, behind_header, IsFailing}
+use Rattle.zip_open.proofs.Opening.{same_opening, broken_opens, small_opened}
+use Rattle.zip_open.proofs.Openable.{openable_among}
 use Rattle.archive_script.specs.MembersText.{refusal_output}
 use Rattle.archive_script.specs.declared.judged.Judged.{Judged}
-use Rattle.archive_script.specs.GateText.{judged_output, IsLineIn, fault_output, IsMembersVerdict, IsArchiveText, IsFileText, IsNamedText, named_output, IsListedText, IsGateText, Says, AnswersGate}
+use Rattle.archive_script.specs.GateText.{judged_output, IsLineIn, fault_output, IsMembersVerdict, IsEntriesText, IsArchiveText, IsFileText, IsNamedText, named_output, IsListedText, IsGateText, Says, AnswersGate}
 
 -- ---- an answer
 
@@ -59,13 +66,32 @@ at_place (b ∷ before) e after d = at_place before e after d
 pub is_there : (list : List Allowed) (es : List Entry) (f : Failing) (is : IsFailing list es f) (d : Entry) → get_or es f.place d ≡ is.entry
 is_there list es f is d = rw (is.is, is.place) (at_place is.before is.entry is.after d)
 
-small_there : (before : List Entry) (e : Entry) (after : List Entry) → AreSmall (before ++ e ∷ after) → length e.content ≤ size_limit
-small_there [] e after a = a.0
-small_there (b ∷ before) e after a = small_there before e after a.1
+pub openable_failing : (list : List Allowed) (es : List Entry) (f : Failing) (is : IsFailing list es f) (shown : Entry) → shown ≡ is.entry → AreOpenable es → IsOpenable shown
+openable_failing list es f is shown same a = subst IsOpenable (sym same) (openable_among is.before is.entry is.after (subst AreOpenable is.is a))
 
-pub small_failing : (list : List Allowed) (es : List Entry) (f : Failing) (is : IsFailing list es f) (shown : Entry) → shown ≡ is.entry → AreSmall es → length shown.content ≤ size_limit
-small_failing list es f is shown same a =
-    subst (λ (e : Entry). length e.content ≤ size_limit) (sym same) (small_there is.before is.entry is.after (subst AreSmall is.is a))
+-- the line for bytes that a member opens to is the line for it
+pub line_inside : {V E : Type 0} (items : V → List ℕ) (e : Entry) (v : Verdict) (held shown : List ℕ) (r : Result V E) → shown ≡ held → OpensTo (member_of e) held
+    → IfOk r (λ line. (d : Contents) → ReadsAs false shown d → items line ≡ line_for d v) → IfOk r (λ line. IsLineIn e (fault.Refused v) (items line))
+line_inside items e v held shown (Ok line) same opens is =
+    λ bytes o d reads. is d (subst (λ (x : List ℕ). ReadsAs false x d) (same_opening (member_of e) held bytes opens o ∙ sym same) reads)
+line_inside items e v held shown (Err x) same opens is = tt
+
+pub line_behind : {V E : Type 0} (items : V → List ℕ) (e : Entry) (v : Verdict) (held shown : List ℕ) (r : Result V E) → shown ≡ behind_header held → OpensTo (member_of e) held
+    → IfOk r (λ line. (d : Contents) → ReadsAs false shown d → items line ≡ line_for d v) → IfOk r (λ line. IsLineIn e (fault.Behind v) (items line))
+line_behind items e v held shown (Ok line) same opens is =
+    λ bytes o d reads. is d (subst (λ (x : List ℕ). ReadsAs false x d) (ap behind_header (same_opening (member_of e) held bytes opens o) ∙ sym same) reads)
+line_behind items e v held shown (Err x) same opens is = tt
+
+pub behind_few : (e : Entry) (held shown : List ℕ) → IsOpenable e → OpensTo (member_of e) held → shown ≡ behind_header held → length shown ≤ size_limit
+behind_few e held shown o opens same =
+    omega (arith, small_opened e held o opens, ap (λ (l : List ℕ). length l) same, length-drop (header_size held) held)
+
+-- of a member that does not open any line is
+pub no_line_inside : (e : Entry) (v : Verdict) (b : Broken) (line : List ℕ) → IsBroken (member_of e) b → IsLineIn e (fault.Refused v) line
+no_line_inside e v b line is = λ bytes o. absurd (broken_opens (member_of e) b is bytes o)
+
+pub no_line_behind : (e : Entry) (v : Verdict) (b : Broken) (line : List ℕ) → IsBroken (member_of e) b → IsLineIn e (fault.Behind v) line
+no_line_behind e v b line is = λ bytes o. absurd (broken_opens (member_of e) b is bytes o)
 
 pub failing_is : (list : List Allowed) (es : List Entry) (f : Failing) (is : IsFailing list es f) (shown : Entry) (name line : List ℕ) → shown ≡ is.entry → name ≡ shown.name
     → IsLineIn shown f.fault line → IsMembersVerdict list es (fault_output name line f.fault)
@@ -79,9 +105,14 @@ failing_is list es f is shown name line same same_name here = inr (record {
 
 -- ---- an archive
 
+pub looked_at : {E : Type 0} (list : List Allowed) (es : List Entry) (r : Result Judged E) → are_distinct any_case es ≡ true → unpacked_total es ≤ size_limit
+    → IfOk r (λ j. IsMembersVerdict list es (judged_output j)) → IfOk r (λ j. IsEntriesText list es (judged_output j))
+looked_at list es (Ok j) apart within w = inr (inr (record { apart = apart; within = within; verdict = w }))
+looked_at list es (Err e) apart within w = tt
+
 pub members_are : {E : Type 0} (list : List Allowed) (bytes : List ℕ) (es shown : List Entry) (r : Result Judged E) → IsZip bytes es → shown ≡ es
-    → IfOk r (λ j. IsMembersVerdict list shown (judged_output j)) → IfOk r (λ j. IsArchiveText list bytes (judged_output j))
-members_are list bytes es shown (Ok j) z same w = inr (es, z, subst (λ (l : List Entry). IsMembersVerdict list l (judged_output j)) same w)
+    → IfOk r (λ j. IsEntriesText list shown (judged_output j)) → IfOk r (λ j. IsArchiveText list bytes (judged_output j))
+members_are list bytes es shown (Ok j) z same w = inr (es, z, subst (λ (l : List Entry). IsEntriesText list l (judged_output j)) same w)
 members_are list bytes es shown (Err e) z same w = tt
 
 pub unlisted : (list : List Allowed) (bytes : List ℕ) (r : Refusal) → NoZip bytes × IsRefused bytes r → IsArchiveText list bytes (refusal_output r)

@@ -1,6 +1,6 @@
 -- The text of whether a file passes a list: a pickle, or an archive of members that pass; and what is answered where it was to be written.
 -- Source: own.
-use Rattle.std.specs.Prelude.{◌≡◌, ◌≢◌, ◌⊎◌, ◌≤◌, ◌<◌, ◌↔◌, ℕ, false, MatchBool, List, length, codes, decimal, Result, Err, IfOk, IfErr, ⊤}
+use Rattle.std.specs.Prelude.{◌≡◌, ◌≢◌, ◌⊎◌, ◌≤◌, ◌<◌, ◌↔◌, ℕ, true, false, MatchBool, List, length, codes, decimal, Result, Err, IfOk, IfErr, ⊤}
 use Rattle.pickle_io.specs.Text.{◌⧺◌, quoted}
 use Rattle.pickle_io.specs.Device.{Told}
 use Rattle.pickle_doc.specs.Document.{Contents, ReadsAs, AreBytes, size_limit}
@@ -13,11 +13,18 @@ use Rattle.pickle_allow.specs.Grammar.{IsListing}
 use Rattle.pickle_script.specs.GateText.{line_for, verdict_text, verdict_status, IsVerdictText, WroteText, StopsGate}
 use Rattle.pickle_script.specs.declared.stop.Stop.{Stop}
 use Rattle.pickle_script.specs.declared.stop.Stop.TheVariants as stop
+use Rattle.inflate.specs.declared.refusal.Reason.{Reason}
+use Rattle.inflate.specs.declared.refusal.Reason.TheVariants as reason
+use Rattle.inflate.specs.declared.refusal.Refusal.{Refusal}
 use Rattle.zip_archive.specs.Entry.{Entry}
-use Rattle.zip_archive.specs.Archive.{IsZip}
+use Rattle.zip_archive.specs.Archive.{IsZip, are_distinct, any_case}
+use Rattle.zip_archive.specs.Reader.{member_of}
+use Rattle.zip_open.specs.declared.broken.Broken.{Broken}
+use Rattle.zip_open.specs.declared.broken.Broken.TheVariants as broken
 use Rattle.archive_gate.specs.declared.fault.Fault.{Fault}
 use Rattle.archive_gate.specs.declared.fault.Fault.TheVariants as fault
 use Rattle.archive_gate.specs.declared.fault.Failing.{Failing}
+use Rattle.zip_open.specs.Opened.{OpensTo, unpacked_total}
 use Rattle.archive_gate.specs.Members.{begins_as_archive, behind_header, AllPass, IsFailing}
 use Rattle.archive_gate.specs.File.{PassesFile, HasTooManyWays}
 use Rattle.archive_script.specs.MembersText.{refusal_line, IsUnlisted}
@@ -25,9 +32,6 @@ use Rattle.archive_script.specs.declared.judged.Judged.{Judged}
 use Rattle.archive_script.specs.declared.judged.Judged.TheVariants as judged
 
 -- ---- what is said of a file
-
-unfoldable pub packed_words : List ℕ
-packed_words = codes "packed: it is not looked at\n"
 
 -- what is said of something, with its name in front
 unfoldable pub named : List ℕ → List ℕ → List ℕ
@@ -43,23 +47,69 @@ behind_words = codes "behind its header: "
 unfoldable pub behind_text : List ℕ → List ℕ
 behind_text said = behind_words ⧺ said
 
+-- what is wrong with the stream of a packed member; the offset counts from its first byte
+unfoldable pub stream_words : List ℕ
+stream_words = codes "not deflated: "
+
+unfoldable pub stream_sentence : Reason → List ℕ
+stream_sentence reason.TooLarge = codes "more bytes than are told"
+stream_sentence reason.CutShort = codes "it ends too early"
+stream_sentence reason.BadBlock = codes "no block"
+stream_sentence reason.BadCode = codes "no code"
+stream_sentence reason.BadDistance = codes "a copy from before the first byte"
+
+unfoldable pub stream_line : Refusal → List ℕ
+stream_line r = stream_words ⧺ decimal r.offset ⧺ codes ": " ⧺ stream_sentence r.why ⧺ newline
+
+unfoldable pub size_words : List ℕ
+size_words = codes "not deflated: fewer bytes than are told\n"
+
+unfoldable pub rest_words : List ℕ
+rest_words = codes "not deflated: bytes behind the stream\n"
+
+unfoldable pub checksum_words : List ℕ
+checksum_words = codes "another checksum than is told\n"
+
+-- of a member that does not open
+abbrev pub broken_text : Broken → List ℕ
+broken_text (broken.Stream r) = stream_line r
+broken_text broken.Size = size_words
+broken_text broken.Rest = rest_words
+broken_text broken.Checksum = checksum_words
+
 -- of a member that does not pass
 abbrev pub fault_text : List ℕ → Fault → List ℕ
-fault_text line fault.Packed = packed_words
+fault_text line (fault.Broken b) = broken_text b
 fault_text line fault.Archive = archive_words
 fault_text line (fault.Refused v) = verdict_text line v
 fault_text line (fault.Behind v) = behind_text (verdict_text line v)
+
+unfoldable pub same_names_words : List ℕ
+same_names_words = codes "two names that differ in case alone: it is not looked at\n"
+
+unfoldable pub too_large_front : List ℕ
+too_large_front = codes "it unpacks to more than "
+
+unfoldable pub too_large_back : List ℕ
+too_large_back = codes " bytes: it is not looked at\n"
+
+unfoldable pub too_large_line : List ℕ
+too_large_line = too_large_front ⧺ decimal size_limit ⧺ too_large_back
 
 abbrev pub judged_text : Judged → List ℕ
 judged_text (judged.Pickle v line) = verdict_text line.items v
 judged_text judged.Archive = codes "passes\n"
 judged_text (judged.NoArchive r) = refusal_line r
+judged_text judged.SameNames = same_names_words
+judged_text judged.TooLarge = too_large_line
 judged_text (judged.Member name f line) = named name.now (fault_text line.items f)
 
 abbrev pub judged_status : Judged → ℕ
 judged_status (judged.Pickle v line) = verdict_status v
 judged_status judged.Archive = 0
 judged_status (judged.NoArchive r) = 1
+judged_status judged.SameNames = 1
+judged_status judged.TooLarge = 1
 judged_status (judged.Member name f line) = 1
 
 abbrev pub judged_output : Judged → Output
@@ -69,10 +119,10 @@ judged_output j = record { text = judged_text j; status = judged_status j }
 
 -- this is the line of `calls` for the item of a member that is not allowed
 abbrev pub IsLineIn : Entry → Fault → List ℕ → Type 0
-IsLineIn e fault.Packed line = ⊤
+IsLineIn e (fault.Broken b) line = ⊤
 IsLineIn e fault.Archive line = ⊤
-IsLineIn e (fault.Refused v) line = (d : Contents) → ReadsAs false e.content d → line ≡ line_for d v
-IsLineIn e (fault.Behind v) line = (d : Contents) → ReadsAs false (behind_header e.content) d → line ≡ line_for d v
+IsLineIn e (fault.Refused v) line = (bytes : List ℕ) → OpensTo (member_of e) bytes → (d : Contents) → ReadsAs false bytes d → line ≡ line_for d v
+IsLineIn e (fault.Behind v) line = (bytes : List ℕ) → OpensTo (member_of e) bytes → (d : Contents) → ReadsAs false (behind_header bytes) d → line ≡ line_for d v
 
 abbrev pub fault_output : List ℕ → List ℕ → Fault → Output
 fault_output name line f = record { text = named name (fault_text line f); status = 1 }
@@ -92,9 +142,30 @@ passing_output = record { text = codes "passes\n"; status = 0 }
 abbrev pub IsMembersVerdict : List Allowed → List Entry → Output → Type 0
 IsMembersVerdict list es o = (AllPass list es × (o ≡ passing_output)) ⊎ IsFailingText list es o
 
+abbrev pub same_names_output : Output
+same_names_output = record { text = same_names_words; status = 1 }
+
+abbrev pub too_large_output : Output
+too_large_output = record { text = too_large_line; status = 1 }
+
+-- a reader that does not tell the case of letters finds each, and what they unpack to is looked at
+pub record IsLookedAtText (list : List Allowed) (es : List Entry) (o : Output) : Type 0 where
+  pub apart : are_distinct any_case es ≡ true
+  pub within : unpacked_total es ≤ size_limit
+  pub verdict : IsMembersVerdict list es o
+
+-- or they are not looked at: first for their names, then for what they unpack to
+pub record IsTooLargeText (es : List Entry) (o : Output) : Type 0 where
+  pub apart : are_distinct any_case es ≡ true
+  pub large : size_limit < unpacked_total es
+  pub text : o ≡ too_large_output
+
+abbrev pub IsEntriesText : List Allowed → List Entry → Output → Type 0
+IsEntriesText list es o = ((are_distinct any_case es ≡ false) × (o ≡ same_names_output)) ⊎ (IsTooLargeText es o ⊎ IsLookedAtText list es o)
+
 -- of the members of the archive; or, where the bytes are none, of the first rule that they break
 abbrev pub IsArchiveText : List Allowed → List ℕ → Output → Type 0
-IsArchiveText list bytes o = IsUnlisted bytes o ⊎ ((es : List Entry) × IsZip bytes es × IsMembersVerdict list es o)
+IsArchiveText list bytes o = IsUnlisted bytes o ⊎ ((es : List Entry) × IsZip bytes es × IsEntriesText list es o)
 
 -- ---- a file
 

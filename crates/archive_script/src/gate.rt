@@ -4,28 +4,92 @@ ghost use Rattle.std.specs.Prelude.{◌≡◌, ◌≤◌, length};
 ghost use Rattle.pickle_io.specs.Device.{Writes};
 ghost use Rattle.pickle_doc.specs.Document.{size_limit};
 ghost use Rattle.pickle_script.specs.GateText.{verdict_text};
-ghost use Rattle.archive_script.specs.GateText.{packed_words, archive_words, behind_words, behind_text, named, fault_text, judged_text, judged_output, IsFileText, IsNamedText, no_list_words, no_entry_words, no_list_line, IsNoList, Says, AnswersGate};
+ghost use Rattle.archive_script.specs.GateText.{stream_words, stream_sentence, stream_line, size_words, rest_words, checksum_words, broken_text, same_names_words, too_large_front, too_large_back, too_large_line, archive_words, behind_words, behind_text, named, fault_text, judged_text, judged_output, IsFileText, IsNamedText, no_list_words, no_entry_words, no_list_line, IsNoList, Says, AnswersGate};
 
 use crate::judged::Judged;
 use crate::judging::judge;
 use crate::members::write_refusal;
 use archive_gate::Fault;
+use inflate::{Reason, Refusal};
 use pickle_allow::{Entry, Listing, read_list};
 use pickle_doc::LIMIT;
 use pickle_gate::Verdict;
 use pickle_io::{Failed, Page, write_all, write_decimal, write_quoted};
 use pickle_script::{Stop, verdict_status, write_verdict};
 use std::alloc::Global;
+use zip_open::Broken;
 
 /// The status where a list is none: nothing is said of the file.
 const NO_ANSWER: u8 = 2;
 
 /// Words of a line.
-#[tactic(auto, unfolding(crate::specs::GateText::packed_words))]
-fn packed_words() -> &'static str
-    ensures { result.now ≡ packed_words }
+#[tactic(auto, unfolding(crate::specs::GateText::stream_words))]
+fn stream_words() -> &'static str
+    ensures { result.now ≡ stream_words }
 {
-    "packed: it is not looked at\n"
+    "not deflated: "
+}
+
+/// What is wrong with the stream of a packed member.
+#[tactic(auto, unfolding(crate::specs::GateText::stream_sentence))]
+fn stream_sentence(why: Reason) -> &'static str
+    ensures { result.now ≡ stream_sentence why }
+{
+    match why {
+        Reason::TooLarge => "more bytes than are told",
+        Reason::CutShort => "it ends too early",
+        Reason::BadBlock => "no block",
+        Reason::BadCode => "no code",
+        Reason::BadDistance => "a copy from before the first byte",
+    }
+}
+
+/// Writes why a packed member is no stream of deflate, and where.
+#[tactic(auto, using(pickle_io::proofs::Devices::text_steps), unfolding(crate::specs::GateText::stream_line))]
+fn write_stream<S: Page>(refusal: Refusal, page: &mut S) -> Result<(), Failed>
+    ensures { Writes (S.told page.old) (S.told page.new) result (stream_line refusal) }
+{
+    write_all(page, stream_words().as_bytes())?;
+    write_decimal(refusal.offset as u64, page)?;
+    write_all(page, b": ")?;
+    write_all(page, stream_sentence(refusal.why).as_bytes())?;
+    write_all(page, b"\n")
+}
+
+/// Words of a line.
+#[tactic(auto, unfolding(crate::specs::GateText::size_words))]
+fn size_words() -> &'static str
+    ensures { result.now ≡ size_words }
+{
+    "not deflated: fewer bytes than are told\n"
+}
+
+/// Words of a line.
+#[tactic(auto, unfolding(crate::specs::GateText::rest_words))]
+fn rest_words() -> &'static str
+    ensures { result.now ≡ rest_words }
+{
+    "not deflated: bytes behind the stream\n"
+}
+
+/// Words of a line.
+#[tactic(auto, unfolding(crate::specs::GateText::checksum_words))]
+fn checksum_words() -> &'static str
+    ensures { result.now ≡ checksum_words }
+{
+    "another checksum than is told\n"
+}
+
+/// Writes why a member does not open.
+fn write_broken<S: Page>(broken: Broken, page: &mut S) -> Result<(), Failed>
+    ensures { Writes (S.told page.old) (S.told page.new) result (broken_text broken) }
+{
+    match broken {
+        Broken::Stream(refusal) => write_stream(refusal, page),
+        Broken::Size => write_all(page, size_words().as_bytes()),
+        Broken::Rest => write_all(page, rest_words().as_bytes()),
+        Broken::Checksum => write_all(page, checksum_words().as_bytes()),
+    }
 }
 
 /// Words of a line.
@@ -58,7 +122,7 @@ fn write_fault<S: Page>(fault: Fault, line: &[u8], page: &mut S) -> Result<(), F
     ensures { Writes (S.told page.old) (S.told page.new) result (fault_text line.now fault) }
 {
     match fault {
-        Fault::Packed => write_all(page, packed_words().as_bytes()),
+        Fault::Broken(broken) => write_broken(broken, page),
         Fault::Archive => write_all(page, archive_words().as_bytes()),
         Fault::Refused(verdict) => write_verdict(verdict, line, page),
         Fault::Behind(verdict) => write_behind(verdict, line, page),
@@ -80,6 +144,40 @@ fn write_failing<S: Page>(
     write_fault(fault, line, page)
 }
 
+/// Words of a line.
+#[tactic(auto, unfolding(crate::specs::GateText::same_names_words))]
+fn same_names_words() -> &'static str
+    ensures { result.now ≡ same_names_words }
+{
+    "two names that differ in case alone: it is not looked at\n"
+}
+
+/// Words of a line.
+#[tactic(auto, unfolding(crate::specs::GateText::too_large_front))]
+fn too_large_front() -> &'static str
+    ensures { result.now ≡ too_large_front }
+{
+    "it unpacks to more than "
+}
+
+/// Words of a line.
+#[tactic(auto, unfolding(crate::specs::GateText::too_large_back))]
+fn too_large_back() -> &'static str
+    ensures { result.now ≡ too_large_back }
+{
+    " bytes: it is not looked at\n"
+}
+
+/// Writes that packed members unpack to more bytes than a file may have.
+#[tactic(auto, using(pickle_io::proofs::Devices::text_steps), unfolding(crate::specs::GateText::too_large_line))]
+fn write_too_large<S: Page>(page: &mut S) -> Result<(), Failed>
+    ensures { Writes (S.told page.old) (S.told page.new) result too_large_line }
+{
+    write_all(page, too_large_front().as_bytes())?;
+    write_decimal(LIMIT as u64, page)?;
+    write_all(page, too_large_back().as_bytes())
+}
+
 /// Writes what is said of a file.
 fn write_judged<S: Page>(judged: &Judged<'_>, page: &mut S) -> Result<(), Failed>
     ensures { Writes (S.told page.old) (S.told page.new) result (judged_text judged.now) }
@@ -88,6 +186,8 @@ fn write_judged<S: Page>(judged: &Judged<'_>, page: &mut S) -> Result<(), Failed
         Judged::Pickle(verdict, line) => write_verdict(*verdict, line.as_slice(), page),
         Judged::Archive => write_all(page, b"passes\n"),
         Judged::NoArchive(refusal) => write_refusal(*refusal, page),
+        Judged::SameNames => write_all(page, same_names_words().as_bytes()),
+        Judged::TooLarge => write_too_large(page),
         Judged::Member(name, fault, line) => write_failing(*name, *fault, line.as_slice(), page),
     }
 }
@@ -100,6 +200,8 @@ fn judged_status(judged: &Judged<'_>) -> u8
         Judged::Pickle(verdict, _) => verdict_status(*verdict),
         Judged::Archive => 0,
         Judged::NoArchive(_) => 1,
+        Judged::SameNames => 1,
+        Judged::TooLarge => 1,
         Judged::Member(_, _, _) => 1,
     }
 }

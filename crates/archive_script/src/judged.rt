@@ -13,6 +13,10 @@ pub enum Judged<'a> {
     Archive,
     /// It begins as an archive does, and is none in the form that writers write.
     NoArchive(Refusal),
+    /// It is an archive, of which two members have names that differ in the case of letters alone.
+    SameNames,
+    /// It is an archive, whose packed members unpack to more bytes than a file may have.
+    TooLarge,
     /// It is an archive, and the first member that does not pass has this name.
     Member(&'a [u8], Fault, Vec<u8>),
 }

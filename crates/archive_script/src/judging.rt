@@ -3,16 +3,18 @@
 ghost use Rattle.std.specs.Prelude.{◌≡◌, ◌≤◌, length, IfOk};
 ghost use Rattle.pickle_doc.specs.Document.{size_limit};
 ghost use Rattle.pickle_script.specs.GateText.{IsVerdictText};
-ghost use Rattle.archive_gate.specs.Members.{AreSmall};
-ghost use Rattle.archive_script.specs.GateText.{judged_output, IsLineIn, IsMembersVerdict, IsArchiveText, IsFileText};
+ghost use Rattle.archive_gate.specs.declared.fault.Fault.TheVariants as faults;
+ghost use Rattle.zip_open.specs.Opened.{unpacked_total, IsOpenable, AreOpenable};
+ghost use Rattle.archive_script.specs.GateText.{judged_output, IsLineIn, IsMembersVerdict, IsEntriesText, IsArchiveText, IsFileText};
 
 use crate::judged::Judged;
 use archive_gate::{Fault, begins_as_archive, behind_header, first_failing};
 use pickle_allow::Entry;
-use pickle_gate::gate;
+use pickle_gate::{Verdict, gate};
 use pickle_script::line_for;
 use std::alloc::{AllocError, Global};
-use zip_archive::{EntryRef, read_zip};
+use zip_archive::{EntryRef, differ_in_any_case, read_zip};
+use zip_open::{are_within_limit, open_member};
 
 /// What is said of a pickle.
 fn judge_pickle<'a>(
@@ -28,26 +30,48 @@ fn judge_pickle<'a>(
     Ok(Judged::Pickle(verdict, line))
 }
 
-/// The line of `calls` for the item of a member that is not allowed.
-fn line_in(alloc: Global, entry: &EntryRef<'_>, fault: Fault) -> Result<Vec<u8>, AllocError>
-    requires { length entry.now.content ≤ size_limit }
-    ensures { IfOk result (λ line. IsLineIn entry.now fault line.items) }
+/// The line of `calls` for the item that is not allowed of what a member opens to.
+fn line_inside(alloc: Global, entry: &EntryRef<'_>, verdict: Verdict) -> Result<Vec<u8>, AllocError>
+    requires { IsOpenable entry.now }
+    ensures { IfOk result (λ line. IsLineIn entry.now (faults.Refused verdict) line.items) }
 {
-    match fault {
-        Fault::Packed => Ok(Vec::new(alloc)),
-        Fault::Archive => Ok(Vec::new(alloc)),
-        Fault::Refused(verdict) => line_for(alloc, entry.content(), verdict),
-        Fault::Behind(verdict) => line_for(alloc, behind_header(entry.content()), verdict),
+    match open_member(alloc, entry)? {
+        Ok(opened) => line_for(alloc, opened.as_slice(), verdict),
+        Err(_) => Ok(Vec::new(alloc)),
     }
 }
 
-/// What is said of the members of an archive.
+/// The same of what is behind the header of an array.
+fn line_behind(alloc: Global, entry: &EntryRef<'_>, verdict: Verdict) -> Result<Vec<u8>, AllocError>
+    requires { IsOpenable entry.now }
+    ensures { IfOk result (λ line. IsLineIn entry.now (faults.Behind verdict) line.items) }
+{
+    match open_member(alloc, entry)? {
+        Ok(opened) => line_for(alloc, behind_header(opened.as_slice()), verdict),
+        Err(_) => Ok(Vec::new(alloc)),
+    }
+}
+
+/// The line of `calls` for the item of a member that is not allowed.
+fn line_in(alloc: Global, entry: &EntryRef<'_>, fault: Fault) -> Result<Vec<u8>, AllocError>
+    requires { IsOpenable entry.now }
+    ensures { IfOk result (λ line. IsLineIn entry.now fault line.items) }
+{
+    match fault {
+        Fault::Broken(_) => Ok(Vec::new(alloc)),
+        Fault::Archive => Ok(Vec::new(alloc)),
+        Fault::Refused(verdict) => line_inside(alloc, entry, verdict),
+        Fault::Behind(verdict) => line_behind(alloc, entry, verdict),
+    }
+}
+
+/// What is said of members that are looked at.
 fn judge_members<'a>(
     alloc: Global,
     list: &[Entry<'_>],
     entries: &[EntryRef<'a>],
 ) -> Result<Judged<'a>, AllocError>
-    requires { AreSmall entries.now }
+    requires { AreOpenable entries.now }
     ensures { IfOk result (λ j. IsMembersVerdict list.now entries.now (judged_output j)) }
 {
     match first_failing(alloc, list, entries)? {
@@ -60,6 +84,24 @@ fn judge_members<'a>(
     }
 }
 
+/// What is said of the members of an archive.
+fn judge_entries<'a>(
+    alloc: Global,
+    list: &[Entry<'_>],
+    entries: &[EntryRef<'a>],
+) -> Result<Judged<'a>, AllocError>
+    requires { unpacked_total entries.now ≤ size_limit → AreOpenable entries.now }
+    ensures { IfOk result (λ j. IsEntriesText list.now entries.now (judged_output j)) }
+{
+    if !differ_in_any_case(alloc, entries)? {
+        return Ok(Judged::SameNames);
+    }
+    if !are_within_limit(entries) {
+        return Ok(Judged::TooLarge);
+    }
+    judge_members(alloc, list, entries)
+}
+
 /// What is said of bytes that begin as an archive does.
 fn judge_archive<'a>(
     alloc: Global,
@@ -70,7 +112,7 @@ fn judge_archive<'a>(
     ensures { IfOk result (λ j. IsArchiveText list.now bytes.now (judged_output j)) }
 {
     match read_zip(alloc, bytes)? {
-        Ok(entries) => judge_members(alloc, list, entries.as_slice()),
+        Ok(entries) => judge_entries(alloc, list, entries.as_slice()),
         Err(refusal) => Ok(Judged::NoArchive(refusal)),
     }
 }

@@ -1,15 +1,15 @@
-use Rattle.std.proofs.Common.{◌≤◌, length, sym, subst, arith}
-use Rattle.pickle_doc.specs.Document.{size_limit}
+use Rattle.std.proofs.Common.{sym, subst, arith}
 use Rattle.zip_archive.specs.Entry.{Entry}
 use Rattle.zip_archive.specs.Reader.{member_of}
+use Rattle.zip_open.specs.Opened.{IsOpenable}
 use Rattle.archive_gate.specs.Members.{MemberPasses, HasFault}
-use Rattle.archive_gate.proofs.Passing.{passes_next, fails_here, small_at}
+use Rattle.zip_open.proofs.Openable.{openable_at}
+use Rattle.archive_gate.proofs.Passing.{passes_next, fails_here}
 use Rattle.archive_gate.proofs.walk.first_failing.Goals as goal
 
 pub fault_of-requires : goal.fault_of-requires
 fault_of-requires c =
-    subst (λ (e : Entry). length e.content ≤ size_limit) (sym c.index-entries-place.is)
-    (small_at c.args.entries.now c.loop-place.place c.index-entries-place.result c.requires (omega arith))
+    subst IsOpenable (sym c.index-entries-place.is) (openable_at c.args.entries.now c.loop-place.place c.index-entries-place.result c.requires (omega arith))
 
 pub returns-in-Some : goal.returns-in-Some
 returns-in-Some c =

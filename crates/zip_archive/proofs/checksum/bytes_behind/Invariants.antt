@@ -2,7 +2,7 @@
 use Rattle.std.proofs.Common.{◌≡◌, drop}
 use Rattle.std.specs.List.{fold}
 use Rattle.zip_archive.specs.Checksum.{byte_behind}
-use Rattle.zip_archive.proofs.checksum.crc32.Given as goal
+use Rattle.zip_archive.proofs.checksum.bytes_behind.Given as goal
 
 abbrev pub invariant-loop-byte : goal.invariant-loop-byte
-invariant-loop-byte l = fold byte_behind l.c (drop l.byte-index l.bytes) ≡ fold byte_behind 4294967295 l.bytes
+invariant-loop-byte l = fold byte_behind l.c (drop l.byte-index l.bytes) ≡ fold byte_behind l.initial.c l.bytes
