@@ -4,3 +4,4 @@ mod Listed
 mod Cuts
 mod Steps
 mod Readable
+mod Agreeing

@@ -1,6 +1,6 @@
 -- The fields of each line are plain, so that the line is read back.
 use Rattle.std.proofs.Common.{◌≡◌, ℕ, Bool, true, false, List, Option, None, Some, refl}
-use Rattle.std.specs.Prelude.{codes, length, nat_le, if◌then◌else◌}
+use Rattle.std.specs.Prelude.{ℤ, codes, length, nat_le, nat_lt, unsigned_abs, if◌then◌else◌}
 use Rattle.std.specs.List.{list_all}
 use Rattle.std.specs.Str.{IsUtf8}
 use Rattle.std.proofs.lemmas.Str.{IsUtf8-from_ascii}
@@ -18,14 +18,15 @@ use Rattle.pickle_doc.specs.declared.fault.TailFault.TheVariants as tail
 use Rattle.pickle_machine.specs.declared.refusal.Refusal.{Refusal}
 use Rattle.pickle_machine.specs.declared.refusal.Refusal.TheVariants as refusal
 use Rattle.json_lines.specs.Json.{is_plain}
+use Rattle.json.specs.Json.{boolean}
 use Rattle.json_lines.specs.Line.{field, whole, integer}
 use Rattle.json_lines.specs.Readable.{ArePlain}
 use Rattle.json_lines.proofs.Strings.{plain_ascii}
 use Rattle.json_lines.proofs.Fields.{fields_are_plain, plain_lines_read_back}
 use Rattle.pickle_json.specs.declared.note.Note.{Note}
 use Rattle.pickle_json.specs.declared.note.Note.TheVariants as note
-use Rattle.pickle_json.specs.ItemFields.{number_fields, payload_fields, hex_fields, long_fields, two_fields, form_fields, arg_fields, note_fields, head_fields, rest_fields, item_fields, item_line}
-use Rattle.pickle_json.specs.EndFields.{left_fields, left_text, refusal_code, refusal_words, refusal_fields, fault_code, fault_words, fault_fields, protocol_fields, coded_fields, stopped_fields, stopped_end, refused_fields, refused_end, place_fields, tail_fields, fault_end}
+use Rattle.pickle_json.specs.ItemFields.{number_name, number_fields, integer_fields, payload_fields, double_fields, lowest_first_fields, long_fields, two_fields, form_fields, arg_fields, note_fields, head_fields, rest_fields, item_fields, item_line}
+use Rattle.pickle_json.specs.EndFields.{left_fields, left_text, refusal_code, refusal_words, refusal_fields, fault_code, fault_words, fault_fields, is_of_frame, how_fields, protocol_fields, coded_fields, stopped_fields, stopped_end, refused_fields, refused_end, told_fields, place_fields, tail_fields, fault_end}
 use Rattle.pickle_json.specs.Readable.{ItemLinesReadBack, EndLinesReadBack}
 
 -- words of characters that stand for themselves
@@ -38,21 +39,38 @@ name_plain _ = refl
 
 -- ---- arguments
 
+number_named : (b : Bool) → list_all is_plain (number_name b) ≡ true
+unfolding number_name
+number_named true = refl
+number_named false = refl
+
 number : (n : ℕ) → ArePlain (number_fields n)
 unfolding number_fields
-number n = fields_are_plain.wholes (codes "argument") n (word (codes "argument") refl)
+number n =
+    let exact : Bool = nat_lt n 9007199254740992 in
+    fields_are_plain.wholes (number_name exact) n (word (number_name exact) (number_named exact))
+
+signed : (z : ℤ) → ArePlain (integer_fields z)
+unfolding integer_fields
+signed z =
+    let exact : Bool = nat_lt (unsigned_abs z) 9007199254740992 in
+    fields_are_plain.integers (number_name exact) z (word (number_name exact) (number_named exact))
 
 held : (bytes : List ℕ) → ArePlain (payload_fields bytes)
 unfolding payload_fields
 held bytes = fields_are_plain.bytes (codes "argument") (codes "argument_hex") bytes (word (codes "argument") refl) (word (codes "argument_hex") refl)
 
-in_hex : (bytes : List ℕ) → ArePlain (hex_fields bytes)
-unfolding hex_fields
-in_hex bytes = fields_are_plain.hexadecimal (codes "argument_hex") bytes (word (codes "argument_hex") refl)
+double : (bytes : List ℕ) → ArePlain (double_fields bytes)
+unfolding double_fields
+double bytes = fields_are_plain.hexadecimal (codes "argument_f8_hex") bytes (word (codes "argument_f8_hex") refl)
 
-long_by : (b : Bool) (bytes : List ℕ) → ArePlain (if b then field (codes "argument") (integer (long_of bytes)) else hex_fields bytes)
-long_by true bytes = fields_are_plain.integers (codes "argument") (long_of bytes) (word (codes "argument") refl)
-long_by false bytes = in_hex bytes
+lowest_first : (bytes : List ℕ) → ArePlain (lowest_first_fields bytes)
+unfolding lowest_first_fields
+lowest_first bytes = fields_are_plain.hexadecimal (codes "argument_le_hex") bytes (word (codes "argument_le_hex") refl)
+
+long_by : (b : Bool) (bytes : List ℕ) → ArePlain (if b then integer_fields (long_of bytes) else lowest_first_fields bytes)
+long_by true bytes = signed (long_of bytes)
+long_by false bytes = lowest_first bytes
 
 long : (bytes : List ℕ) → ArePlain (long_fields bytes)
 unfolding long_fields
@@ -70,8 +88,8 @@ of_form form.U1 arg = number (number_of form.U1 arg)
 of_form form.U2 arg = number (number_of form.U2 arg)
 of_form form.U4 arg = number (number_of form.U4 arg)
 of_form form.U8 arg = number (number_of form.U8 arg)
-of_form form.S4 arg = fields_are_plain.integers (codes "argument") (signed_of arg) (word (codes "argument") refl)
-of_form form.R8 arg = in_hex (payload form.R8 arg)
+of_form form.S4 arg = signed (signed_of arg)
+of_form form.R8 arg = double (payload form.R8 arg)
 of_form form.Line arg = held (payload form.Line arg)
 of_form form.Quoted arg = held (payload form.Quoted arg)
 of_form form.Decimal arg = number (number_of form.Decimal arg)
@@ -116,6 +134,14 @@ item_lines_read_back o offset marks n =
 protocol : (highest : Option ℕ) → ArePlain (protocol_fields highest)
 protocol None = tt
 protocol (Some p) = fields_are_plain.wholes (codes "protocol") p (word (codes "protocol") refl)
+
+ended : (how : List ℕ) → list_all is_plain how ≡ true → ArePlain (how_fields how)
+unfolding how_fields
+ended how h = fields_are_plain.texts (codes "how") how (word (codes "how") refl) (word how h)
+
+truth : (name : List ℕ) (b : Bool) → list_all is_plain name ≡ true → ArePlain (field name (boolean b))
+unfolding field
+truth name b h = (record { name = word name h; value = tt; flat = refl }, tt)
 
 coded : (code words : List ℕ) → list_all is_plain code ≡ true → list_all is_plain words ≡ true → ArePlain (coded_fields code words)
 unfolding coded_fields
@@ -190,18 +216,26 @@ left objects marks =
     (fields_are_plain.wholes (codes "marks") marks (word (codes "marks") refl))
 
 stopped : (kept : ℕ) (highest : Option ℕ) → ArePlain (stopped_fields kept highest)
-stopped kept highest = fields_are_plain.joined _ _ (fields_are_plain.wholes (codes "kept") kept (word (codes "kept") refl)) (protocol highest)
+stopped kept highest =
+    fields_are_plain.joined _ _ (fields_are_plain.joined _ _ (ended (codes "stopped") refl) (fields_are_plain.wholes (codes "kept") kept (word (codes "kept") refl))) (protocol highest)
 
 refused : (r : Refusal) (highest : Option ℕ) → ArePlain (refused_fields r highest)
 refused r highest =
-    fields_are_plain.joined _ _ (fields_are_plain.joined _ _ (coded (refusal_code r) (refusal_words r) (refusal_code_plain r) (refusal_words_plain r)) (refused_by r)) (protocol highest)
+    fields_are_plain.joined _ _ (fields_are_plain.joined _ _ (fields_are_plain.joined _ _ (ended (codes "refused") refl) (coded (refusal_code r) (refusal_words r) (refusal_code_plain r) (refusal_words_plain r)))
+    (refused_by r)) (protocol highest)
 
-placed : (offset : ℕ) (highest : Option ℕ) → ArePlain (place_fields offset highest)
-placed offset highest = fields_are_plain.joined _ _ (fields_are_plain.wholes (codes "offset") offset (word (codes "offset") refl)) (protocol highest)
+told : (f : TailFault) → ArePlain (told_fields f)
+unfolding told_fields
+told f =
+    fields_are_plain.joined _ _ (fields_are_plain.joined _ _ (ended (codes "fault") refl) (coded (fault_code f) (fault_words f) (fault_code_plain f) (fault_words_plain f))) (faulty f)
+
+placed : (f : TailFault) (offset : ℕ) → ArePlain (place_fields f offset)
+unfolding place_fields
+placed f offset =
+    fields_are_plain.joined _ _ (fields_are_plain.wholes (codes "offset") offset (word (codes "offset") refl)) (truth (codes "of_frame") (is_of_frame f) refl)
 
 fault : (f : TailFault) (offset : ℕ) (highest : Option ℕ) → ArePlain (tail_fields f offset highest)
-fault f offset highest =
-    fields_are_plain.joined _ _ (fields_are_plain.joined _ _ (coded (fault_code f) (fault_words f) (fault_code_plain f) (fault_words_plain f)) (faulty f)) (placed offset highest)
+fault f offset highest = fields_are_plain.joined _ _ (fields_are_plain.joined _ _ (told f) (placed f offset)) (protocol highest)
 
 pub end_lines_read_back : EndLinesReadBack
 unfolding left_text stopped_end refused_end fault_end

@@ -1,7 +1,7 @@
 -- What STOP left, and how the listing ended, as lines. The code of a refusal or a fault stands apart from its words.
 -- Source: own.
-use Rattle.std.specs.Prelude.{ℕ, ◌==◌, ◌&&◌, if◌then◌else◌, List, [], codes, Option, None, Some}
-use Rattle.json.specs.Json.{string}
+use Rattle.std.specs.Prelude.{ℕ, ◌==◌, ◌&&◌, if◌then◌else◌, List, [], codes, Option, None, Some, Bool, true, false}
+use Rattle.json.specs.Json.{string, boolean}
 use Rattle.pickle_ops.specs.declared.fault.FrontFault.TheVariants as at_front
 use Rattle.pickle_doc.specs.declared.fault.TailFault.{TailFault}
 use Rattle.pickle_doc.specs.declared.fault.TailFault.TheVariants as tail
@@ -99,7 +99,18 @@ fault_fields tail.FrameInFrame = []
 fault_fields tail.FramePastEnd = []
 fault_fields tail.FrameCrossed = []
 
+-- the fault is one of a frame: where FRAME is an opcode like others there is none
+abbrev pub is_of_frame : TailFault → Bool
+is_of_frame (tail.Front f) = false
+is_of_frame tail.FrameInFrame = true
+is_of_frame tail.FramePastEnd = true
+is_of_frame tail.FrameCrossed = true
+
 -- ---- the last line
+
+-- how reading ended
+unfoldable pub how_fields : List ℕ → List Field
+how_fields how = field (codes "how") (string how)
 
 -- the highest protocol among the opcodes, if there are any
 abbrev pub protocol_fields : Option ℕ → List Field
@@ -112,24 +123,27 @@ coded_fields code words = field (codes "code") (string code) ⊕ field (codes "w
 
 -- after STOP, behind which so many bytes are kept
 abbrev pub stopped_fields : ℕ → Option ℕ → List Field
-stopped_fields kept highest = field (codes "kept") (whole kept) ⊕ protocol_fields highest
+stopped_fields kept highest = how_fields (codes "stopped") ⊕ field (codes "kept") (whole kept) ⊕ protocol_fields highest
 
 unfoldable pub stopped_end : ℕ → Option ℕ → List ℕ
 stopped_end kept highest = line (codes "end") (stopped_fields kept highest)
 
 -- after an item that is refused
 abbrev pub refused_fields : Refusal → Option ℕ → List Field
-refused_fields r highest = coded_fields (refusal_code r) (refusal_words r) ⊕ refusal_fields r ⊕ protocol_fields highest
+refused_fields r highest = how_fields (codes "refused") ⊕ coded_fields (refusal_code r) (refusal_words r) ⊕ refusal_fields r ⊕ protocol_fields highest
 
 unfoldable pub refused_end : Refusal → Option ℕ → List ℕ
 refused_end r highest = line (codes "end") (refused_fields r highest)
 
 -- where the bytes from this offset on are no further item
-abbrev pub place_fields : ℕ → Option ℕ → List Field
-place_fields offset highest = field (codes "offset") (whole offset) ⊕ protocol_fields highest
+unfoldable pub told_fields : TailFault → List Field
+told_fields f = how_fields (codes "fault") ⊕ coded_fields (fault_code f) (fault_words f) ⊕ fault_fields f
+
+unfoldable pub place_fields : TailFault → ℕ → List Field
+place_fields f offset = field (codes "offset") (whole offset) ⊕ field (codes "of_frame") (boolean (is_of_frame f))
 
 abbrev pub tail_fields : TailFault → ℕ → Option ℕ → List Field
-tail_fields f offset highest = coded_fields (fault_code f) (fault_words f) ⊕ fault_fields f ⊕ place_fields offset highest
+tail_fields f offset highest = told_fields f ⊕ place_fields f offset ⊕ protocol_fields highest
 
 unfoldable pub fault_end : TailFault → ℕ → Option ℕ → List ℕ
 fault_end f offset highest = line (codes "end") (tail_fields f offset highest)

@@ -1,6 +1,6 @@
 -- The line of an item: its fields.
 -- Source: what an argument says is `pickletools`' descriptor of it; the names of fields are own.
-use Rattle.std.specs.Prelude.{ℕ, nat_le, if◌then◌else◌, List, [], length, codes, Option, None, Some}
+use Rattle.std.specs.Prelude.{Bool, true, false, ℕ, ℤ, nat_le, nat_lt, unsigned_abs, if◌then◌else◌, List, [], length, codes, Option, None, Some}
 use Rattle.json.specs.Json.{string}
 use Rattle.pickle_ops.specs.declared.form.Form.{Form}
 use Rattle.pickle_ops.specs.declared.form.Form.TheVariants as form
@@ -14,21 +14,34 @@ use Rattle.pickle_json.specs.declared.note.Note.TheVariants as note
 
 -- ---- arguments
 
--- a number of an argument
+-- a number of an argument, by whether it is below 2^53: from there on it is written by its digits, under another name, so that a text under
+-- the first one is never a number
+unfoldable pub number_name : Bool → List ℕ
+number_name true = codes "argument"
+number_name false = codes "argument_digits"
+
 unfoldable pub number_fields : ℕ → List Field
-number_fields n = field (codes "argument") (whole n)
+number_fields n = field (number_name (nat_lt n 9007199254740992)) (whole n)
+
+-- the same of a number that may be below 0
+unfoldable pub integer_fields : ℤ → List Field
+integer_fields z = field (number_name (nat_lt (unsigned_abs z) 9007199254740992)) (integer z)
 
 -- bytes that an argument holds: as text where they are UTF-8, else in hexadecimal
 unfoldable pub payload_fields : List ℕ → List Field
 payload_fields bytes = bytes_field (codes "argument") (codes "argument_hex") bytes
 
--- bytes that are no text
-unfoldable pub hex_fields : List ℕ → List Field
-hex_fields bytes = field (codes "argument_hex") (hex bytes)
+-- the bytes of a double, the highest first
+unfoldable pub double_fields : List ℕ → List Field
+double_fields bytes = field (codes "argument_f8_hex") (hex bytes)
 
--- a number in two's complement: up to sixteen bytes as the number, more by its bytes, the lowest first
+-- the bytes of a number in two's complement, the lowest first
+unfoldable pub lowest_first_fields : List ℕ → List Field
+lowest_first_fields bytes = field (codes "argument_le_hex") (hex bytes)
+
+-- a number in two's complement: up to sixteen bytes as the number, more by its bytes
 unfoldable pub long_fields : List ℕ → List Field
-long_fields bytes = if nat_le (length bytes) 16 then field (codes "argument") (integer (long_of bytes)) else hex_fields bytes
+long_fields bytes = if nat_le (length bytes) 16 then integer_fields (long_of bytes) else lowest_first_fields bytes
 
 -- a module and a name
 unfoldable pub two_fields : List ℕ → List Field
@@ -41,8 +54,8 @@ form_fields form.U1 arg = number_fields (number_of form.U1 arg)
 form_fields form.U2 arg = number_fields (number_of form.U2 arg)
 form_fields form.U4 arg = number_fields (number_of form.U4 arg)
 form_fields form.U8 arg = number_fields (number_of form.U8 arg)
-form_fields form.S4 arg = field (codes "argument") (integer (signed_of arg))
-form_fields form.R8 arg = hex_fields (payload form.R8 arg)
+form_fields form.S4 arg = integer_fields (signed_of arg)
+form_fields form.R8 arg = double_fields (payload form.R8 arg)
 form_fields form.Line arg = payload_fields (payload form.Line arg)
 form_fields form.Quoted arg = payload_fields (payload form.Quoted arg)
 form_fields form.Decimal arg = number_fields (number_of form.Decimal arg)

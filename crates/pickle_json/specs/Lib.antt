@@ -4,3 +4,4 @@ pub mod EndFields
 pub mod Listing
 pub mod Written
 pub mod Readable
+pub mod Agreeing

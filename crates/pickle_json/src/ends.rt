@@ -3,9 +3,12 @@
 ghost use Rattle.std.specs.Prelude.{◌≡◌};
 ghost use Rattle.pickle_io.specs.Device.{Writes};
 ghost use Rattle.json_lines.specs.Line.{fields_text};
-ghost use Rattle.pickle_json.specs.EndFields.{left_fields, left_text, left_line, refusal_code, refusal_words, refusal_fields, fault_code, fault_words, fault_fields, protocol_fields, coded_fields, stopped_fields, stopped_end, refused_fields, refused_end, place_fields, tail_fields, fault_end};
+ghost use Rattle.pickle_json.specs.EndFields.{left_fields, left_text, left_line, refusal_code, refusal_words, refusal_fields, fault_code, fault_words, fault_fields, is_of_frame, how_fields, protocol_fields, coded_fields, stopped_fields, stopped_end, refused_fields, refused_end, told_fields, place_fields, tail_fields, fault_end};
 
-use json_lines::{begin_line, end_line, write_integer_field, write_number_field, write_text_field};
+use json_lines::{
+    begin_line, end_line, write_bool_field, write_integer_field, write_number_field,
+    write_text_field,
+};
 use pickle_doc::TailFault;
 use pickle_io::{Failed, Page};
 use pickle_machine::Refusal;
@@ -172,11 +175,20 @@ fn write_protocol<P: Page>(highest: Option<u8>, page: &mut P) -> Result<(), Fail
     }
 }
 
+/// Writes how reading ended.
+#[tactic(auto, unfolding(crate::specs::EndFields::how_fields))]
+fn write_how<P: Page>(how: &str, page: &mut P) -> Result<(), Failed>
+    ensures { Writes (P.told page.old) (P.told page.new) result (fields_text (how_fields how.now)) }
+{
+    write_text_field("how", how, page)
+}
+
 /// Writes how many bytes are behind STOP, and the highest protocol.
 #[tactic(auto, using(json_lines::proofs::Lines::fields_steps))]
 fn write_stopped_fields<P: Page>(kept: u64, highest: Option<u8>, page: &mut P) -> Result<(), Failed>
     ensures { Writes (P.told page.old) (P.told page.new) result (fields_text (stopped_fields kept highest)) }
 {
+    write_how("stopped", page)?;
     write_number_field("kept", kept, page)?;
     write_protocol(highest, page)
 }
@@ -204,6 +216,7 @@ fn write_refused_fields<P: Page>(
 ) -> Result<(), Failed>
     ensures { Writes (P.told page.old) (P.told page.new) result (fields_text (refused_fields refusal highest)) }
 {
+    write_how("refused", page)?;
     write_coded(code_of_refusal(refusal), words_of_refusal(refusal), page)?;
     write_refusal_fields(refusal, page)?;
     write_protocol(highest, page)
@@ -223,13 +236,35 @@ pub fn write_refused_end<P: Page>(
     end_line(page)
 }
 
-/// Writes where a fault is, and the highest protocol.
-#[tactic(auto, using(json_lines::proofs::Lines::fields_steps))]
-fn write_place<P: Page>(offset: u64, highest: Option<u8>, page: &mut P) -> Result<(), Failed>
-    ensures { Writes (P.told page.old) (P.told page.new) result (fields_text (place_fields offset highest)) }
+/// Whether a fault is one of a frame.
+fn is_of_frame(fault: TailFault) -> bool
+    ensures { result ≡ is_of_frame fault }
+{
+    match fault {
+        TailFault::Front(_) => false,
+        TailFault::FrameInFrame => true,
+        TailFault::FramePastEnd => true,
+        TailFault::FrameCrossed => true,
+    }
+}
+
+/// Writes which fault there is.
+#[tactic(auto, using(json_lines::proofs::Lines::fields_steps), unfolding(crate::specs::EndFields::told_fields))]
+fn write_told<P: Page>(fault: TailFault, page: &mut P) -> Result<(), Failed>
+    ensures { Writes (P.told page.old) (P.told page.new) result (fields_text (told_fields fault)) }
+{
+    write_how("fault", page)?;
+    write_coded(code_of_fault(fault), words_of_fault(fault), page)?;
+    write_fault_fields(fault, page)
+}
+
+/// Writes where a fault is, and whether it is one of a frame.
+#[tactic(auto, using(json_lines::proofs::Lines::fields_steps), unfolding(crate::specs::EndFields::place_fields))]
+fn write_place<P: Page>(fault: TailFault, offset: u64, page: &mut P) -> Result<(), Failed>
+    ensures { Writes (P.told page.old) (P.told page.new) result (fields_text (place_fields fault offset)) }
 {
     write_number_field("offset", offset, page)?;
-    write_protocol(highest, page)
+    write_bool_field("of_frame", is_of_frame(fault), page)
 }
 
 /// Writes a fault, where it is, and the highest protocol.
@@ -242,9 +277,9 @@ fn write_tail_fields<P: Page>(
 ) -> Result<(), Failed>
     ensures { Writes (P.told page.old) (P.told page.new) result (fields_text (tail_fields fault offset highest)) }
 {
-    write_coded(code_of_fault(fault), words_of_fault(fault), page)?;
-    write_fault_fields(fault, page)?;
-    write_place(offset, highest, page)
+    write_told(fault, page)?;
+    write_place(fault, offset, page)?;
+    write_protocol(highest, page)
 }
 
 /// Writes the last line where the bytes from this offset on are no further item.

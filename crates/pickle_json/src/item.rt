@@ -5,7 +5,7 @@ ghost use Rattle.pickle_io.specs.Device.{Writes};
 ghost use Rattle.pickle_ops.specs.Argument.{long_of};
 ghost use Rattle.pickle_ops.specs.Table.{form_of};
 ghost use Rattle.json_lines.specs.Line.{fields_text};
-ghost use Rattle.pickle_json.specs.ItemFields.{number_fields, payload_fields, hex_fields, long_fields, two_fields, form_fields, arg_fields, note_fields, head_fields, rest_fields, item_fields, item_line};
+ghost use Rattle.pickle_json.specs.ItemFields.{number_name, number_fields, integer_fields, payload_fields, double_fields, lowest_first_fields, long_fields, two_fields, form_fields, arg_fields, note_fields, head_fields, rest_fields, item_fields, item_line};
 
 use crate::note::Note;
 use byteorder::{ByteOrder, LittleEndian};
@@ -16,12 +16,33 @@ use json_lines::{
 use pickle_io::{Failed, Page};
 use pickle_ops::{Form, OpRef};
 
+/// 2^53. A whole number from here on is a string, since readers that take numbers as doubles would round it: an argument is then one
+/// under another name.
+const EXACT: u64 = 9_007_199_254_740_992;
+
+/// The name of the field that has the number of an argument.
+#[tactic(auto, unfolding(crate::specs::ItemFields::number_name))]
+fn number_name(exact: bool) -> &'static str
+    ensures { result.now ≡ number_name exact }
+{
+    if exact { "argument" } else { "argument_digits" }
+}
+
 /// Writes the number of an argument.
 #[tactic(auto, unfolding(crate::specs::ItemFields::number_fields))]
 fn write_number<P: Page>(number: u64, page: &mut P) -> Result<(), Failed>
     ensures { Writes (P.told page.old) (P.told page.new) result (fields_text (number_fields number)) }
 {
-    write_number_field("argument", number, page)
+    write_number_field(number_name(number < EXACT), number, page)
+}
+
+/// Writes the number of an argument, which may be below 0.
+#[tactic(auto, unfolding(crate::specs::ItemFields::integer_fields))]
+fn write_integer<P: Page>(number: i128, page: &mut P) -> Result<(), Failed>
+    ensures { Writes (P.told page.old) (P.told page.new) result (fields_text (integer_fields number)) }
+{
+    let exact = number.unsigned_abs() < u128::from(EXACT);
+    write_integer_field(number_name(exact), number, page)
 }
 
 /// Writes the bytes of an argument: as text where they are UTF-8, else in hexadecimal.
@@ -32,12 +53,20 @@ fn write_payload<P: Page>(bytes: &[u8], page: &mut P) -> Result<(), Failed>
     write_bytes_field("argument", "argument_hex", bytes, page)
 }
 
-/// Writes the bytes of an argument that are no text.
-#[tactic(auto, unfolding(crate::specs::ItemFields::hex_fields))]
-fn write_hex_bytes<P: Page>(bytes: &[u8], page: &mut P) -> Result<(), Failed>
-    ensures { Writes (P.told page.old) (P.told page.new) result (fields_text (hex_fields bytes.now)) }
+/// Writes the bytes of a double.
+#[tactic(auto, unfolding(crate::specs::ItemFields::double_fields))]
+fn write_double<P: Page>(bytes: &[u8], page: &mut P) -> Result<(), Failed>
+    ensures { Writes (P.told page.old) (P.told page.new) result (fields_text (double_fields bytes.now)) }
 {
-    write_hex_field("argument_hex", bytes, page)
+    write_hex_field("argument_f8_hex", bytes, page)
+}
+
+/// Writes the bytes of a number in two's complement.
+#[tactic(auto, unfolding(crate::specs::ItemFields::lowest_first_fields))]
+fn write_lowest_first<P: Page>(bytes: &[u8], page: &mut P) -> Result<(), Failed>
+    ensures { Writes (P.told page.old) (P.told page.new) result (fields_text (lowest_first_fields bytes.now)) }
+{
+    write_hex_field("argument_le_hex", bytes, page)
 }
 
 /// Writes a module and a name.
@@ -62,8 +91,8 @@ fn write_form<P: Page>(op: &OpRef<'_>, page: &mut P) -> Result<(), Failed>
             op.number(),
             page,
         ),
-        Form::S4 => write_integer_field("argument", i128::from(op.signed()), page),
-        Form::R8 => write_hex_bytes(op.payload(), page),
+        Form::S4 => write_integer(i128::from(op.signed()), page),
+        Form::R8 => write_double(op.payload(), page),
         Form::Two => write_two(op, page),
         Form::Line | Form::Quoted | Form::B1 | Form::B4 | Form::B8 | Form::Bs4 => {
             write_payload(op.payload(), page)
@@ -89,9 +118,9 @@ fn write_long<P: Page>(bytes: &[u8], page: &mut P) -> Result<(), Failed>
     ensures { Writes (P.told page.old) (P.told page.new) result (fields_text (long_fields bytes.now)) }
 {
     if bytes.len() <= 16 {
-        write_integer_field("argument", long_of(bytes), page)
+        write_integer(long_of(bytes), page)
     } else {
-        write_hex_bytes(bytes, page)
+        write_lowest_first(bytes, page)
     }
 }
 

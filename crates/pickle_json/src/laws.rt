@@ -1,5 +1,6 @@
 //! Laws of the definitions. The functions do nothing: what they ensure holds of all lines.
 
+ghost use Rattle.pickle_json.specs.Agreeing.{CodesAgree};
 ghost use Rattle.pickle_json.specs.Readable.{ItemLinesReadBack, EndLinesReadBack};
 
 /// The line of each opcode is read back as its object.
@@ -10,4 +11,9 @@ pub fn item_lines_read_back()
 /// The line of what a STOP left and the last line are read back as their objects.
 pub fn end_lines_read_back()
     ensures { EndLinesReadBack }
+{}
+
+/// The codes and words of refusals and faults are those of the texts for people.
+pub fn codes_are_those_of_texts()
+    ensures { CodesAgree }
 {}

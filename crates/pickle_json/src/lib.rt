@@ -9,6 +9,6 @@ mod list;
 mod note;
 mod walk;
 
-pub use laws::{end_lines_read_back, item_lines_read_back};
+pub use laws::{codes_are_those_of_texts, end_lines_read_back, item_lines_read_back};
 pub use list::{list_bytes, list_items};
 pub use note::Note;

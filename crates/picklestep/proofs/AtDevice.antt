@@ -19,6 +19,8 @@ use Rattle.pickle_script.specs.FormText.{form_output}
 use Rattle.pickle_script.specs.Output.{AnswersText, AnswersCalls, IsCallsOfFile, StopsText}
 use Rattle.pickle_script.specs.GateText.{StopsGate}
 use Rattle.pickle_allow.specs.declared.list.Entry.{Entry}
+use Rattle.pickle_json.specs.Listing as lines
+use Rattle.json_script.specs.Answer.{AnswersListing}
 use Rattle.archive_gate.specs.File.{PassesFile}
 use Rattle.archive_script.specs.GateText.{IsGateText, IsNamedText, Says, AnswersGate}
 use Rattle.archive_script.proofs.GateLaws.{zero_means_passing, zero_where_file_passes}
@@ -32,7 +34,7 @@ use Rattle.picklestep.specs.Skips.{StandFor}
 use Rattle.picklestep.specs.Program.{AnswersWords, Answers}
 use Rattle.picklestep.specs.Gated.{PassesText, TookGate, TookNamed}
 use Rattle.picklestep.specs.Listed.{TookMembers}
-use Rattle.picklestep.specs.Device.{Took, TookText, NoneWithoutMemory, comes_last, nothing, IsTextOf, is_calls, AnswersInput}
+use Rattle.picklestep.specs.Device.{Took, TookText, NoneWithoutMemory, comes_last, nothing, IsTextOf, IsLinesOf, is_calls, AnswersInput}
 
 -- ---- what was written on the page
 
@@ -77,6 +79,14 @@ said_calls told how pickles bytes old new (Err stop.Write) few p = inl p.stopped
 said_calls told how pickles bytes old new (Err stop.Memory) few p = inl p.stopped
 said_calls told how pickles bytes old new (Err stop.Read) few p = absurd p.stopped
 said_calls told how pickles bytes old new (Err stop.TooLarge) few p = too_large bytes few (p.too_large.0 refl)
+
+said_lines : {S : Type 0} (told : S → Told) (many loose : Bool) (bytes : List ℕ) (old new : S) (answer : Result ℕ Stop) → length bytes ≤ size_limit
+    → AnswersListing many loose bytes told old new answer → TookText (IsLinesOf many loose bytes) (told old) (told new) answer
+said_lines told many loose bytes old new (Ok status) few p = let w = p.whole in inl (lines.listing w.0, (w.0, w.1, refl), w.2)
+said_lines told many loose bytes old new (Err stop.Write) few p = let w = p.stopped in inl (lines.listing w.0, (w.0, w.1, refl), w.2)
+said_lines told many loose bytes old new (Err stop.Memory) few p = let w = p.stopped in inl (lines.listing w.0, (w.0, w.1, refl), w.2)
+said_lines told many loose bytes old new (Err stop.Read) few p = absurd p.stopped
+said_lines told many loose bytes old new (Err stop.TooLarge) few p = too_large bytes few (p.too_large.0 refl)
 
 said : (Is : Output → Type 0) (old new : Told) (answer : Result ℕ Stop) → Says Is old new answer → TookText Is old new answer
 said Is old new (Ok status) p = let w = p.whole in inl (w.0, w.1, (w.2, w.3))
@@ -187,20 +197,39 @@ pub same_below : (P : Told → Told → Type 0) (d e : Told) (first held : List 
 same_below P d e first held none last w = subst (λ (t : Told). P t e) (nothing-held d first none) (subst (λ (t : Told). P (holding d first) t) (nothing-held e held last) w)
 
 -- a source was read whole, a text of its bytes written, and what the page held handed on
+answers_is : {S : Type 0} (told : S → Told) (Is : List ℕ → Output → Type 0) (source source' : Gives) (whole bytes : List ℕ) (old mid new : S) (d e : Told) (first held : List ℕ) (answer result : Result ℕ Stop)
+    → IsWhole source.remaining source'.remaining size_limit whole → source'.failures ≡ source.failures → bytes ≡ whole
+    → (length bytes ≤ size_limit → TookText (Is bytes) (told old) (told mid) answer)
+    → (result ≢ Err stop.Write → result ≡ answer) → (result ≢ Err stop.Write → Wrote (told mid) (told new) []) → (answer ≡ Err stop.Write → new ≡ mid)
+    → (result ≡ Err stop.Write → answer ≢ Err stop.Write → Broke (told mid) (told new) [])
+    → told old ≡ holding d first → told new ≡ holding e held → (holding d first).held ≡ 0 → (result ≢ Err stop.Write → (holding e held).held ≡ 0)
+    → AnswersInput Is source source' d e result
+answers_is told Is source source' whole bytes old mid new d e first held answer result read still same w passed calm untouched failed before after none all =
+    let few : length bytes ≤ size_limit = rw same read.within in
+    let h : HandsOn (told mid) (told new) answer result = record { passed = passed; calm = calm; untouched = λ e. ap told (untouched e); failed = failed } in
+    let said = text_handed (Is bytes) (told old) (told mid) (told new) answer result (w few) h in
+    let from : TookText (Is bytes) (holding d first) (told new) result = subst (λ (x : Told). TookText (Is bytes) x (told new) result) before said in
+    let to : TookText (Is bytes) (holding d first) (holding e held) result = subst (λ (x : Told). TookText (Is bytes) (holding d first) x result) after from in
+    let took : TookText (Is bytes) d e result = text_below (Is bytes) d e first held result none all to in
+    inr (record { bytes = whole; read = read; calm = still; took = subst (λ (b : List ℕ). TookText (Is b) d e result) same took })
+
 pub answers_text : {S : Type 0} (told : S → Told) (t : Text) (many loose : Bool) (source source' : Gives) (whole bytes : List ℕ) (old mid new : S) (d e : Told) (first held : List ℕ) (answer result : Result ℕ Stop)
     → IsWhole source.remaining source'.remaining size_limit whole → source'.failures ≡ source.failures → bytes ≡ whole → AnswersText t many loose bytes told old mid answer
     → (result ≢ Err stop.Write → result ≡ answer) → (result ≢ Err stop.Write → Wrote (told mid) (told new) []) → (answer ≡ Err stop.Write → new ≡ mid)
     → (result ≡ Err stop.Write → answer ≢ Err stop.Write → Broke (told mid) (told new) [])
     → told old ≡ holding d first → told new ≡ holding e held → (holding d first).held ≡ 0 → (result ≢ Err stop.Write → (holding e held).held ≡ 0)
     → AnswersInput (IsTextOf t many loose) source source' d e result
-answers_text told t many loose source source' whole bytes old mid new d e first held answer result read still same w passed calm untouched failed before after none all =
-    let few : length bytes ≤ size_limit = rw same read.within in
-    let h : HandsOn (told mid) (told new) answer result = record { passed = passed; calm = calm; untouched = λ e. ap told (untouched e); failed = failed } in
-    let said = text_handed (IsTextOf t many loose bytes) (told old) (told mid) (told new) answer result (said_text told t many loose bytes old mid answer few w) h in
-    let from : TookText (IsTextOf t many loose bytes) (holding d first) (told new) result = subst (λ (x : Told). TookText (IsTextOf t many loose bytes) x (told new) result) before said in
-    let to : TookText (IsTextOf t many loose bytes) (holding d first) (holding e held) result = subst (λ (x : Told). TookText (IsTextOf t many loose bytes) (holding d first) x result) after from in
-    let took : TookText (IsTextOf t many loose bytes) d e result = text_below (IsTextOf t many loose bytes) d e first held result none all to in
-    inr (record { bytes = whole; read = read; calm = still; took = subst (λ (b : List ℕ). TookText (IsTextOf t many loose b) d e result) same took })
+answers_text told t many loose source source' whole bytes old mid new d e first held answer result read still same w =
+    answers_is told (IsTextOf t many loose) source source' whole bytes old mid new d e first held answer result read still same (λ few. said_text told t many loose bytes old mid answer few w)
+
+pub answers_lines : {S : Type 0} (told : S → Told) (many loose : Bool) (source source' : Gives) (whole bytes : List ℕ) (old mid new : S) (d e : Told) (first held : List ℕ) (answer result : Result ℕ Stop)
+    → IsWhole source.remaining source'.remaining size_limit whole → source'.failures ≡ source.failures → bytes ≡ whole → AnswersListing many loose bytes told old mid answer
+    → (result ≢ Err stop.Write → result ≡ answer) → (result ≢ Err stop.Write → Wrote (told mid) (told new) []) → (answer ≡ Err stop.Write → new ≡ mid)
+    → (result ≡ Err stop.Write → answer ≢ Err stop.Write → Broke (told mid) (told new) [])
+    → told old ≡ holding d first → told new ≡ holding e held → (holding d first).held ≡ 0 → (result ≢ Err stop.Write → (holding e held).held ≡ 0)
+    → AnswersInput (IsLinesOf many loose) source source' d e result
+answers_lines told many loose source source' whole bytes old mid new d e first held answer result read still same w =
+    answers_is told (IsLinesOf many loose) source source' whole bytes old mid new d e first held answer result read still same (λ few. said_lines told many loose bytes old mid answer few w)
 
 pub answers_calls : {S : Type 0} (told : S → Told) (options : CallsOptions) (source source' : Gives) (whole bytes : List ℕ) (old mid new : S) (d e : Told) (first held : List ℕ) (answer result : Result ℕ Stop)
     → IsWhole source.remaining source'.remaining size_limit whole → source'.failures ≡ source.failures → bytes ≡ whole → AnswersCalls (manner options.detail options.holes) options.pickles bytes told old mid answer
@@ -208,14 +237,8 @@ pub answers_calls : {S : Type 0} (told : S → Told) (options : CallsOptions) (s
     → (result ≡ Err stop.Write → answer ≢ Err stop.Write → Broke (told mid) (told new) [])
     → told old ≡ holding d first → told new ≡ holding e held → (holding d first).held ≡ 0 → (result ≢ Err stop.Write → (holding e held).held ≡ 0)
     → AnswersInput (is_calls options) source source' d e result
-answers_calls told options source source' whole bytes old mid new d e first held answer result read still same w passed calm untouched failed before after none all =
-    let few : length bytes ≤ size_limit = rw same read.within in
-    let h : HandsOn (told mid) (told new) answer result = record { passed = passed; calm = calm; untouched = λ e. ap told (untouched e); failed = failed } in
-    let said = text_handed (is_calls options bytes) (told old) (told mid) (told new) answer result (said_calls told (manner options.detail options.holes) options.pickles bytes old mid answer few w) h in
-    let from : TookText (is_calls options bytes) (holding d first) (told new) result = subst (λ (x : Told). TookText (is_calls options bytes) x (told new) result) before said in
-    let to : TookText (is_calls options bytes) (holding d first) (holding e held) result = subst (λ (x : Told). TookText (is_calls options bytes) (holding d first) x result) after from in
-    let took : TookText (is_calls options bytes) d e result = text_below (is_calls options bytes) d e first held result none all to in
-    inr (record { bytes = whole; read = read; calm = still; took = subst (λ (b : List ℕ). TookText (is_calls options b) d e result) same took })
+answers_calls told options source source' whole bytes old mid new d e first held answer result read still same w =
+    answers_is told (is_calls options) source source' whole bytes old mid new d e first held answer result read still same (λ few. said_calls told (manner options.detail options.holes) options.pickles bytes old mid answer few w)
 
 unwritten : {S : Type 0} (told : S → Told) (t : Text) (many loose : Bool) (bytes : List ℕ) (old mid : S) (answer : Result ℕ Stop)
     → AnswersText t many loose bytes told old mid answer → comes_last t ≡ true → answer ≡ Err stop.Memory → told mid ≡ told old

@@ -18,6 +18,8 @@ use Rattle.pickle_further.specs.declared.way.Pickles.TheVariants as pickles
 use Rattle.picklestep.specs.declared.task.Task.{Task}
 use Rattle.picklestep.specs.declared.task.Task.TheVariants as task
 use Rattle.picklestep.specs.declared.task.GivenFile.{GivenFile}
+use Rattle.picklestep.specs.declared.task.Format.{Format}
+use Rattle.picklestep.specs.declared.task.Format.TheVariants as format
 use Rattle.picklestep.specs.declared.task.CallsOptions.{CallsOptions}
 use Rattle.picklestep.specs.declared.task.GateOptions.{GateOptions}
 use Rattle.picklestep.specs.declared.task.Options.{Options}
@@ -58,6 +60,9 @@ many_rule = record (new_rule (codes "many")) { long = Some (codes "many"); actio
 abbrev pub unframed_rule : Rule
 unframed_rule = record (new_rule (codes "unframed")) { long = Some (codes "unframed"); action = Some SetTrue }
 
+abbrev pub json_rule : Rule
+json_rule = record (new_rule (codes "json")) { long = Some (codes "json"); action = Some SetTrue }
+
 abbrev pub first_rule : Rule
 first_rule = record (new_rule (codes "first")) { long = Some (codes "first"); action = Some SetTrue }
 
@@ -77,6 +82,9 @@ on_file name = with_rule (with_rule (new_app name) file_rule) many_rule
 -- one that may be done without a look at frames
 abbrev pub frames_app : Text → App
 frames_app name = with_rule (on_file name) unframed_rule
+
+abbrev pub list_app : App
+list_app = with_rule (frames_app (codes "list")) json_rule
 
 abbrev pub calls_app : App
 calls_app = with_rule (with_rule (with_rule (with_rule (on_file (codes "calls")) first_rule) memo_rule) full_rule) skip_rule
@@ -108,7 +116,7 @@ wants_subcommand a = record a { top = record a.top { subcommand_required = true 
 abbrev pub program : App
 program =
     with_subcommand (with_subcommand (with_subcommand (with_subcommand (with_subcommand (with_subcommand (with_subcommand (with_subcommand (wants_subcommand
-    (new_app (codes "picklestep"))) (frames_app (codes "list")).top) (frames_app (codes "objects")).top) calls_app.top) debug_app.top)
+    (new_app (codes "picklestep"))) list_app.top) (frames_app (codes "objects")).top) calls_app.top) debug_app.top)
     (on_file (codes "form")).top) gate_app.top) reach_app.top) members_app.top
 
 -- ---- the task that matches name
@@ -162,6 +170,11 @@ abbrev pub HasDetail : List Row → Detail → Type 0
 HasDetail rows detail.Full = first_of (codes "full") rows ≡ Some (codes "true")
 HasDetail rows detail.Cut = first_of (codes "full") rows ≢ Some (codes "true")
 
+-- the answer is JSON with `--json`, and text without it
+abbrev pub HasFormat : List Row → Format → Type 0
+HasFormat rows format.Json = first_of (codes "json") rows ≡ Some (codes "true")
+HasFormat rows format.Text = first_of (codes "json") rows ≢ Some (codes "true")
+
 -- the texts behind each `--skip`
 abbrev pub skips_of : List Row → List Text
 skips_of rows = unwrap_or (all_of (codes "skip") rows) []
@@ -202,7 +215,7 @@ pub record HasOptions (rows : List Row) (options : Options) : Type 0 where
   pub window_is : IsWindow (one_of (codes "window") rows) options.window
 
 abbrev pub IsNamed : Matches → Task → Type 0
-IsNamed matches (task.List input) = IsUsed (codes "list") matches input
+IsNamed matches (task.List input f) = (u : IsUsed (codes "list") matches input) × HasFormat u.rows f
 IsNamed matches (task.Objects input) = IsUsed (codes "objects") matches input
 IsNamed matches (task.Calls input options) = (u : IsUsed (codes "calls") matches input) × HasCallsOptions u.rows options
 IsNamed matches (task.Form input) = IsUsed (codes "form") matches input
@@ -248,7 +261,7 @@ pub record NamesTask (matches : Matches) : Type 0 where
 
 -- a number of step records is within the bounds
 abbrev pub IsBounded : Task → Type 0
-IsBounded (task.List input) = ⊤
+IsBounded (task.List input f) = ⊤
 IsBounded (task.Objects input) = ⊤
 IsBounded (task.Calls input options) = ⊤
 IsBounded (task.Form input) = ⊤

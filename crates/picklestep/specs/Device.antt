@@ -10,6 +10,7 @@ use Rattle.pickle_doc.specs.Document.{Contents, ReadsIn, ReadsAs, size_limit}
 use Rattle.pickle_show.specs.Output.{Output}
 use Rattle.pickle_show.specs.Listing.{listing}
 use Rattle.pickle_show.specs.Report.{IsReport}
+use Rattle.pickle_json.specs.Listing as lines
 use Rattle.pickle_further.specs.CallsText.{IsCallsText}
 use Rattle.pickle_script.specs.declared.stop.Stop.{Stop}
 use Rattle.pickle_script.specs.declared.stop.Stop.TheVariants as stop
@@ -23,6 +24,8 @@ use Rattle.pickle_script.specs.Output.{IsCallsOfFile}
 use Rattle.picklestep.specs.declared.task.Task.{Task}
 use Rattle.picklestep.specs.declared.task.Task.TheVariants as task
 use Rattle.picklestep.specs.declared.task.GivenFile.{GivenFile}
+use Rattle.picklestep.specs.declared.task.Format.{Format}
+use Rattle.picklestep.specs.declared.task.Format.TheVariants as format
 use Rattle.picklestep.specs.declared.task.CallsOptions.{CallsOptions}
 use Rattle.picklestep.specs.Files.{Gives, Reports, IsCutShort, IsShut}
 
@@ -71,6 +74,15 @@ IsTextOf text.Objects many loose bytes o = (d : Contents) × ReadsIn many loose 
 IsTextOf (text.Reach granted) many loose bytes o = IsReachText granted bytes o
 IsTextOf (text.Calls pickles detail) many loose bytes o = IsCallsText (whole detail) pickles bytes o
 
+-- these are the lines of JSON of bytes: the listing of the document that they read as
+abbrev pub IsLinesOf : Bool → Bool → List ℕ → Output → Type 0
+IsLinesOf many loose bytes o = (d : Contents) × ReadsIn many loose bytes d × (o ≡ lines.listing d)
+
+-- the listing of bytes, as text or as lines of JSON
+abbrev pub is_listing : Format → Bool → Bool → List ℕ → Output → Type 0
+is_listing format.Text many loose = IsTextOf text.Listing many loose
+is_listing format.Json many loose = IsLinesOf many loose
+
 -- the source was not read whole, and nothing was written
 pub record WasNotRead (source source' : Gives) (old new : Told) (result : Result ℕ Stop) : Type 0 where
   pub why : ReadStop
@@ -92,7 +104,7 @@ AnswersInput Is source source' old new result = WasNotRead source source' old ne
 
 -- the file that a task is done on
 abbrev pub input_of : Task → GivenFile
-input_of (task.List input) = input
+input_of (task.List input f) = input
 input_of (task.Objects input) = input
 input_of (task.Calls input options) = input
 input_of (task.Form input) = input
@@ -115,7 +127,7 @@ asks_for_text _ = true
 -- the device took so of the text that is asked for, in the mode that is asked for, of all bytes of the source; a report, the form and what is reached
 -- come last
 abbrev pub AnswersTask : Task → Gives → Gives → Told → Told → Result ℕ Stop → Type 0
-AnswersTask (task.List input) source source' old new result = AnswersInput (IsTextOf text.Listing input.many input.unframed) source source' old new result
+AnswersTask (task.List input f) source source' old new result = AnswersInput (is_listing f input.many input.unframed) source source' old new result
 AnswersTask (task.Objects input) source source' old new result =
     AnswersInput (IsTextOf text.Objects input.many input.unframed) source source' old new result × NoneWithoutMemory old new result
 AnswersTask (task.Calls input options) source source' old new result = AnswersInput (is_calls options) source source' old new result

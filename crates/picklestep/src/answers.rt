@@ -2,12 +2,13 @@
 //! speak of the device.
 
 ghost use Rattle.std.specs.Prelude.{◌≡◌, ◌≢◌, true, Err};
-ghost use Rattle.picklestep.specs.Device.{NoneWithoutMemory, comes_last, IsTextOf, AnswersInput, AnswersTask, AnswersFile, is_calls, asks_for_text, device_of, input_of as asked_input};
+ghost use Rattle.picklestep.specs.Device.{NoneWithoutMemory, comes_last, IsTextOf, IsLinesOf, is_listing, AnswersInput, AnswersTask, AnswersFile, is_calls, asks_for_text, device_of, input_of as asked_input};
 ghost use Rattle.picklestep.specs.Files.{gives, reports};
 
 use crate::files::{Files, open_file};
 use crate::output::write_out;
-use crate::task::{CallsOptions, GivenFile, Task};
+use crate::task::{CallsOptions, Format, GivenFile, Task};
+use json_script::write_listing_lines;
 use pickle_doc::LIMIT;
 use pickle_io::{Buffered, Sink, Source, read_limited};
 use pickle_script::{Stop, Text, calls_of_file, write_text};
@@ -32,6 +33,45 @@ fn answer_text<R: Source, K: Sink + Drop>(
     let bytes = read_limited(alloc, source, LIMIT)?;
     let written = write_text(alloc, text, many, loose, bytes.as_slice(), page);
     write_out(page, written)
+}
+
+/// Reads a source whole, writes the listing of its bytes as JSON Lines, hands all of it on, and answers the status. The bytes are one pickle,
+/// or where `many` holds several that follow one another; where `loose` holds frames are not looked at. The stops are those of `answer_task`.
+fn answer_lines<R: Source, K: Sink + Drop>(
+    alloc: Global,
+    many: bool,
+    loose: bool,
+    source: &mut R,
+    page: &mut Buffered<K>,
+) -> Result<u8, Stop>
+    requires handed { (⟦<Buffered<K> as Sink>⟧.told page.old).held ≡ 0 }
+    ensures answers { AnswersInput (IsLinesOf many loose) (gives (R.remaining source.old) (R.failures source.old))
+        (gives (R.remaining source.new) (R.failures source.new)) (K.told (device_of page.old)) (K.told (device_of page.new)) result }
+    ensures handed { result ≢ Err Stop.Write → (⟦<Buffered<K> as Sink>⟧.told page.new).held ≡ 0 }
+{
+    let bytes = read_limited(alloc, source, LIMIT)?;
+    let written = write_listing_lines(alloc, many, loose, bytes.as_slice(), page);
+    write_out(page, written)
+}
+
+/// The same of the listing, as text or as JSON Lines.
+fn answer_listing<R: Source, K: Sink + Drop>(
+    alloc: Global,
+    format: Format,
+    many: bool,
+    loose: bool,
+    source: &mut R,
+    page: &mut Buffered<K>,
+) -> Result<u8, Stop>
+    requires handed { (⟦<Buffered<K> as Sink>⟧.told page.old).held ≡ 0 }
+    ensures answers { AnswersInput (is_listing format many loose) (gives (R.remaining source.old) (R.failures source.old))
+        (gives (R.remaining source.new) (R.failures source.new)) (K.told (device_of page.old)) (K.told (device_of page.new)) result }
+    ensures handed { result ≢ Err Stop.Write → (⟦<Buffered<K> as Sink>⟧.told page.new).held ≡ 0 }
+{
+    match format {
+        Format::Text => answer_text(alloc, Text::Listing, many, loose, source, page),
+        Format::Json => answer_lines(alloc, many, loose, source, page),
+    }
 }
 
 /// Reads a source whole, writes what is left of its bytes without the holes would import and call, hands all of it on, and answers the status.
@@ -59,7 +99,7 @@ fn input_of(task: &Task) -> &GivenFile
     ensures { result.now ≡ asked_input task.now }
 {
     match task {
-        Task::List(input) => input,
+        Task::List(input, _) => input,
         Task::Objects(input) => input,
         Task::Calls(input, _) => input,
         Task::Form(input) => input,
@@ -89,9 +129,9 @@ fn answer_task<R: Source, K: Sink + Drop>(
     ensures handed { result ≢ Err Stop.Write → (⟦<Buffered<K> as Sink>⟧.told page.new).held ≡ 0 }
 {
     match task {
-        Task::List(input) => {
+        Task::List(input, format) => {
             let (many, loose) = (input.many, input.unframed);
-            answer_text(alloc, Text::Listing, many, loose, source, page)
+            answer_listing(alloc, *format, many, loose, source, page)
         }
         Task::Objects(input) => {
             let (many, loose) = (input.many, input.unframed);

@@ -38,7 +38,7 @@ pub fn carry_out<R: Asker<Buffered<K>>, K: Sink + Drop, F: Files>(
 {
     match task {
         Task::Debug(input, options) => debug_file(alloc, input, options, source, page, files),
-        Task::List(_) => answer_file(alloc, task, files, page),
+        Task::List(_, _) => answer_file(alloc, task, files, page),
         Task::Objects(_) => answer_file(alloc, task, files, page),
         Task::Calls(_, _) => answer_file(alloc, task, files, page),
         Task::Form(_) => answer_file(alloc, task, files, page),

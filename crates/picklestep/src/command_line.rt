@@ -2,7 +2,7 @@
 
 ghost use Rattle.std.specs.Prelude.{◌≡◌, IfOk, false, codes};
 ghost use Rattle.clap.specs.Words.{rule_of, app_of, new_app};
-ghost use Rattle.picklestep.specs.CommandLine.{file_rule, files_rule, many_rule, unframed_rule, first_rule, memo_rule, full_rule, skip_rule, window_rule, save_rule, list_rule, extensions_rule, persistent_rule, buffers_rule, on_file, frames_app, calls_app, debug_app, gate_app, reach_app, members_app, wants_subcommand, program};
+ghost use Rattle.picklestep.specs.CommandLine.{file_rule, files_rule, many_rule, unframed_rule, first_rule, memo_rule, full_rule, skip_rule, window_rule, save_rule, json_rule, list_rule, extensions_rule, persistent_rule, buffers_rule, on_file, frames_app, list_app, calls_app, debug_app, gate_app, reach_app, members_app, wants_subcommand, program};
 
 use clap::{Arg, ArgAction, Command};
 use std::alloc::{AllocError, Global};
@@ -71,6 +71,17 @@ fn unframed_argument<'a>(alloc: Global) -> Arg<'a>
     Arg::new(alloc, "unframed")
         .long("unframed")
         .help("take FRAME for an opcode like others, as a pickle needs that was cut off")
+        .action(ArgAction::SetTrue)
+}
+
+/// Whether the answer is JSON.
+fn json_argument<'a>(alloc: Global) -> Arg<'a>
+    ensures rule { rule_of result ≡ json_rule }
+    ensures local { result.global ≡ false }
+{
+    Arg::new(alloc, "json")
+        .long("json")
+        .help("print JSON Lines, for programs: an object in each line")
         .action(ArgAction::SetTrue)
 }
 
@@ -202,6 +213,18 @@ fn with_frames<'a>(alloc: Global, name: &'a str, about: &'a str) -> Result<Comma
     on_file(alloc, name, about, MANY)?.arg(unframed_argument(alloc))
 }
 
+/// The command that lists the opcodes of a file.
+fn list_command<'a>(alloc: Global) -> Result<Command<'a>, AllocError>
+    ensures { IfOk result (λ c. app_of c ≡ list_app) }
+{
+    with_frames(
+        alloc,
+        "list",
+        "Lists the opcodes of FILE with their offsets and arguments",
+    )?
+    .arg(json_argument(alloc))
+}
+
 /// The command that prints what a file would import and call.
 fn calls_command<'a>(alloc: Global) -> Result<Command<'a>, AllocError>
     ensures { IfOk result (λ c. app_of c ≡ calls_app) }
@@ -281,11 +304,7 @@ pub fn command_line<'a>(alloc: Global) -> Result<Command<'a>, AllocError>
 {
     // Each command is given over as soon as it is made: one that waits for the others is one more to be dropped where memory runs out.
     without_commands(alloc)
-        .subcommand(with_frames(
-            alloc,
-            "list",
-            "Lists the opcodes of FILE with their offsets and arguments",
-        )?)?
+        .subcommand(list_command(alloc)?)?
         .subcommand(with_frames(
             alloc,
             "objects",

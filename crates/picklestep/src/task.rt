@@ -4,7 +4,7 @@ ghost use Rattle.std.specs.Prelude.{◌≡◌, ◌≤◌, IsTrue, ℕ, [], Optio
 ghost use Rattle.std.specs.String.{string_bytes};
 ghost use Rattle.clap.specs.Words.{found_of, first_of, one_of, rows_of, fault_of, subcommand_of, subcommand_rows_of, takes};
 ghost use Rattle.pickle_script.specs.GivenHoles.{holes_of};
-ghost use Rattle.picklestep.specs.CommandLine.{program, most_records, GivesReading, HasReading, HasInput, HasDetail, HasCallsOptions, skips_of, HasOptions, HasList, more_of, HasGateOptions, HasGranted, IsWindow, IsNamed, FitsOptions, NamesTask, IsBounded, IsMemory};
+ghost use Rattle.picklestep.specs.CommandLine.{program, most_records, GivesReading, HasReading, HasInput, HasDetail, HasCallsOptions, HasFormat, skips_of, HasOptions, HasList, more_of, HasGateOptions, HasGranted, IsWindow, IsNamed, FitsOptions, NamesTask, IsBounded, IsMemory};
 
 use crate::command_line::{MOST_RECORDS, command_line};
 use clap::error::ErrorKind;
@@ -34,8 +34,8 @@ pub struct GivenFile {
 /// What the program is asked to do, each with the file that it is done on.
 #[derive(Drop, Debug)]
 pub enum Task {
-    /// List the opcodes.
-    List(GivenFile),
+    /// List the opcodes, for people or for programs.
+    List(GivenFile, Format),
     /// Print one line per object, in creation order.
     Objects(GivenFile),
     /// Print what pickles would import and call. Whether the file is read as several pickles changes nothing.
@@ -50,6 +50,15 @@ pub enum Task {
     Members(GivenFile),
     /// Read commands from standard input and answer each.
     Debug(GivenFile, Options),
+}
+
+/// What an answer is written as.
+#[derive(Clone, Copy, Debug, PartialEq, Eq)]
+pub enum Format {
+    /// Text for people.
+    Text,
+    /// JSON Lines for programs: an object in each line.
+    Json,
 }
 
 /// The options of what pickles would import and call.
@@ -263,6 +272,17 @@ fn detail_of(found: &ArgMatches<'_>) -> Detail
     }
 }
 
+/// What an answer is written as.
+fn format_of(found: &ArgMatches<'_>) -> Format
+    ensures { HasFormat (rows_of (found_of found.now)) result }
+{
+    if is_given(found, "json") {
+        Format::Json
+    } else {
+        Format::Text
+    }
+}
+
 /// What a loader was given besides the bytes.
 fn granted_of(found: &ArgMatches<'_>) -> Granted
     ensures { HasGranted (rows_of (found_of found.now)) result }
@@ -353,7 +373,7 @@ fn named(alloc: Global, matches: &ArgMatches<'_>) -> Result<Option<Task>, AllocE
         return Ok(None);
     };
     if name == "list" {
-        Ok(Some(Task::List(input)))
+        Ok(Some(Task::List(input, format_of(found))))
     } else if name == "objects" {
         Ok(Some(Task::Objects(input)))
     } else if name == "calls" {

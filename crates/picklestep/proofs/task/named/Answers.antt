@@ -56,3 +56,15 @@ returns-then-eq-7-clause-some c =
       },
       c.granted_of.ensures,
     )
+
+pub returns-then-eq-clause-some : goal.returns-then-eq-clause-some
+returns-then-eq-clause-some c =
+    let name : c.in-Some.name.now ≡ codes "list" = search rules in
+    let rows = rows_of (found_of c.in-Some.found.now) in (
+      record {
+        rows = rows;
+        used = used_is _ _ _ _ _ c.in-Some.ensures.name c.in-Some.ensures.rows ∙ ap (λ (n : Text). Some (n, rows)) name;
+        input_is = search rules;
+      },
+      c.format_of.ensures,
+    )

@@ -1,0 +1,85 @@
+-- The table of opcodes as JSON Lines: a line for each, in the order of the table.
+-- Source: the opcode table of Python's `pickletools`; the names of fields and of forms are own.
+use Rattle.std.specs.Prelude.{ℕ, List, [], codes, Bool, true, false}
+use Rattle.json.specs.Json.{string, boolean}
+use Rattle.pickle_io.specs.Device.{each}
+use Rattle.pickle_ops.specs.declared.form.Form.{Form}
+use Rattle.pickle_ops.specs.declared.form.Form.TheVariants as form
+use Rattle.pickle_ops.specs.declared.opcode.Opcode.{Opcode}
+use Rattle.pickle_ops.specs.declared.row.Row.{Row}
+use Rattle.pickle_ops.specs.declared.row.Row.TheVariants as row
+use Rattle.pickle_ops.specs.Table.{code_of, name_of, protocol_of, form_of}
+use Rattle.pickle_ops.specs.Row.{row_of_opcode}
+use Rattle.json_lines.specs.Line.{Field, field, ◌⊕◌, whole, line}
+use Rattle.opcode_lines.specs.Words.{sentence_of, argument_of, takes_of, leaves_of}
+use Rattle.opcode_lines.specs.declared.lines.TheConstants.{ALL}
+
+-- ---- forms of arguments
+
+-- a number by its sign and how many bytes it has, a line by what it says, and bytes by how many bytes their length has
+unfoldable pub form_name : Form → List ℕ
+form_name form.Empty = codes "none"
+form_name form.U1 = codes "uint1"
+form_name form.U2 = codes "uint2"
+form_name form.U4 = codes "uint4"
+form_name form.U8 = codes "uint8"
+form_name form.S4 = codes "int4"
+form_name form.R8 = codes "float8"
+form_name form.Line = codes "line"
+form_name form.Quoted = codes "quoted"
+form_name form.Decimal = codes "decimal"
+form_name form.Two = codes "lines"
+form_name form.B1 = codes "bytes1"
+form_name form.B4 = codes "bytes4"
+form_name form.B8 = codes "bytes8"
+form_name form.Bs4 = codes "bytes4_signed"
+
+-- ---- what an opcode does
+
+-- it may make an object of its own
+abbrev pub makes_by : Row → Bool
+makes_by row.Nothing = false
+makes_by (row.Protocol n) = false
+makes_by (row.Extension n) = true
+makes_by row.Push = true
+makes_by row.Buffer = true
+makes_by row.ReadOnly = true
+makes_by (row.Take t) = true
+makes_by (row.Cut c) = true
+makes_by (row.Change f) = false
+makes_by (row.CutChange f) = false
+makes_by row.Pop = false
+makes_by row.PopMark = false
+makes_by row.Dup = false
+makes_by row.Mark = false
+makes_by (row.Get key) = false
+makes_by (row.Put key) = false
+makes_by row.Memoize = false
+makes_by row.Stop = false
+
+-- whatever its argument is
+abbrev pub makes_object : Opcode → Bool
+makes_object o = makes_by (row_of_opcode o [])
+
+-- ---- lines
+
+-- how it is written
+abbrev pub spelling_fields : Opcode → List Field
+spelling_fields o =
+    field (codes "name") (string (name_of o)) ⊕ field (codes "code") (whole (code_of o)) ⊕ field (codes "protocol") (whole (protocol_of o))
+    ⊕ field (codes "form") (string (form_name (form_of o))) ⊕ field (codes "argument") (string (argument_of o))
+
+-- what it does
+abbrev pub deed_fields : Opcode → List Field
+deed_fields o =
+    field (codes "takes") (string (takes_of o)) ⊕ field (codes "leaves") (string (leaves_of o)) ⊕ field (codes "makes") (boolean (makes_object o))
+    ⊕ field (codes "sentence") (string (sentence_of o))
+
+abbrev pub entry_fields : Opcode → List Field
+entry_fields o = spelling_fields o ⊕ deed_fields o
+
+unfoldable pub entry_line : Opcode → List ℕ
+entry_line o = line (codes "entry") (entry_fields o)
+
+abbrev pub table_text : List ℕ
+table_text = each entry_line ALL
