@@ -1,7 +1,7 @@
-// Asks the library. Each line of standard input has a task, which is words of the program (list --many, calls --skip 3:2, debug; or of what the
-// script leaves: edited list and the like; or gate with the file of a list; or reach), a limit of memory in bytes (0: none), the file that is asked about, the file that the text is put
-// in, and the file of the script of a conversation, with tabs between them. For each, a line of standard output has the answer and the status.
-// Status 1 where a file cannot be read or written.
+// Asks the library. Each line of standard input has a task, which is words of the program (list --many, calls --skip 3:2, debug; or gate with the
+// file of a list; or reach; or session, whose lines are asked one by one of a session that stays open; or saved, for the bytes that it has then), a
+// limit of memory in bytes (0: none), the file that is asked about, the file that the text is put in, and the file of the script of a conversation,
+// with tabs between them. For each, a line of standard output has the answer and the status. Status 1 where a file cannot be read or written.
 #include <picklestep.h>
 #include <stdio.h>
 #include <stdlib.h>
@@ -38,24 +38,6 @@ static memory content_of(const char *path) {
 
 // What is asked in a conversation.
 static memory script;
-
-typedef uint8_t of_script(bool, const uint8_t *, size_t, const uint8_t *, size_t, uint8_t *, size_t, picklestep_written *);
-
-static const struct {
-    const char *task;
-    bool many;
-    of_script *function;
-} OF_SCRIPT[] = {
-    {"debug", false, picklestep_debug},
-    {"debug --many", true, picklestep_debug},
-    {"edited list", false, picklestep_edited_list},
-    {"edited list --many", true, picklestep_edited_list},
-    {"edited objects", false, picklestep_edited_objects},
-    {"edited objects --many", true, picklestep_edited_objects},
-    {"edited calls", false, picklestep_edited_calls},
-    {"edited calls --first", false, picklestep_edited_calls_first},
-    {"edited calls --memo kept", false, picklestep_edited_calls_one_memo},
-};
 
 // The words of a task that are options.
 typedef struct {
@@ -100,6 +82,8 @@ static options options_of(const char *task) {
 
 static uint8_t ask_with(const char *task, memory given, memory out, picklestep_written *written) {
     const options o = options_of(task);
+    if (begins(task, "list") && strstr(task, " --json"))
+        return picklestep_list_json(o.options, given.bytes, given.size, out.bytes, out.size, written);
     if (begins(task, "list"))
         return picklestep_list_with(o.options, given.bytes, given.size, out.bytes, out.size, written);
     if (begins(task, "objects"))
@@ -108,21 +92,45 @@ static uint8_t ask_with(const char *task, memory given, memory out, picklestep_w
         return picklestep_calls_with(o.options, o.holes, o.count, given.bytes, given.size, out.bytes, out.size, written);
     if (begins(task, "debug"))
         return picklestep_debug_with(o.options, given.bytes, given.size, script.bytes, script.size, out.bytes, out.size, written);
-    if (begins(task, "edited list"))
-        return picklestep_edited_list_with(o.options, given.bytes, given.size, script.bytes, script.size, out.bytes, out.size, written);
-    if (begins(task, "edited objects"))
-        return picklestep_edited_objects_with(o.options, given.bytes, given.size, script.bytes, script.size, out.bytes, out.size, written);
-    if (begins(task, "edited calls"))
-        return picklestep_edited_calls_with(o.options, given.bytes, given.size, script.bytes, script.size, out.bytes, out.size, written);
     fputs("there is no such task\n", stderr);
     exit(1);
 }
 
-static uint8_t ask_of_script(const char *task, memory given, memory out, picklestep_written *written) {
-    for (size_t i = 0; i < sizeof OF_SCRIPT / sizeof *OF_SCRIPT; i++)
-        if (!strcmp(task, OF_SCRIPT[i].task))
-            return OF_SCRIPT[i].function(OF_SCRIPT[i].many, given.bytes, given.size, script.bytes, script.size, out.bytes, out.size, written);
-    return ask_with(task, given, out, written);
+// The texts of the lines of the script, asked one after another of a session up to `quit`, or then its bytes. The room of each is what `out` has left.
+static uint8_t ask_session(const char *task, memory given, memory out, picklestep_written *written) {
+    const char *window = strstr(task, " --window ");
+    picklestep_session session = {0};
+    uint8_t found = picklestep_open(options_of(task).options, window ? strtoul(window + strlen(" --window "), NULL, 10) : 0, given.bytes, given.size, &session);
+    size_t size = 0, left = out.size, next;
+    uint8_t status = 0;
+    static uint8_t none[1];
+    for (size_t at = 0; found == PICKLESTEP_DONE && at < script.size; at = next) {
+        const uint8_t *line = script.bytes + at, *end = memchr(line, '\n', script.size - at);
+        const size_t length = end ? (size_t)(end - line) : script.size - at;
+        next = at + length + 1;
+        if (length == 4 && !memcmp(line, "quit", 4))
+            break;
+        found = picklestep_ask(&session, line, length, left ? out.bytes + size : none, left, written);
+        if (found == PICKLESTEP_NO_ROOM) { // (the text waits; all further ones are only counted)
+            picklestep_written again;
+            if (left && picklestep_again(&session, out.bytes + size, left, &again) != PICKLESTEP_NO_ROOM)
+                exit(1);
+            found = PICKLESTEP_DONE, left = 0;
+        } else if (left) {
+            left -= written->size;
+        }
+        size += written->size;
+        status |= written->status;
+    }
+    if (found == PICKLESTEP_DONE && begins(task, "saved"))
+        found = picklestep_bytes(&session, out.bytes, out.size, written);
+    else if (found == PICKLESTEP_DONE)
+        *written = (picklestep_written){size, status};
+    if (found == PICKLESTEP_DONE && written->size > out.size)
+        found = PICKLESTEP_NO_ROOM;
+    if (picklestep_close(&session) != PICKLESTEP_DONE || session.is_open)
+        exit(1);
+    return found;
 }
 
 static uint8_t ask_gate(const char *path, memory given, memory out, picklestep_written *written) {
@@ -164,7 +172,13 @@ static uint8_t ask(const char *task, memory given, memory out, picklestep_writte
         return ask_gate(task + strlen("gate "), given, out, written);
     if (begins(task, "reach"))
         return ask_reach(task, given, out, written);
-    return ask_of_script(task, given, out, written);
+    if (begins(task, "session") || begins(task, "saved"))
+        return ask_session(task, given, out, written);
+    if (!strcmp(task, "debug"))
+        return picklestep_debug(false, given.bytes, given.size, script.bytes, script.size, out.bytes, out.size, written);
+    if (!strcmp(task, "debug --many"))
+        return picklestep_debug(true, given.bytes, given.size, script.bytes, script.size, out.bytes, out.size, written);
+    return ask_with(task, given, out, written);
 }
 
 static void answer(const char *task, size_t most, const char *from, const char *to, const char *lines) {

@@ -13,13 +13,6 @@ const TASKS = {
     'members': ['picklestep_members'],
     'debug': ['picklestep_debug', 0],
     'debug --many': ['picklestep_debug', 1],
-    'edited list': ['picklestep_edited_list', 0],
-    'edited list --many': ['picklestep_edited_list', 1],
-    'edited objects': ['picklestep_edited_objects', 0],
-    'edited objects --many': ['picklestep_edited_objects', 1],
-    'edited calls': ['picklestep_edited_calls', 0],
-    'edited calls --first': ['picklestep_edited_calls_first', 0],
-    'edited calls --memo kept': ['picklestep_edited_calls_one_memo', 0],
 };
 // What has options is asked of a function that takes them.
 const OPTIONS = { '--many': 1, '--unframed': 2, '--first': 4, '--memo': 8, '--full': 16 };
@@ -39,7 +32,8 @@ function asked(task, library) {
     const words = task.split(' '), sum = (values) => words.map((word) => values[word] ?? 0).reduce((all, one) => all | one);
     if (words[0] === 'reach') return ['picklestep_reach', sum(GRANTED)];
     const options = sum(OPTIONS);
-    const name = `picklestep_${words.slice(0, words[0] === 'edited' ? 2 : 1).join('_')}_with`;
+    if (words.includes('--json')) return [`picklestep_${words[0]}_json`, options];
+    const name = `picklestep_${words[0]}_with`;
     if (words[0] !== 'calls') return [name, options];
     const holes = words.filter((_, at) => words[at - 1] === '--skip').flatMap((hole) => hole.split(':').map(BigInt));
     const place = library.take(BigInt(8 * holes.length + 1));
@@ -47,14 +41,58 @@ function asked(task, library) {
     return [name, options, place, BigInt(holes.length / 2)];
 }
 
+// The texts of the lines of a script, asked one after another of a session up to `quit`, or then its bytes.
+function askSession(task, content, script) {
+    const library = new WebAssembly.Instance(module, {}).exports;
+    const put = (bytes) => {
+        const place = library.take(BigInt(bytes.length + 1));
+        if (!place) throw new RangeError('no memory for an input');
+        new Uint8Array(library.memory.buffer).set(bytes, Number(place));
+        return place;
+    };
+    const words = task.split(' '), window = words.includes('--window') ? BigInt(words[words.indexOf('--window') + 1]) : 0n;
+    const session = put(new Uint8Array(16)), written = put(new Uint8Array(16)), given = put(content), texts = [];
+    let room = 200, out = put(new Uint8Array(room)), status = 0;
+    const place = () => [out, BigInt(room), written];
+    const text = (answer, again) => {
+        const fields = new DataView(library.memory.buffer, Number(written)), size = Number(fields.getBigUint64(0, true));
+        if (answer === 3) {
+            library.give(out);
+            [out, room] = [put(new Uint8Array(size)), size];
+            return text(again(), again);
+        }
+        if (answer) throw new RangeError(`${answer} is answered`);
+        status |= fields.getUint8(8);
+        return new Uint8Array(library.memory.buffer).slice(Number(out), Number(out) + size);
+    };
+    const options = words.map((word) => OPTIONS[word] ?? 0).reduce((all, one) => all | one);
+    const answer = library.picklestep_open(options, window, given, BigInt(content.length), session);
+    if (answer) return { answer, status: 0, text: new Uint8Array() };
+    library.give(given);
+    for (const line of script.toString('latin1').replace(/\n$/, '').split('\n')) {
+        if (line === 'quit') break;
+        const said = put(Buffer.from(line, 'latin1'));
+        texts.push(text(library.picklestep_ask(session, said, BigInt(line.length), ...place()), () => library.picklestep_again(session, ...place())));
+        library.give(said);
+    }
+    if (task.startsWith('saved')) {
+        const again = () => library.picklestep_bytes(session, ...place());
+        status = 0;
+        texts.splice(0, texts.length, text(again(), again));
+    }
+    if (library.picklestep_close(session)) throw new Error('it is not closed');
+    return { answer: 0, status, text: Buffer.concat(texts) };
+}
+
 function ask(task, content, script) {
+    if (/^(session|saved)/.test(task)) return askSession(task, content, script);
     const library = new WebAssembly.Instance(module, {}).exports;
     const [name, ...first] = asked(task, library);
     const given = library.take(BigInt(content.length + 1)), written = library.take(16n), lines = library.take(BigInt(script.length + 1));
     if (!given || !written || !lines) return { answer: 1, status: 0, text: new Uint8Array() };
     new Uint8Array(library.memory.buffer).set(content, Number(given));
     new Uint8Array(library.memory.buffer).set(script, Number(lines));
-    const second = /^(debug|edited)/.test(task) ? [lines, BigInt(script.length)] : [];
+    const second = task.startsWith('debug') ? [lines, BigInt(script.length)] : [];
     for (let room = 200; ; ) {
         const out = library.take(BigInt(room));
         if (!out) return { answer: 1, status: 0, text: new Uint8Array() };

@@ -13,12 +13,17 @@ from typing import Dict, Optional, Protocol, Sequence, Tuple
 from . import place
 from .errors import ProgramError
 from .place import find_library, find_program, is_module
-from .question import Question, question, question_of_edits, question_of_gate, question_of_reach
+from .question import Question, question, question_of_gate, question_of_reach, reading
 
-__all__ = ['MOST_BYTES', 'answer', 'edited', 'gate', 'reach']
+__all__ = ['MOST_BYTES', 'MOST_KEPT', 'Kept', 'answer', 'gate', 'open_session', 'reach']
 
 # Inputs up to this size are asked about here. For a larger one the start of the program is a small part of its time.
 MOST_BYTES = 1 << 16
+# Of inputs up to this size a session is kept here. A hostile pickle takes some thousand times its size of memory, and of one that is larger a
+# process of its own may run out of memory.
+MOST_KEPT = 1 << 24
+# The most steps that a session can be told to remember.
+_MOST_STEPS = 1_000_000
 # A list may be larger than what it is about: that of a set has tens of thousands of bytes.
 _MOST_OF_LIST = 1 << 20
 # Whether something is reached is asked in a time that grows as the input does.
@@ -29,9 +34,29 @@ _MOST_MEMORY = 16 << 20
 _OF_PROGRAM = 8 << 20
 
 
+class Kept(Protocol):
+    """A session that stays open from line to line."""
+
+    def ask(self, line: bytes) -> bytes:
+        """The answer to a line, which has no newline."""
+        ...
+
+    def content(self) -> bytes:
+        """The bytes of the pickle as it is."""
+        ...
+
+    def close(self) -> None:
+        """Closes it."""
+        ...
+
+
 class _Library(Protocol):
     def ask(self, asked: Question, memory: int) -> Optional[bytes]:
         """The text, where it can be had in so much memory."""
+        ...
+
+    def open(self, content: bytes, options: int, window: int) -> Optional[Kept]:
+        """A session of this input, where the library keeps some."""
         ...
 
 
@@ -71,14 +96,16 @@ def answer(words: Sequence[str], content: bytes, memory: Optional[int] = None) -
     return _ask(question(words, content), memory)
 
 
-def edited(words: Sequence[str], many: bool, unframed: bool, content: bytes, script: bytes, memory: Optional[int] = None) -> Optional[bytes]:
-    """What the program writes about the bytes that the lines of a script leave of these, in a conversation about one pickle or `many`. None where
-    the program has to be asked.
+def open_session(content: bytes, many: bool, unframed: bool, window: Optional[int] = None) -> Optional[Kept]:
+    """A session of these bytes that is kept in this process, read as one pickle or as `many`. None where the program has to be started for it.
 
-    >>> edited(['calls'], False, False, b'N' * 100_000, b'') is None
+    >>> open_session(b'N.', False, False, window=0) is None
     True
     """
-    return _ask(question_of_edits(words, many, unframed, content, script), memory)
+    if len(content) > MOST_KEPT or not (window is None or 0 < window <= _MOST_STEPS):
+        return None
+    library = _library()
+    return None if library is None else library.open(content, reading(many, unframed), window or 0)
 
 
 def gate(entries: bytes, content: bytes, memory: Optional[int] = None) -> Optional[bytes]:

@@ -7,7 +7,7 @@ import struct
 from functools import lru_cache
 from typing import List, NamedTuple, Optional, Sequence, Tuple
 
-__all__ = ['FUNCTIONS', 'Question', 'granted', 'question', 'question_of_edits', 'question_of_gate', 'question_of_reach']
+__all__ = ['FUNCTIONS', 'Question', 'granted', 'question', 'question_of_gate', 'question_of_reach', 'reading']
 
 _TASKS = ('list', 'objects', 'calls')
 # How many options and inputs come before the room for the text. (Holes are an input of `calls`.)
@@ -17,7 +17,7 @@ FUNCTIONS = {
     'picklestep_reach': (1, 1),
     'picklestep_members': (0, 1),
     **{f'picklestep_{task}_with': (1, 2 if task == 'calls' else 1) for task in _TASKS},
-    **{f'picklestep_edited_{task}_with': (1, 2) for task in _TASKS},
+    'picklestep_list_json': (1, 1),
 }
 _MANY, _UNFRAMED = 1, 2
 # What a loader was given besides the bytes, for `reach`.
@@ -40,6 +40,8 @@ def question(words: Sequence[str], content: bytes) -> Optional[Question]:
 
     >>> question(['calls', '--full', '--skip', '3:2'], b'N.').options
     (16,)
+    >>> question(['list', '--many', '--json'], b'N.').function
+    'picklestep_list_json'
     >>> question(['scan'], b'N.') is None
     True
     """
@@ -55,22 +57,23 @@ def _asked_by(words: Tuple[str, ...]) -> Optional[Question]:
         return Question(f'picklestep_{task}', (), ())
     if task == 'reach' and len({*rest}) == len(rest) and {*rest} <= {*_GRANTED}:
         return Question('picklestep_reach', (granted(rest),), ())
+    if task == 'list' and '--json' in rest:
+        rest.remove('--json')
+        options = _options(rest)
+        return None if options is None or options.holes else Question('picklestep_list_json', (options.number,), ())
     options = _options(rest)
     if task not in _TASKS or options is None or (options.holes and task != 'calls'):
         return None
     return Question(f'picklestep_{task}_with', (options.number,), ((options.holes, _SIZE_OF_HOLE),) if task == 'calls' else ())
 
 
-def question_of_edits(words: Sequence[str], many: bool, unframed: bool, content: bytes, script: bytes) -> Optional[Question]:
-    """What is asked of the bytes that the lines of a script leave of these, in a conversation that reads them so."""
-    task, *rest = words
-    options = _options(rest)
-    if task not in _TASKS or options is None or options.holes:
-        return None
-    modes = _MANY * many | _UNFRAMED * unframed
-    if task != 'calls' and options.number != modes:  # (a listing is read as the conversation is)
-        return None
-    return Question(f'picklestep_edited_{task}_with', (options.number | modes,), ((content, _BYTE), (script, _BYTE)))
+def reading(many: bool, unframed: bool) -> int:
+    """How an input is read, as the library takes it.
+
+    >>> reading(many=True, unframed=True)
+    3
+    """
+    return _MANY * many | _UNFRAMED * unframed
 
 
 def question_of_gate(entries: bytes, content: bytes) -> Question:

@@ -28,10 +28,11 @@ IN_FORM = b'in form\n'
 _PASSES = 'passes'
 _NOT_ALLOWED = re.compile(r'([0-9]+): not allowed: (.*)')
 _NO_LIST = re.compile(rb'not a list: line ([0-9]+) is no entry\n')
-# What it answers of a zip archive: of bytes that are none, and of a member, whose name is in front.
+# What it answers of a zip archive: of bytes that are none, of one that is not looked at, and of a member, whose name is in front.
 _NO_ARCHIVE = re.compile(r'not in form: ([0-9]+): (.*)')
 _MEMBER = re.compile(r"('(?:[^'\\]|\\.)*'): (.*\n)")
-_UNSEEN = re.compile(r'(?:(packed)|(an archive) itself): (.*)')
+_UNSEEN = re.compile(r'(?:(an archive) itself|(two names .*|it unpacks .*)): (it is not looked at)')
+_BROKEN = re.compile(r'not deflated: (?:([0-9]+): )?(.*)|(another checksum than is told)')
 _BEHIND = 'behind its header: '
 _ENDED = re.compile(r'(?:refused|fault|unsure|kept): (.*?(?: at ([0-9]+))?)')
 # What `reach` answers where something is reached, and where nothing is; and where there are more ways than it goes.
@@ -221,7 +222,10 @@ def gate_answer(text: str) -> GateAnswer:
     line = text[:-1]
     unseen = _UNSEEN.fullmatch(line)
     if unseen is not None:
-        return GateAnswer(False, line, unseen[1] or unseen[2], unseen[3])
+        return GateAnswer(False, line, unseen[1] or 'not looked at', unseen[2] or unseen[3])
+    broken = _BROKEN.fullmatch(line)
+    if broken is not None:
+        return GateAnswer(False, line, 'broken', broken[2] or broken[3], None if broken[1] is None else int(broken[1]))
     other_archive = _NO_ARCHIVE.fullmatch(line)
     if other_archive is not None:
         return GateAnswer(False, line, 'other form', other_archive[2], int(other_archive[1]))

@@ -2,6 +2,7 @@
 
 from __future__ import annotations
 
+import abc
 import contextlib
 import html
 import os
@@ -10,7 +11,7 @@ import time
 import weakref
 from operator import index
 from pathlib import Path
-from typing import Dict, Iterator, List, Optional, Sequence, Tuple, Union, overload
+from typing import ContextManager, Dict, Iterator, List, Optional, Sequence, Tuple, Union, overload
 
 from . import library, replies
 from .addresses import is_in, opened_in
@@ -20,8 +21,8 @@ from .errors import PicklestepError, ProgramError, Refused, TimedOut
 from .program import Process, check_timeout, run_program
 from .records import Mark, Ran, Ref, Where
 from .saving import written_whole
-from .sources import Input, OwnFile, Source, is_opened, is_word
-from .tasks import AskedOfEdits, calls_of, frames_of, listing_of, modes
+from .sources import Input, OwnFile, Source, is_opened, is_word, small_content
+from .tasks import AskedOfSession, calls_of, frames_of, listing_of, modes
 from .wording import shown
 
 __all__ = ['SHIFTS', 'Session']
@@ -34,37 +35,34 @@ _SHOWN = 1000
 SHIFTS: Dict[str, int] = {'replace': 0, 'insert': 1, 'delete': -1, 'frame': 1, 'unframe': -1}
 # The words whose answers have any number of lines.
 _LONG_WORDS = ('items', 'objects', 'show')
+# How the answers to edits begin, and to what takes them back.
+_OF_EDITS = ('edited ', 'undone ', 'redone ')
+_NEWLINE = 'a line of a session cannot hold a newline'
 
 
-class _Talk:
-    """Lines to the program and their answers, one after another."""
+class _Talk(abc.ABC):
+    """Lines to a session and their answers, one after another. (A signal's handler may ask in the midst of an answer.)"""
 
-    def __init__(self, process: Process, timeout: Optional[float]) -> None:
-        self._process = process
-        self._timeout = timeout
-        self._lock = threading.Lock()
-        self._stdin, self._stdout = process.stdin, process.stdout
-        self._is_open = True
+    def __init__(self) -> None:
+        self._lock = threading.RLock()
         self._edits: List[bytes] = []
         self._undone: List[bytes] = []
-        with contextlib.suppress(OSError, AttributeError):  # (older versions on Windows have no such pipes)
-            os.set_blocking(self._stdin, False)
 
     def line(self, line: bytes) -> str:
         """The answer of one line to a line."""
         with self._lock:
-            answer = self._exchange(line, b'')[:-1].decode('ascii')
+            answer = self._answer(line, is_long=False)[:-1].decode('ascii')
             refused = replies.refused_in(answer)
             if refused is not None:
                 raise Refused(refused)
-            self._note(line, answer)
+            if answer.startswith(_OF_EDITS):
+                self._note(line, answer)
         return answer
 
     def lines(self, line: bytes) -> str:
-        """The answer of any number of lines to a line. It ends where the answer of a `where` begins that is sent after the line."""
+        """The answer of any number of lines to a line."""
         with self._lock:
-            answer = self._exchange(line, replies.WHERE_BEGINS, b'\nwhere')
-        text = answer[:answer.rfind(b'\n', 0, -1) + 1].decode('ascii')
+            text = self._answer(line, is_long=True).decode('ascii')
         refused = replies.refused_in(text)
         if refused is not None:
             raise Refused(refused)
@@ -74,23 +72,6 @@ class _Talk:
         """The lines of the edits that are not undone. Other threads may go on with the session."""
         with self._lock:
             return list(self._edits)
-
-    def _exchange(self, line: bytes, last: bytes, after: bytes = b'') -> bytes:
-        """Sends a line, and reads up to the end of a line that begins so."""
-        if b'\n' in line:
-            raise ValueError('a line of a session cannot hold a newline')
-        if not self._is_open:
-            raise ValueError('the session is closed')
-        try:
-            deadline = None if self._timeout is None else time.monotonic() + self._timeout
-            self._send(line + after + b'\n', deadline)
-            return self._receive(last, deadline)
-        except (BrokenPipeError, EOFError):
-            self._is_open = False
-            self._process.fail()
-        except BaseException:  # an answer that nobody read would be taken for the next one
-            self.close()
-            raise
 
     def _note(self, line: bytes, answer: str) -> None:
         """Keeps the edits that are not undone, each with the place that it was made at."""
@@ -104,6 +85,76 @@ class _Talk:
             self._undone.append(self._edits.pop())
         elif what == 'redone':
             self._edits.append(self._undone.pop())
+
+    @abc.abstractmethod
+    def _answer(self, line: bytes, is_long: bool) -> bytes:
+        """The answer to a line, of any number of lines where it `is_long`."""
+
+    def content(self) -> Optional[bytes]:
+        """The bytes of the pickle as it is, where they are to be had without a second run."""
+        return None
+
+    @abc.abstractmethod
+    def close(self) -> None:
+        """Ends it. Ending it twice does no harm."""
+
+
+class _InLibrary(_Talk):
+    """A session of the library, in this process."""
+
+    def __init__(self, kept: library.Kept) -> None:
+        super().__init__()
+        self._kept = kept
+
+    def _answer(self, line: bytes, is_long: bool) -> bytes:
+        if b'\n' in line:
+            raise ValueError(_NEWLINE)
+        return self._kept.ask(line)
+
+    def content(self) -> bytes:
+        with self._lock:
+            return self._kept.content()
+
+    def close(self) -> None:
+        with self._lock:
+            self._kept.close()
+
+
+class _InProgram(_Talk):
+    """A conversation with the program, in a process of its own."""
+
+    def __init__(self, process: Process, timeout: Optional[float]) -> None:
+        super().__init__()
+        self._process = process
+        self._timeout = timeout
+        self._stdin, self._stdout = process.stdin, process.stdout
+        self._is_open = True
+        with contextlib.suppress(OSError, AttributeError):  # (older versions on Windows have no such pipes)
+            os.set_blocking(self._stdin, False)
+
+    def _answer(self, line: bytes, is_long: bool) -> bytes:
+        if not is_long:
+            return self._exchange(line, b'')
+        # The answer ends where that of a `where` begins, which is sent after the line.
+        answer = self._exchange(line, replies.WHERE_BEGINS, b'\nwhere')
+        return answer[:answer.rfind(b'\n', 0, -1) + 1]
+
+    def _exchange(self, line: bytes, last: bytes, after: bytes = b'') -> bytes:
+        """Sends a line, and reads up to the end of a line that begins so."""
+        if b'\n' in line:
+            raise ValueError(_NEWLINE)
+        if not self._is_open:
+            raise ValueError('the session is closed')
+        try:
+            deadline = None if self._timeout is None else time.monotonic() + self._timeout
+            self._send(line + after + b'\n', deadline)
+            return self._receive(last, deadline)
+        except (BrokenPipeError, EOFError):
+            self._is_open = False
+            self._process.fail()
+        except BaseException:  # an answer that nobody read would be taken for the next one
+            self.close()
+            raise
 
     def _send(self, data: bytes, deadline: Optional[float]) -> None:
         while True:
@@ -145,12 +196,12 @@ class _Talk:
         self._process.close()
 
 
-def _close(talk: _Talk, given: Input) -> None:
+def _close(talk: _Talk, files: contextlib.ExitStack) -> None:
     talk.close()
-    given.close()
+    files.close()
 
 
-class Session(contextlib.AbstractContextManager['Session']):
+class Session(ContextManager['Session']):
     """A conversation with the program about one pickle, or with `many` about several that follow one another.
 
     A place counts the opcodes before it; `at` names it by its offset in the pickle as it is. What the program refuses raises `Refused`,
@@ -170,22 +221,53 @@ class Session(contextlib.AbstractContextManager['Session']):
         opened = opened_in(source)
         # The file that the pickle was opened in, if it was: it is not written over.
         self._container = '' if opened is None else opened.path
-        self._input = Input(source if opened is None else opened.content, own=True)
         self._many, self._unframed = many, unframed
-        self._words = ['debug', self._input.path, *modes(many, unframed)]
+        self._window = None if window is None else index(window)
+        self._source = source if opened is None else opened.content
+        self._input: Optional[Input] = None
+        self._files = contextlib.ExitStack()
         try:
-            talk = _Talk(Process([*self._words, *(['--window', str(index(window))] if window is not None else [])], self._input.files,
-                                 memory, stdin=True), timeout)
+            self._talk = self._opened() or self._started()
         except BaseException:
-            self._input.close()
+            self._files.close()
             raise
-        self._talk = talk
-        self._finalizer = weakref.finalize(self, _close, talk, self._input)
+        self._finalizer = weakref.finalize(self, _close, self._talk, self._files)
         try:
             self.where()  # a pickle that cannot be opened is reported here
         except BaseException:
             self.close()
             raise
+
+    def _opened(self) -> Optional[_Talk]:
+        """A session in this process, if it can be had. (Where time or memory are limited, a process is: it can be ended.)"""
+        if self._limits != (None, None):
+            return None
+        content = small_content(self._source, library.MOST_KEPT)
+        if content is None:
+            content = self._given().small_content(library.MOST_KEPT)
+        kept = None if content is None else library.open_session(content, self._many, self._unframed, self._window)
+        if content is None or kept is None:
+            return None
+        self._source = content
+        return _InLibrary(kept)
+
+    def _started(self) -> _Talk:
+        """A conversation with the program, which is started for it."""
+        timeout, memory = self._limits
+        given = self._given()
+        window = ['--window', str(self._window)] if self._window is not None else []
+        return _InProgram(Process([*self._words(), *window], given.files, memory, stdin=True), timeout)
+
+    def _given(self) -> Input:
+        """The pickle as it was, for runs of the program."""
+        if self._input is None:
+            self._input = Input(self._source, own=True)
+            self._files.callback(self._input.close)
+        return self._input
+
+    def _words(self) -> List[str]:
+        """What starts a conversation about it."""
+        return ['debug', self._given().path, *modes(self._many, self._unframed)]
 
     def close(self) -> None:
         """Ends the session. Closing it twice does no harm.
@@ -428,7 +510,8 @@ class Session(contextlib.AbstractContextManager['Session']):
         ...     session.replace(0, 'BININT1', 5), session.bytes()
         (0, b'K\\x05.')
         """
-        return self._bytes_after(self._talk.edits())
+        content = self._talk.content()
+        return self._bytes_after(self._talk.edits()) if content is None else content
 
     def listing(self) -> Listing:
         """The opcodes of the pickle with the edits that are not undone, as `picklestep.listing` shows them.
@@ -452,11 +535,11 @@ class Session(contextlib.AbstractContextManager['Session']):
             skip = frames_of(asked, not first) if self._unframed else ()
             return calls_of(asked, first, memo_kept, full, skip)
 
-    def _asked(self) -> AskedOfEdits:
+    def _asked(self) -> AskedOfSession:
         if not self._finalizer.alive:
             raise ValueError('the session is closed')
-        content = self._input.small_content(library.MOST_BYTES)
-        return AskedOfEdits(content, self._many, self._unframed, b''.join(self._talk.edits()), self.bytes, *self._limits)
+        small = isinstance(self._talk, _InLibrary) or self._given().small_content(library.MOST_BYTES) is not None
+        return AskedOfSession(self.bytes, small, *self._limits)
 
     def save(self, path: Union[str, 'os.PathLike[str]']) -> None:
         """Writes the pickle with the edits that are not undone into a file, which may be the one that was opened. Raises PicklestepError where that is
@@ -491,7 +574,7 @@ class Session(contextlib.AbstractContextManager['Session']):
         """Makes edits in a second run of the program, so that this one goes on."""
         if not self._finalizer.alive:
             raise ValueError('the session is closed')
-        answer = run_program([*self._words, '--save', path], [*self._input.files, *files], b''.join(edits), *self._limits)
+        answer = run_program([*self._words(), '--save', path], [*self._given().files, *files], b''.join(edits), *self._limits)
         if answer.count(b'edited ') != len(edits):
             raise ProgramError(f'an edit was not made again: {answer.decode("ascii")[-_SHOWN:]}')
 

@@ -340,7 +340,7 @@ class Errors(LeavesNothing):
         self.assertEqual(caught.exception.status, 2)
 
     def test_a_program_that_is_killed(self) -> None:
-        with Session(LIST) as session:
+        with Session(LIST, timeout=60) as session:
             session.step()
             process, = children() - self.before[0]
             os.kill(process, signal.SIGKILL)
@@ -392,7 +392,7 @@ class Errors(LeavesNothing):
                 action()
 
     def test_an_interrupted_question(self) -> None:
-        with Session(LIST) as session:
+        with Session(LIST, timeout=60) as session:
             with mock.patch('os.read', side_effect=KeyboardInterrupt), self.assertRaises(KeyboardInterrupt):
                 session.step()
             with self.assertRaises(ValueError):  # the answer to that step was never read
@@ -422,7 +422,7 @@ class NothingLeft(LeavesNothing):
             self.check_kill(code)
 
     def test_after_a_kill_with_a_session(self) -> None:
-        self.check_kill('import sys, time, picklestep\nsession = picklestep.Session(b"N.")\n'
+        self.check_kill('import sys, time, picklestep\nsession = picklestep.Session(b"N.", timeout=60)\n'
                         'print(session._talk._process._popen.pid, flush=True)\ntime.sleep(60)\n')
 
     def check_kill(self, code: str) -> None:
@@ -441,7 +441,7 @@ class NothingLeft(LeavesNothing):
         self.assertFalse(is_running(process))
 
     def test_when_the_interpreter_ends(self) -> None:
-        code = 'import picklestep\nsession = picklestep.Session(b"N.")\nprint(session._talk._process._popen.pid)\n'
+        code = 'import picklestep\nsession = picklestep.Session(b"N.", timeout=60)\nprint(session._talk._process._popen.pid)\n'
         run = subprocess.run([sys.executable, '-W', 'error', '-c', code], stdout=subprocess.PIPE, stderr=subprocess.PIPE, check=True,
                              env={**os.environ, 'PYTHONPATH': str(PACKAGE)})
         self.assertEqual(run.stderr, b'')

@@ -461,8 +461,7 @@ class Running(unittest.TestCase):
     def _end_by(self, number: signal.Signals) -> None:
         """Ends a server by a signal, and looks at what is left."""
         process, address = self.start()
-        children = self.children(process.pid)
-        self.assertTrue(children)
+        children = self.children(process.pid)  # (none, where the library keeps the session)
         process.send_signal(number)
         self.assertEqual(process.wait(20), 0)
         assert process.stderr is not None

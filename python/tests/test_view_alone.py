@@ -232,11 +232,8 @@ class Alone(InChromium):
         self.assertEqual(len(SHOWN), 20)
         self.compare(SHOWN)
 
-    def test_without_a_conversation_that_stays_alive(self) -> None:
-        script = self.browser.call('Page.addScriptToEvaluateOnNewDocument', source='delete WebAssembly.Suspending')['identifier']
-        self.addCleanup(self.browser.call, 'Page.removeScriptToEvaluateOnNewDocument', identifier=script)
-        self.compare([*SHOWN[1:20:5], self.file('two.pickle', b'NN(N.' + SYSTEM), self.file('views.pickle', b'C\x01a\x98\x97\x98\x98N\x87.')])
-        self.assertEqual(self.browser.js("'Suspending' in WebAssembly"), False)
+    def test_several_pickles_and_objects_of_buffers(self) -> None:
+        self.compare([self.file('two.pickle', b'NN(N.' + SYSTEM), self.file('views.pickle', b'C\x01a\x98\x97\x98\x98N\x87.')])
 
     # --- What is opened ---
 
@@ -359,26 +356,15 @@ class Alone(InChromium):
         self.said('undone 2: replace BINUNICODE at 2')
         self.assertEqual(self.requests(), [])
 
-    def test_edits_are_shown_without_saving(self) -> None:
-        """The library is asked of a small pickle as an edit leaves it; where it has no memory, and of a larger one, the program."""
+    def test_a_session_without_memory(self) -> None:
+        """What the page shows stays as it was."""
         self.load()
-        small, large = self.file('small.pickle', SYSTEM), self.file('large.pickle', b'(' + b'K\x01' * 40_000 + b't.')
-        with_little = base64.b64encode(with_memory((PAGE.parent / 'libpicklestep.wasm').read_bytes(), 0)).decode('ascii')
-        without_functions = base64.b64encode(b'\0asm\1\0\0\0').decode('ascii')
-        shown = []
-        for library, path, said in (('', small, 'edited 0'), (with_little, small, 'edited 0'), (without_functions, small, 'not done: '),
-                                    (without_functions, large, 'edited 0')):
-            if library:
-                self.browser.js(f"""(async () => {{ worker.program.library = await WebAssembly.compile(latin(atob('{library}')));
-                    endThread(worker.thread); worker.thread = newThread(); }})()""")
-            self.give(path)
-            self.browser.key('Delete')
-            self.said(said)
-            self.browser.js(SETTLED)
-            shown.append(self.browser.js(SEEN)['rows'])
-        self.assertEqual(shown[0], shown[1])
-        self.assertIn('10, STOP', shown[0]['4'][1])
-        self.assertIn('24, STOP', shown[2]['5'][1])
+        self.give(self.file('small.pickle', SYSTEM))
+        self.limit_memory('library', 0)
+        shown = self.browser.js(SEEN)['rows']
+        self.choose(self.file('other.pickle', b'NN0.'))
+        self.said('not done: out of memory')
+        self.assertEqual(self.browser.js(SEEN)['rows'], shown)
 
     def test_worked_examples(self) -> None:
         self.load()
@@ -658,10 +644,11 @@ class Alone(InChromium):
         self.browser.wait(FILLED)
         self.assertEqual(self.browser.js("document.querySelector('#edit-name').value"), 'POP')
 
-    def limit_memory(self, pages: int) -> None:
-        """Gives the module no more than so many pages of 65,536 bytes."""
-        module = base64.b64encode(with_memory((PAGE.parent / 'picklestep.wasm').read_bytes(), pages)).decode('ascii')
-        self.browser.js(f"""(async () => {{ worker.program.module = await WebAssembly.compile(latin(atob('{module}')));
+    def limit_memory(self, name: str, pages: int) -> None:
+        """Gives the program (`module`) or the `library` no more than so many pages of 65,536 bytes."""
+        file = {'module': 'picklestep.wasm', 'library': 'libpicklestep.wasm'}[name]
+        module = base64.b64encode(with_memory((PAGE.parent / file).read_bytes(), pages)).decode('ascii')
+        self.browser.js(f"""(async () => {{ worker.program.{name} = await WebAssembly.compile(latin(atob('{module}')));
             endThread(worker.thread); worker.thread = newThread(); }})()""")
 
     def insert_bytes(self, count: int) -> str:
@@ -684,14 +671,14 @@ class Alone(InChromium):
     def test_out_of_memory(self) -> None:
         """It is said, and the page goes on: where nothing was opened, in a step, in an edit, and while the rest is read."""
         self.load()
-        self.limit_memory(600)
+        self.limit_memory('module', 600)
         large = b'(' + b'K\x01' * 200_000 + b't.'
         self.choose(self.file('largest.pickle', b'(' + b'K\x01' * 10_000_000 + b't.'))
         self.said('not done: out of memory')
         self.give(self.file('large.pickle', large))
         self.browser.key('Delete')
         self.said('edited 0')
-        self.limit_memory(345)
+        self.limit_memory('library', 130)
         self.give(self.file('large.pickle', large))
         for key, said in (('End', 'refused: M out of memory'), ('ArrowRight', 'at 1')):
             self.browser.key(key)
@@ -705,7 +692,7 @@ class Alone(InChromium):
             self.assertLess(made, 60)
         self.assertIn(said, ('refused: M out of memory', 'not done: out of memory'))
         self.assertIn(f' of {200_003 + made}, ', self.texts('#where')[0])
-        self.limit_memory(600)
+        self.limit_memory('library', 600)
         self.choose(self.file('largest.pickle', b'(' + b'K\x01' * 5_000_000 + b't.'))
         self.browser.wait("document.querySelector('#rest').textContent === 'The first part is shown alone: out of memory'")
         self.browser.wait(f"document.querySelector('#reached').textContent === 'imports 0 of 0, calls 0 of 0 in this part: {UNKNOWN}: out of memory'")

@@ -15,3 +15,4 @@ pub mod WordLemmas
 pub mod HexWords
 pub mod Sayings
 pub mod PlaceLemmas
+pub mod OneLine

@@ -1,12 +1,13 @@
 -- What a conversation leaves: the bytes that the source gave, the session, what the sink took, and how often it failed.
 -- The bytes of a device that does not report them are not spoken of.
-use Rattle.std.specs.Prelude.{◌≡◌, ℕ, ◌≤◌, List, [], ◌∷◌, ◌++◌, length, true, false, ◌⊎◌, Option, None, Some, ⊤}
+use Rattle.std.specs.Prelude.{◌≡◌, ℕ, ◌≤◌, List, [], ◌∷◌, ◌++◌, length, Bool, true, false, ◌⊎◌, Option, None, Some, Result, IfOk, ⊤}
 use Rattle.std.specs.List.{concat}
 use Rattle.std.specs.Io.KnownBytes.{Consumes, IsAtEnd}
-use Rattle.pickle_io.specs.Device.{Told, IsPrefix, HasFailed, StaysHanded, Wrote, Broke}
+use Rattle.pickle_io.specs.declared.sink.Failed.{Failed}
+use Rattle.pickle_io.specs.Device.{Told, IsPrefix, HasFailed, StaysHanded, Wrote, Broke, Writes}
 use Rattle.pickle_script.specs.Script.{Cut, IsCut, lines_of}
 use Rattle.pickle_session.specs.Allowed.{SessionState}
-use Rattle.pickle_script.specs.Transcript.{PrintsAll, IsTranscript, has_quit, status_of}
+use Rattle.pickle_script.specs.Transcript.{Prints, PrintsAll, IsTranscript, has_quit, is_refusal, status_of}
 
 -- A transcript of what the source gave was written. A line that quits is among it, or the source has said its end.
 pub record Finishes (s after : SessionState) (status : ℕ) (source source' : Option (List ℕ)) (sink sink' : Told) : Type 0 where
@@ -101,3 +102,17 @@ pub record StopsInLine (Fails : List ℕ → List (List ℕ) → List ℕ → Ty
 abbrev pub StopsWriting : SessionState → SessionState → Option (List ℕ) → Option (List ℕ) → Told → Told → Type 0
 StopsWriting s after source source' sink sink' =
     StopsInLine (λ given texts text. BrokeBeyond sink sink' (concat texts) text × BrokeSince s given sink sink') s after source source'
+
+-- ---- line by line
+
+-- A line was obeyed, and its text written, or after a failure of the sink a beginning of it. The answer is whether the text is a refusal.
+pub record AnswersLine (line : List ℕ) (s after : SessionState) (old new : Told) (r : Result Bool Failed) : Type 0 where
+  pub text : List ℕ
+  pub prints : Prints s line text after
+  pub writes : Writes old new r text
+  pub refuses : IfOk r (λ refused. refused ≡ is_refusal text)
+
+-- As long as no line has quit, one more line continues a transcript: lines that are answered one after another give the transcript of all.
+abbrev pub OneByOne : Type 0
+OneByOne = (s mid after : SessionState) (lines texts : List (List ℕ)) (line text : List ℕ) → IsTranscript s lines texts mid → has_quit lines ≡ false
+    → Prints mid line text after → IsTranscript s (lines ++ line ∷ []) (texts ++ text ∷ []) after

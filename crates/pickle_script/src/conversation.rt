@@ -21,4 +21,4 @@ pub use keyword::{OpWord, PlaceWord};
 pub use line::{Action, Line, Place, Query, Syntax};
 pub use place::write_where;
 pub use reply::write_reply;
-pub use talk::converse;
+pub use talk::{answer_line, converse};

@@ -11,13 +11,13 @@ mod stop;
 mod texts;
 
 pub use conversation::{
-    Action, Line, OpWord, Place, PlaceWord, Query, Syntax, converse, read_command, write_items,
-    write_reply, write_where,
+    Action, Line, OpWord, Place, PlaceWord, Query, Syntax, answer_line, converse, read_command,
+    write_items, write_reply, write_where,
 };
 pub use given_holes::{first_unfit, holes_of};
-pub use laws::{one_cut, zero_where_passing};
+pub use laws::{one_by_one, one_cut, zero_where_passing};
 pub use stop::{Stop, line_of};
 pub use texts::{
-    Text, calls_of_file, line_for, list, list_many, objects, objects_many, verdict_status,
-    write_session_text, write_text, write_verdict,
+    Text, calls_of_file, document_bytes, line_for, list, list_many, objects, objects_many,
+    verdict_status, write_session_text, write_text, write_verdict,
 };

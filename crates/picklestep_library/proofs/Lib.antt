@@ -1,3 +1,4 @@
 mod Filled
 mod Left
-mod RunOut
+mod Opened
+mod Values

@@ -1,9 +1,8 @@
 -- What a function of the library leaves in its caller's memory.
 -- Source: own.
-use Rattle.std.specs.Prelude.{◌≡◌, ◌≢◌, ◌≤◌, ◌<◌, ◌↔◌, ◌⊎◌, ℕ, Bool, false, ◌||◌, List, [], ◌∷◌, length, take, drop, eqb, Option, Some, None, MatchBool}
-use Rattle.std.specs.List.{starts_with}
+use Rattle.std.specs.Prelude.{◌≡◌, ◌≢◌, ◌≤◌, ◌<◌, ◌↔◌, ◌⊎◌, ℕ, Bool, List, [], length, take, drop, Option, Some, None, MatchBool}
 use Rattle.pickle_io.specs.Device.{Told}
-use Rattle.pickle_doc.specs.Document.{size_limit, document_bytes}
+use Rattle.pickle_doc.specs.Document.{size_limit}
 use Rattle.pickle_io.specs.declared.hole.Hole.{Hole}
 use Rattle.pickle_session.specs.Opening.{IsOpenedIn}
 use Rattle.pickle_session.specs.Allowed.{SessionState}
@@ -11,12 +10,11 @@ use Rattle.pickle_show.specs.declared.naming.Detail.{Detail}
 use Rattle.pickle_show.specs.Manner.{manner}
 use Rattle.pickle_further.specs.declared.way.Pickles.{Pickles}
 use Rattle.pickle_script.specs.Output.{CompletesText, CompletesFile}
+use Rattle.pickle_json.specs.Written as lines
 use Rattle.pickle_script.specs.GateText.{WroteText}
 use Rattle.archive_script.specs.GateText.{IsGateText}
 use Rattle.archive_script.specs.MembersText.{IsMembersText}
 use Rattle.pickle_script.specs.Conversation.{Finishes}
-use Rattle.pickle_script.specs.ReplyText.{syntax_line}
-use Rattle.pickle_script.specs.declared.conversation.line.Syntax.TheVariants as syntax
 use Rattle.pickle_script.specs.declared.texts.written.Text.{Text}
 use Rattle.picklestep_library.specs.declared.fill.Written.{Written}
 use Rattle.picklestep_library.specs.Asked.{are_modes}
@@ -30,6 +28,10 @@ took bytes = record { taken = Some bytes; held = 0; failures = 0 }
 -- these bytes are the whole text of an input, read as several pickles or as one, and with its frames or loose, and this is its status
 abbrev pub IsTextOf : Text → Bool → Bool → List ℕ → List ℕ → ℕ → Type 0
 IsTextOf text many loose bytes written status = CompletesText text many loose bytes (took []) (took written) status
+
+-- these bytes are all lines of JSON of the listing of an input, and this is its status
+abbrev pub IsLinesOf : Bool → Bool → List ℕ → List ℕ → ℕ → Type 0
+IsLinesOf many loose bytes written status = lines.IsListed many loose bytes (took []) (took written) status
 
 -- these bytes are the whole text of what is imported and called by what is left of an input without its holes, and this is its status
 abbrev pub IsCallsOf : Detail → List Hole → Pickles → List ℕ → List ℕ → ℕ → Type 0
@@ -50,25 +52,6 @@ pub record IsTalkOf (many loose : Bool) (bytes script written : List ℕ) (statu
   pub after : SessionState
   pub rest : List ℕ
   pub finishes : Finishes begun after status (Some script) (Some rest) (took []) (took written)
-
--- somewhere in these answers stands that of a line for which memory ran out: a command is answered in these words too (`refused_command`)
-abbrev pub has_run_out : List ℕ → Bool
-has_run_out [] = false
-has_run_out (byte ∷ bytes) = starts_with eqb (byte ∷ bytes) (syntax_line syntax.Memory) || has_run_out bytes
-
--- these bytes are the whole text of the document that a session of an input has after the lines of a script, for none of which memory ran out,
--- and this is its status
-pub record IsTextAfter (text : Text) (many loose : Bool) (bytes script written : List ℕ) (status : ℕ) : Type 0 where
-  pub begun : SessionState
-  pub opened : IsOpenedIn many loose bytes begun
-  pub after : SessionState
-  pub rest : List ℕ
-  pub answers : List ℕ
-  pub answered : ℕ
-  pub finishes : Finishes begun after answered (Some script) (Some rest) (took []) (took answers)
-  pub had_memory : has_run_out answers ≡ false
-  pub completes :
-      CompletesText text after.session.document.many after.session.document.loose (document_bytes after.session.document) (took []) (took written) status
 
 -- ---- the caller's memory
 

@@ -1,2 +1,6 @@
 pub mod Answer
 pub mod Asked
+pub mod Handle
+pub mod Kept
+pub mod Owned
+pub mod Talk

@@ -13,7 +13,7 @@ use std::alloc::{AllocError, Global};
 
 /// Several pickles that follow one another.
 const MANY: u32 = 1;
-/// Frames are not looked at: no option of imports and calls, but of those of what a script leaves.
+/// Frames are not looked at: no option of imports and calls.
 const UNFRAMED: u32 = 2;
 /// Of imports and calls: the first pickle alone.
 const FIRST: u32 = 4;
@@ -84,7 +84,7 @@ fn pickles_by(first: bool, memo_kept: bool) -> Option<Pickles>
 }
 
 /// The pickles that are read, where these are options for that and go together.
-pub fn pickles_of(options: u32) -> Option<Pickles>
+fn pickles_of(options: u32) -> Option<Pickles>
     ensures { result ≡ pickles_of options }
 {
     if options <= ALL {

@@ -6,17 +6,19 @@ ghost use Rattle.picklestep_library.specs.Answer.{Puts};
 
 use pickle_script::Stop;
 
-/// The whole text is where the caller wants it.
-const DONE: u8 = 0;
-/// Memory ran out; of a text of what a script leaves also for one of its lines.
-const OUT_OF_MEMORY: u8 = 1;
+/// The whole text is where the caller wants it, or what was asked for is done.
+pub const DONE: u8 = 0;
+/// Memory ran out. A session is as it was.
+pub const OUT_OF_MEMORY: u8 = 1;
 /// The input has more than 1,073,741,824 bytes.
 const TOO_LARGE: u8 = 2;
 /// The text has no room in what was offered for it.
 const NO_ROOM: u8 = 3;
 /// The options are not those of the function, or do not go together, or a hole begins before the end of the one before it, or ends behind
-/// 2^62.
+/// 2^62; or a session was to be asked where none is open, or opened where one is.
 pub const NO_TASK: u8 = 4;
+/// A line was obeyed, and memory ran out for its text.
+pub const LOST: u8 = 5;
 
 /// The room for what a text is gathered in on its way. It is cleared first: where the input is small, more would take a good part of the time.
 pub const ROOM: usize = 8_192;

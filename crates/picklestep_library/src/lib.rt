@@ -1,30 +1,39 @@
 //! The library for other languages: what the program prints of an input, in memory of the caller. A caller gives bytes and memory for the
 //! text; nothing else is read or written. `picklestep.h` says the same to a reader of C.
 //!
-//! Each function answers 0 where the whole text is at the start of `out`, 1 where memory ran out (also for a line of a script, where a text
-//! of what it leaves is asked for), 2 where the input has more than 1,073,741,824 bytes, and 3 where the text has no room in `out`: `written`
-//! has its size then. One that takes options answers 4 where they are not its own, or do not go together, or where a hole begins before the
+//! Each function answers 0 where the whole text is at the start of `out`, 1 where memory ran out, 2 where the input has more than 1,073,741,824
+//! bytes, and 3 where the text has no room in `out`: `written` has its size then. One that takes options answers 4 where they are not its own, or do not go together, or where a hole begins before the
 //! end of the one before it, or ends behind 2^62. Where it is not 0, `out` stays as it was; where it is, what is
 //! behind the text does.
+//!
+//! A session stays open in a handle from call to call, until it is closed. Its functions answer 4 where none is open, and that which opens one
+//! where one is. To a line 1 is answered where memory ran out before the line was obeyed, and 5 where it was obeyed and memory ran out for its
+//! text; the session goes on after both.
 #![tactic(auto)]
 
 mod asked;
-mod edited;
+mod conversation;
 mod fill;
 mod gate;
+mod handle;
+mod lines;
+mod loose;
 mod members;
+mod session;
 mod talk;
 mod texts;
 
 ghost use Rattle.pickle_further.specs.declared.way.Pickles.TheVariants as pickles;
 ghost use Rattle.pickle_show.specs.declared.naming.Detail.TheVariants as detail;
 ghost use Rattle.pickle_script.specs.declared.texts.written.Text.TheVariants as asked_text;
-ghost use Rattle.std.specs.Prelude.{false};
-ghost use Rattle.picklestep_library.specs.Asked.{is_many, is_loose, pickles_of, pickles_left, detail_of, granted_of, holes_of};
-ghost use Rattle.picklestep_library.specs.Answer.{IsTextOf, IsCallsOf, IsGateOf, IsMembersOf, IsTalkOf, IsTextAfter, Fills, FillsIn, FillsOf};
+ghost use Rattle.std.specs.Prelude.{◌≡◌, false, None};
+ghost use Rattle.picklestep_library.specs.Asked.{is_many, is_loose, pickles_left, detail_of, granted_of, holes_of};
+ghost use Rattle.picklestep_library.specs.Answer.{IsTextOf, IsLinesOf, IsCallsOf, IsGateOf, IsMembersOf, IsTalkOf, Fills, FillsIn, FillsOf};
+ghost use Rattle.picklestep_library.specs.Handle.{Opens, Asks, AsksAgain, AsksBytes};
 
 pub use asked::GivenHole;
 pub use fill::Written;
+pub use handle::Handle;
 use pickle_further::Pickles;
 use pickle_script::Text;
 use pickle_show::Detail;
@@ -172,99 +181,6 @@ pub extern "C" fn picklestep_debug(
     talk::fill_talk(alloc, many, false, bytes, script, out, written)
 }
 
-/// The listing of a pickle as the lines of a script leave it, in a session of it, or where `many` holds of several: that of its bytes then.
-#[unsafe(no_mangle)]
-pub extern "C" fn picklestep_edited_list(
-    alloc: Global,
-    many: bool,
-    bytes: &[u8],
-    script: &[u8],
-    out: &mut [u8],
-    written: &mut Written,
-) -> u8
-    ensures { Fills (IsTextAfter asked_text.Listing many false bytes.now script.now) bytes.now out.old out.new written.new result }
-{
-    edited::fill_after(
-        alloc,
-        Text::Listing,
-        many,
-        false,
-        bytes,
-        script,
-        out,
-        written,
-    )
-}
-
-/// The report of the objects that it makes.
-#[unsafe(no_mangle)]
-pub extern "C" fn picklestep_edited_objects(
-    alloc: Global,
-    many: bool,
-    bytes: &[u8],
-    script: &[u8],
-    out: &mut [u8],
-    written: &mut Written,
-) -> u8
-    ensures { Fills (IsTextAfter asked_text.Objects many false bytes.now script.now) bytes.now out.old out.new written.new result }
-{
-    edited::fill_after(
-        alloc,
-        Text::Objects,
-        many,
-        false,
-        bytes,
-        script,
-        out,
-        written,
-    )
-}
-
-/// What it would import and call, read as pickles that follow one another.
-#[unsafe(no_mangle)]
-pub extern "C" fn picklestep_edited_calls(
-    alloc: Global,
-    many: bool,
-    bytes: &[u8],
-    script: &[u8],
-    out: &mut [u8],
-    written: &mut Written,
-) -> u8
-    ensures { Fills (IsTextAfter (asked_text.Calls pickles.All detail.Cut) many false bytes.now script.now) bytes.now out.old out.new written.new result }
-{
-    edited::fill_calls(alloc, Pickles::All, many, bytes, script, out, written)
-}
-
-/// What the first pickle of it alone would import and call.
-#[unsafe(no_mangle)]
-pub extern "C" fn picklestep_edited_calls_first(
-    alloc: Global,
-    many: bool,
-    bytes: &[u8],
-    script: &[u8],
-    out: &mut [u8],
-    written: &mut Written,
-) -> u8
-    ensures { Fills (IsTextAfter (asked_text.Calls pickles.First detail.Cut) many false bytes.now script.now) bytes.now out.old out.new written.new result }
-{
-    edited::fill_calls(alloc, Pickles::First, many, bytes, script, out, written)
-}
-
-/// What it would import and call, read by one unpickler that keeps its memo.
-#[unsafe(no_mangle)]
-pub extern "C" fn picklestep_edited_calls_one_memo(
-    alloc: Global,
-    many: bool,
-    bytes: &[u8],
-    script: &[u8],
-    out: &mut [u8],
-    written: &mut Written,
-) -> u8
-    ensures { Fills (IsTextAfter (asked_text.Calls pickles.OneMemo detail.Cut) many false bytes.now script.now) bytes.now out.old out.new written.new result }
-{
-    edited::fill_calls(alloc, Pickles::OneMemo, many, bytes, script, out, written)
-}
-
 // ---- with options
 
 /// The listing of an input that is read as the options say.
@@ -279,6 +195,20 @@ pub extern "C" fn picklestep_list_with(
     ensures { FillsIn options (IsTextOf asked_text.Listing (is_many options) (is_loose options) bytes.now) bytes.now out.old out.new written.new result }
 {
     texts::fill_in(alloc, Text::Listing, options, bytes, out, written)
+}
+
+/// The same listing as JSON Lines.
+#[unsafe(no_mangle)]
+pub extern "C" fn picklestep_list_json(
+    alloc: Global,
+    options: u32,
+    bytes: &[u8],
+    out: &mut [u8],
+    written: &mut Written,
+) -> u8
+    ensures { FillsIn options (IsLinesOf (is_many options) (is_loose options) bytes.now) bytes.now out.old out.new written.new result }
+{
+    lines::fill_lines_in(alloc, options, bytes, out, written)
 }
 
 /// The report of the objects that it makes.
@@ -327,50 +257,69 @@ pub extern "C" fn picklestep_debug_with(
     talk::fill_talk_in(alloc, options, bytes, script, out, written)
 }
 
-/// The listing of what the lines of a script leave of it.
+// ---- sessions by handle
+
+/// Opens a session of an input that is read as the options say, in a handle in which none is open. It remembers the latest `window` steps, of
+/// 1,000,000 at most, or all where `window` is 0.
 #[unsafe(no_mangle)]
-pub extern "C" fn picklestep_edited_list_with(
+pub extern "C" fn picklestep_open(
     alloc: Global,
     options: u32,
+    window: usize,
     bytes: &[u8],
-    script: &[u8],
-    out: &mut [u8],
-    written: &mut Written,
+    handle: &mut Handle,
 ) -> u8
-    ensures { FillsIn options
-        (IsTextAfter asked_text.Listing (is_many options) (is_loose options) bytes.now script.now) bytes.now out.old out.new written.new result }
+    ensures { Opens options window bytes.now handle.old.talk handle.new.talk result }
 {
-    edited::fill_after_in(alloc, Text::Listing, options, bytes, script, out, written)
+    session::open(alloc, options, window, bytes, handle)
 }
 
-/// The report of the objects that this makes.
+/// Obeys a line, given without its newline, and puts its text there. The session keeps the text, for `picklestep_again`, until the next line is
+/// obeyed.
 #[unsafe(no_mangle)]
-pub extern "C" fn picklestep_edited_objects_with(
+pub extern "C" fn picklestep_ask(
     alloc: Global,
-    options: u32,
-    bytes: &[u8],
-    script: &[u8],
+    handle: &mut Handle,
+    line: &[u8],
     out: &mut [u8],
     written: &mut Written,
 ) -> u8
-    ensures { FillsIn options
-        (IsTextAfter asked_text.Objects (is_many options) (is_loose options) bytes.now script.now) bytes.now out.old out.new written.new result }
+    ensures { Asks line.now handle.old.talk handle.new.talk out.old out.new written.new result }
 {
-    edited::fill_after_in(alloc, Text::Objects, options, bytes, script, out, written)
+    session::ask(alloc, handle, line, out, written)
 }
 
-/// What it would import and call, as the options ask for it.
+/// The text of the latest line once more: for a caller whose room was too small.
 #[unsafe(no_mangle)]
-pub extern "C" fn picklestep_edited_calls_with(
+pub extern "C" fn picklestep_again(
     alloc: Global,
-    options: u32,
-    bytes: &[u8],
-    script: &[u8],
+    handle: &mut Handle,
     out: &mut [u8],
     written: &mut Written,
 ) -> u8
-    ensures { FillsOf (pickles_of options) (λ p. IsTextAfter (asked_text.Calls p (detail_of options)) (is_many options)
-        (is_loose options) bytes.now script.now) bytes.now out.old out.new written.new result }
+    ensures { AsksAgain handle.old.talk handle.new.talk out.old out.new written.new result }
 {
-    edited::fill_calls_in(alloc, options, bytes, script, out, written)
+    session::ask_again(alloc, handle, out, written)
+}
+
+/// The bytes of the pickle as it is, edits and all.
+#[unsafe(no_mangle)]
+pub extern "C" fn picklestep_bytes(
+    alloc: Global,
+    handle: &mut Handle,
+    out: &mut [u8],
+    written: &mut Written,
+) -> u8
+    ensures { AsksBytes handle.old.talk handle.new.talk out.old out.new written.new result }
+{
+    session::ask_bytes(alloc, handle, out, written)
+}
+
+/// Closes the session that is open in a handle, if there is one, and gives back all its memory.
+#[unsafe(no_mangle)]
+pub extern "C" fn picklestep_close(alloc: Global, handle: &mut Handle) -> u8
+    ensures closed { handle.new.talk ≡ None }
+    ensures done { result ≡ 0 }
+{
+    session::close(alloc, handle)
 }

@@ -31,7 +31,7 @@ fn answers<P: Past, S: Source>(
 }
 
 /// The answers to the lines of a script, and the status.
-pub fn answers_to<P: Past>(
+fn answers_to<P: Past>(
     alloc: Global,
     session: &mut Session<P>,
     script: &[u8],
@@ -43,7 +43,7 @@ pub fn answers_to<P: Past>(
 }
 
 /// A session of an input, which keeps all records.
-pub fn open(alloc: Global, many: bool, loose: bool, bytes: &[u8]) -> Result<Session<Whole>, Stop>
+fn open(alloc: Global, many: bool, loose: bool, bytes: &[u8]) -> Result<Session<Whole>, Stop>
     ensures opened { IfOk result (IsOpenedIn many loose bytes.now) }
     ensures large { (result ≡ Err stops.TooLarge) ↔ (size_limit < length bytes.now) }
 {

@@ -201,7 +201,7 @@ class Document:
                 with Input(self._content[1]) as given:
                     self._read_from(given)
             else:
-                self._read_from(self.session._input)
+                self._read_from(self.session._given())
         self.version += 1
         self._heap: Optional[Lines] = None
         self.edited = places_edited(self._edits)

@@ -4,7 +4,6 @@ from __future__ import annotations
 
 import contextlib
 import os
-import pickletools
 from array import array
 from bisect import bisect_left, bisect_right
 from itertools import accumulate, islice
@@ -12,6 +11,7 @@ from typing import Callable, Dict, Iterable, Iterator, List, Optional, Sequence,
 
 from ..errors import ProgramError
 from ..listed import bounded, in_columns
+from ..opcodes import TABLE
 from ..program import Process
 from ..sources import Input
 from ..tasks import left_out
@@ -323,21 +323,19 @@ def shown_code(code: str) -> str:
     return code if '!' <= code <= '~' else f'\\x{ord(code):02x}'
 
 
-_SHOWN_CODES: Dict[bytes, bytes] = {opcode.name.encode('ascii'): shown_code(opcode.code).encode('ascii') for opcode in pickletools.opcodes}
+_SHOWN_CODES: Dict[bytes, bytes] = {opcode.name.encode('ascii'): shown_code(opcode.letter).encode('ascii') for opcode in TABLE}
 
 # Opcodes that make no object. READONLY_BUFFER makes one or none.
-MAKE_NONE = frozenset(
-    'PROTO FRAME STOP MARK POP POP_MARK DUP PUT BINPUT LONG_BINPUT MEMOIZE GET BINGET LONG_BINGET APPEND APPENDS SETITEM SETITEMS '
-    'ADDITEMS BUILD'.split())
+MAKE_NONE = frozenset(opcode.name for opcode in TABLE if not opcode.makes)
 
-CODE_BY_NAME: Dict[str, int] = {opcode.name: ord(opcode.code) for opcode in pickletools.opcodes}
+CODE_BY_NAME: Dict[str, int] = {opcode.name: opcode.code for opcode in TABLE}
 # The codes of opcodes, as they stand in a line with the blanks behind them.
-_CODE_OF: Dict[bytes, int] = {f'{shown_code(opcode.code):4}'.encode('ascii'): ord(opcode.code) for opcode in pickletools.opcodes}
+_CODE_OF: Dict[bytes, int] = {f'{shown_code(opcode.letter):4}'.encode('ascii'): opcode.code for opcode in TABLE}
 # What an opcode makes, by its code: none, an object, or perhaps one.
 _NONE, _ONE, _PERHAPS = range(3)
 _MAKES = bytearray(256)
-for _opcode in pickletools.opcodes:
-    _MAKES[ord(_opcode.code)] = _NONE if _opcode.name in MAKE_NONE else _PERHAPS if _opcode.name == 'READONLY_BUFFER' else _ONE
+for _opcode in TABLE:
+    _MAKES[_opcode.code] = _NONE if _opcode.name in MAKE_NONE else _PERHAPS if _opcode.name == 'READONLY_BUFFER' else _ONE
 _STEP = 256  # places, of which it is known how many are before them
 
 

@@ -3,9 +3,9 @@
 from __future__ import annotations
 
 import keyword
-import pickletools
 from typing import Any, Dict
 
+from ..opcodes import TABLE
 from ..python_source.builder import KINDS, MOST_SHORT, taken_count
 from ..hints import ARRAY, FRAME, OF_FRAMES
 from ..python_source.code import BEHIND, HEAD, HEAD_OF_CUT, HEAD_OF_CUT_PART, HEAD_OF_PART
@@ -13,8 +13,7 @@ from ..python_source.helpers import HELPERS
 from ..python_source.literals import MOST_DECIMAL_BITS
 from ..python_source.names import TAKEN
 from ..python_source.writer import COLUMNS, MOST_DEPTH, MOST_ITEMS, MOST_LETTERS
-from ..shell.explain import EFFECTS, EXPLAINED
-from .lines import MAKE_NONE, shown_code
+from .lines import shown_code
 
 __all__ = ['opcode_table', 'source_facts']
 
@@ -26,9 +25,8 @@ def opcode_table() -> Dict[str, Dict[str, Any]]:
     >>> opcode_table()['TUPLE2']['takes'], opcode_table()['MEMOIZE']['code']
     ('item, item', '\\\\x94')
     """
-    return {opcode.name: {'code': shown_code(opcode.code), 'form': opcode.arg.name if opcode.arg else '',
-                          'makes': opcode.name not in MAKE_NONE, 'says': EXPLAINED[opcode.name],
-                          'takes': EFFECTS[opcode.name][0], 'leaves': EFFECTS[opcode.name][1]} for opcode in pickletools.opcodes if opcode.name in EXPLAINED}
+    return {opcode.name: {'code': shown_code(opcode.letter), 'form': opcode.argument, 'makes': opcode.makes, 'says': opcode.sentence,
+                          'takes': opcode.takes, 'leaves': opcode.leaves} for opcode in TABLE}
 
 
 def source_facts() -> Dict[str, Any]:
@@ -39,7 +37,7 @@ def source_facts() -> Dict[str, Any]:
     >>> source_facts()['kinds']['TUPLE2'], source_facts()['taken']['len']
     (['tuple', 2], 'builtins len')
     """
-    kinds = {opcode.name: [KINDS[opcode.name], taken_count(opcode)] for opcode in pickletools.opcodes if opcode.name in KINDS}
+    kinds = {opcode.name: [KINDS[opcode.name], taken_count(opcode)] for opcode in TABLE if opcode.name in KINDS}
     return {'heads': [HEAD, HEAD_OF_CUT], 'headsOfPart': [HEAD_OF_PART, HEAD_OF_CUT_PART], 'behind': BEHIND, 'helpers': HELPERS,
             'hints': {'array': ARRAY, 'frame': FRAME, 'ofFrames': OF_FRAMES}, 'taken': {name: ' '.join(thing) for name, thing in TAKEN.items()},
             'keywords': [word for word in keyword.kwlist if word[0] != '_'], 'kinds': kinds,

@@ -2,7 +2,6 @@
 
 from __future__ import annotations
 
-import contextlib
 import hmac
 import json
 import re
@@ -13,7 +12,7 @@ import time
 from http import HTTPStatus
 from http.server import BaseHTTPRequestHandler, ThreadingHTTPServer
 from pathlib import Path
-from typing import Any, Callable, Dict, Optional
+from typing import Any, Callable, ContextManager, Dict, Optional
 
 from ..errors import ProgramError, Refused
 from .document import Document, Fields
@@ -37,7 +36,7 @@ _LENGTH = re.compile('[0-9]{1,9}')
 _MOST_WORDS = 1 << 20
 
 
-class Viewer(contextlib.AbstractContextManager['Viewer']):
+class Viewer(ContextManager['Viewer']):
     """Serves the page of a document until it is closed, or until no page was open for a while."""
 
     def __init__(self, document: Document, idle: float = IDLE) -> None:

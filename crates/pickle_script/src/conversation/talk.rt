@@ -5,9 +5,10 @@ ghost use Rattle.pickle_io.specs.Device.{HasFailed};
 ghost use Rattle.pickle_doc.specs.declared.fault.End.{End};
 ghost use Rattle.pickle_script.specs.ReplyText.{reply_text};
 ghost use Rattle.pickle_script.specs.Transcript.{is_refusal, quits};
-ghost use Rattle.pickle_script.specs.Conversation.{Finishes, StopsReading, StopsWriting};
+ghost use Rattle.pickle_script.specs.Conversation.{Finishes, StopsReading, StopsWriting, AnswersLine};
 ghost use Rattle.pickle_script.specs.Inside.Progress.{WritesLine, WritesSome, Feeds, Ends, was_refused};
 
+use crate::conversation::grammar::read_command;
 use crate::conversation::line::{Action, Line, Place, Syntax};
 use crate::conversation::outcome::{Flow, Outcome};
 use crate::conversation::pending::Pending;
@@ -107,6 +108,21 @@ fn obey_line<P: Past, K: Page>(
         Ok(Line::Quit) => Ok(Outcome::Accepted),
         Err(syntax) => refuse(session, syntax, page),
     }
+}
+
+/// Obeys one line, given without its newline, and writes its text, as `converse` does with a line of a script. Answers whether the text is a
+/// refusal. The line `quit` has no text and changes nothing. `Failed` where the sink fails: the line is obeyed then, too.
+pub fn answer_line<P: Past, K: Page>(
+    alloc: Global,
+    session: &mut Session<P>,
+    line: &[u8],
+    page: &mut K,
+) -> Result<bool, Failed>
+    ensures { AnswersLine line.now session.old session.new (K.told page.old) (K.told page.new) result }
+{
+    let says = read_command(alloc, line);
+    let outcome = obey_line(alloc, session, says, page)?;
+    Ok(outcome.is_refused())
 }
 
 /// Whether nothing after a line is obeyed.

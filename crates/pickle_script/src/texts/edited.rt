@@ -13,7 +13,7 @@ use pickle_show::{list_items, report_of_items};
 use std::alloc::Global;
 
 /// The bytes of a document. It fails only where memory runs out.
-fn bytes_of(alloc: Global, document: &Document) -> Result<Vec<u8>, Stop>
+pub fn document_bytes(alloc: Global, document: &Document) -> Result<Vec<u8>, Stop>
     ensures { IfOk result (λ bytes. bytes.items ≡ document_bytes document.now.contents) }
 {
     let mut page = match Buffered::new(alloc, ToWrite::new(Vec::new(alloc))) {
@@ -51,7 +51,7 @@ fn write_by_bytes<K: Page>(
 ) -> Result<u8, Stop>
     ensures { AnswersSession text document.now.contents K.told page.old page.new result }
 {
-    match bytes_of(alloc, document) {
+    match document_bytes(alloc, document) {
         Ok(bytes) => write_text(
             alloc,
             text,

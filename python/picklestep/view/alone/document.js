@@ -47,8 +47,8 @@ class Document {
     document.isPart = document.content.length < file.length;
     document.unknown = document.isPart ? 'what the rest imports and calls is not known yet' : '';
     progress('debug: reading the opcodes');
-    document.session = await Session.open(program, document.content, many);
-    await document.read().catch((error) => { document.session.close(); throw error; });
+    document.session = new Session(program, document.content, many);
+    await document.read();
     document.pickle = document.version; // (its edits have others)
     if (document.isPart) document.lines.closing = [document.said()];
     return document;
@@ -107,13 +107,13 @@ class Document {
   // --- The pickle as it is ---
 
   async read() {
-    if (this.session.edits.length || this.version) {
+    if (this.version) {
       this.content = null;
       this.lines = this.list();
     }
     const { places, place } = await this.session.where();
     this.listed = this.lines.length;
-    if (this.listed < places) await this.readItems();
+    if (this.listed < places) this.readItems();
     this.final = readObjects((words, into) => this.run(words, into), this.options);
     if (this.version || !this.reaches) this.reaches = this.readReaches();
     this.lines.closing.push(...this.reaches.behind, ...hintsOf(this.reaches, this.facts));
@@ -138,7 +138,7 @@ class Document {
     return new Reaches(calls, false);
   }
 
-  // The bytes of the pickle as it is: after an edit they are saved when they are asked for.
+  // The bytes of the pickle as it is: after an edit they are made when they are asked for.
   bytes() {
     this.content ??= this.session.bytes();
     return this.content;
@@ -146,12 +146,6 @@ class Document {
 
   // Does a task over the pickle as it is, and says how far it is. `check` may throw to end it.
   run(words, into, check = () => {}) {
-    const text = this.content ? null : this.session.textOf(words);
-    if (text) {
-      into.feed(text);
-      check(into);
-      return;
-    }
     let reported = 0;
     runTask(this.module, [words[0], 'file', ...words.slice(1)], this.bytes(), (bytes) => {
       into.feed(bytes);
@@ -162,9 +156,9 @@ class Document {
     });
   }
 
-  async readItems() {
+  readItems() {
     const items = new Lines();
-    items.feed(new TextEncoder().encode(await this.session.ask('items')));
+    items.feed(this.session.answer('items'));
     addItems(this.lines, items, this.opcodes);
   }
 
@@ -217,7 +211,7 @@ class Document {
     this.heap = null;
     const [imports, calls] = this.reaches.before(where.offset);
     const [stack, memo] = [await this.session.ask('stack'), await this.session.ask('memo')];
-    if (this.isExact()) await this.readHeap();
+    if (this.isExact()) this.readHeap();
     return {
       version: this.version, name: this.name, place: where.place, places: where.places, offset: where.offset,
       results: where.results.slice(-MOST_RESULTS), results_before: Math.max(0, where.results.length - MOST_RESULTS), end: this.isPart ? 'not read yet' : where.end,
@@ -238,9 +232,9 @@ class Document {
     return this.final.whole <= MOST_TEXT && this.made() <= MOST_EXACT;
   }
 
-  async readHeap() {
+  readHeap() {
     this.heap = new Lines();
-    this.heap.feed(new TextEncoder().encode(await this.session.ask('objects')));
+    this.heap.feed(this.session.answer('objects'));
   }
 
   // The objects at the cursor; where they are many, as they are at the end.

@@ -1,11 +1,10 @@
 'use strict';
-// The library in the page: what the program would write of a small pickle as edits leave it. Nothing is saved for that.
+// The library in the page: it keeps the session of a pickle, which is asked line by line.
 
-const MOST_EDITED = 1 << 16; // bytes of a pickle and of its edits,
-const MOST_ANSWER = 1 << 24; // and of a text; of more the program is asked, which gives a text in parts
 const FIRST_ROOM = 1 << 16;
-const DONE = 0, NO_ROOM = 3;
-const MANY = 1, FIRST = 4;
+const DONE = 0, TOO_LARGE = 2, NO_ROOM = 3, LOST = 5;
+const MANY = 1;
+const SIZE_OF_SESSION = 16, SIZE_OF_WRITTEN = 16;
 
 // An instance of the module: its memory never shrinks.
 class Library {
@@ -15,7 +14,7 @@ class Library {
 
   take(size) {
     const at = this.exports.take(BigInt(size));
-    if (!at) throw new RangeError('out of memory');
+    if (!at) throw new Error('out of memory');
     return at;
   }
 
@@ -23,37 +22,59 @@ class Library {
     return new Uint8Array(this.exports.memory.buffer, Number(at), size);
   }
 
-  // Puts an input into the memory, and answers its place and its length, as a function takes them.
-  put(input) {
+  // Does something with an input in the memory: with its place and its length, as a function takes them.
+  withInput(input, act) {
     const at = this.take(input.length + 1); // (no pointer may be nil)
-    this.bytes(at, input.length).set(input);
-    return [at, BigInt(input.length)];
-  }
-
-  // The text that a function gives of these inputs. Null where memory runs out, or the text is long.
-  ask(name, options, inputs) {
-    const given = inputs.flatMap((input) => this.put(input)), written = this.take(16);
-    for (let room = FIRST_ROOM; room <= MOST_ANSWER;) {
-      const out = this.take(room);
-      const answer = this.exports[name](options, ...given, out, BigInt(room), written);
-      const size = Number(new DataView(this.exports.memory.buffer).getBigUint64(Number(written), true));
-      if (answer === DONE) return this.bytes(out, size).slice();
-      if (answer !== NO_ROOM) return null;
-      this.exports.give(out);
-      room = size;
+    try {
+      this.bytes(at, input.length).set(input);
+      return act(at, BigInt(input.length));
+    } finally {
+      this.exports.give(at);
     }
-    return null;
   }
 }
 
-// What the program writes with these words of a pickle as edits leave it. Null where the program itself is to be asked.
-function textOfEdits(module, words, isMany, file, edits) {
-  if (file.length + edits.length > MOST_EDITED) return null;
-  const options = (isMany ? MANY : 0) + (words.includes('--first') ? FIRST : 0);
-  try {
-    return new Library(module).ask(`picklestep_edited_${words[0]}_with`, options, [file, edits]);
-  } catch (error) {
-    if (error instanceof RangeError) return null;
-    throw error;
+// A session in an instance of its own, whose memory goes with it.
+class Kept {
+  constructor(module, file, isMany) {
+    this.library = new Library(module);
+    this.session = this.library.take(SIZE_OF_SESSION);
+    this.written = this.library.take(SIZE_OF_WRITTEN);
+    this.room = FIRST_ROOM;
+    this.out = this.library.take(this.room);
+    this.library.bytes(this.session, SIZE_OF_SESSION).fill(0); // (none is open in it)
+    const { exports } = this.library;
+    const answer = this.library.withInput(file, (at, length) => exports.picklestep_open(isMany ? MANY : 0, 0n, at, length, this.session));
+    if (answer !== DONE) throw new Error(answer === TOO_LARGE ? 'too large' : 'out of memory');
+  }
+
+  // The answer to a line.
+  ask(line) {
+    const { exports } = this.library;
+    const answer = this.library.withInput(new TextEncoder().encode(line), (at, length) => exports.picklestep_ask(this.session, at, length, ...this.place()));
+    return this.text(answer, () => exports.picklestep_again(this.session, ...this.place()));
+  }
+
+  // The bytes of the pickle as it is.
+  bytes() {
+    const again = () => this.library.exports.picklestep_bytes(this.session, ...this.place());
+    return this.text(again(), again);
+  }
+
+  place() {
+    return [this.out, BigInt(this.room), this.written];
+  }
+
+  // The bytes that were put into the room; where they have none there, they are asked for once more, with as much as they need.
+  text(answer, again) {
+    const size = Number(new DataView(this.library.exports.memory.buffer).getBigUint64(Number(this.written), true));
+    if (answer === NO_ROOM) {
+      const out = this.library.take(size);
+      this.library.exports.give(this.out);
+      [this.out, this.room] = [out, size];
+      return this.text(again(), again);
+    }
+    if (answer !== DONE) throw new Error(answer === LOST ? 'out of memory: the answer to a line that was obeyed is lost' : 'out of memory');
+    return this.library.bytes(this.out, size).slice();
   }
 }

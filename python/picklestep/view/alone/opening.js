@@ -38,7 +38,7 @@ const host = {
     wireOpening();
     worker.code = URL.createObjectURL(new Blob([by('worker-code').textContent], { type: 'text/javascript' }));
     view.opcodes = JSON.parse(by('opcodes').textContent);
-    worker.program = { opcodes: view.opcodes, facts: JSON.parse(by('source-facts').textContent), isLive: 'Suspending' in WebAssembly };
+    worker.program = { opcodes: view.opcodes, facts: JSON.parse(by('source-facts').textContent) };
     try {
       [worker.program.module, worker.program.library] = await Promise.all(['module', 'library'].map(compiled));
     } catch (error) {

@@ -1,11 +1,10 @@
 'use strict';
-// What the program calls of its system (WASI, preview 1), for one run: it may read the file, write into `out`, which takes bytes as a
-// device does, and use standard input, output and error. Nothing else can be opened.
+// What the program calls of its system (WASI, preview 1), for one run: it may read the file, and write to standard output and error. Nothing
+// else can be opened.
 
 const BADF = 8, INVAL = 28, NOENT = 44, NOTCAPABLE = 76, SPIPE = 70;
-const FOLDER = 3, FILE = 4, OUT = 5;
+const FOLDER = 3, FILE = 4;
 const DEVICE = 2, REGULAR = 4; // kinds of files
-const NONE = new Uint8Array(0);
 
 class Ended extends Error {
   constructor(status) {
@@ -15,15 +14,13 @@ class Ended extends Error {
 }
 
 class Host {
-  // `input` answers the next bytes of standard input, or a promise of them, and none at its end. `output` and `out` take bytes.
-  constructor(words, file, { input = () => NONE, output, out = () => {} }) {
+  // `output` takes bytes.
+  constructor(words, file, output) {
     this.words = words.map((word) => new TextEncoder().encode(word + '\0'));
     this.file = file;
-    this.input = input;
-    this.writers = { 1: output, 2: (bytes) => { this.errors += new TextDecoder().decode(bytes); }, [OUT]: out };
+    this.writers = { 1: output, 2: (bytes) => { this.errors += new TextDecoder().decode(bytes); } };
     this.errors = '';
     this.at = 0;
-    this.rest = NONE;
   }
 
   bytes(at, size) {
@@ -60,20 +57,10 @@ class Host {
   }
 
   read(from, parts, count, moved) {
-    const room = this.part(parts)[1];
-    if (from === FILE) {
-      const bytes = this.file.subarray(this.at, this.at + room);
-      this.at += bytes.length;
-      return this.give(parts, moved, bytes);
-    }
-    if (from !== 0) return BADF;
-    const take = (bytes) => {
-      this.rest = bytes.subarray(room);
-      return this.give(parts, moved, bytes.subarray(0, room));
-    };
-    if (this.rest.length) return take(this.rest);
-    const next = this.input();
-    return next instanceof Promise ? next.then(take) : take(next);
+    if (from !== FILE) return BADF;
+    const bytes = this.file.subarray(this.at, this.at + this.part(parts)[1]);
+    this.at += bytes.length;
+    return this.give(parts, moved, bytes);
   }
 
   write(to, parts, count, moved) {
@@ -85,15 +72,14 @@ class Host {
   }
 
   open(name, how, at) {
-    if (name !== 'file' && name !== 'out') return how & 1 ? NOTCAPABLE : NOENT;
-    if (name === 'file') this.at = 0;
-    this.put(at, name === 'file' ? FILE : OUT);
+    if (name !== 'file') return how & 1 ? NOTCAPABLE : NOENT;
+    this.at = 0;
+    this.put(at, FILE);
     return 0;
   }
 
   about(name, at) {
-    if (name === 'file') return this.describe(at, REGULAR, this.file.length);
-    return name === 'out' ? this.describe(at, DEVICE, 0) : NOENT;
+    return name === 'file' ? this.describe(at, REGULAR, this.file.length) : NOENT;
   }
 
   listWords(words, at) {
@@ -118,7 +104,7 @@ class Host {
       path_open: (folder, flags, at, size, how, rights, more, mode, to) => this.open(this.named(at, size), how, to),
       fd_read: (...words) => this.read(...words),
       fd_write: (...words) => this.write(...words),
-      fd_close: (at) => (at === FILE || at === OUT ? 0 : BADF),
+      fd_close: (at) => (at === FILE ? 0 : BADF),
       fd_filestat_get: (at, to) => (at === FILE ? this.about('file', to) : this.describe(to, DEVICE, 0)),
       path_filestat_get: (folder, flags, at, size, to) => this.about(this.named(at, size), to),
       path_readlink: () => INVAL,
@@ -128,27 +114,12 @@ class Host {
     };
   }
 
-  start(module, imports) {
-    const { exports } = new WebAssembly.Instance(module, { wasi_snapshot_preview1: imports });
-    this.memory = exports.memory;
-    return exports._start;
-  }
-
   // Runs the program to its end. Throws why it gave no whole answer.
   run(module) {
     try {
-      this.start(module, this.imports())();
-    } catch (error) {
-      this.check(error);
-    }
-  }
-
-  // Starts the program where its input may be a promise, by what the engine has for that (JSPI). The promise is that of its end.
-  async runLive(module) {
-    const imports = this.imports();
-    imports.fd_read = new WebAssembly.Suspending(imports.fd_read);
-    try {
-      await WebAssembly.promising(this.start(module, imports))();
+      const { exports } = new WebAssembly.Instance(module, { wasi_snapshot_preview1: this.imports() });
+      this.memory = exports.memory;
+      exports._start();
     } catch (error) {
       this.check(error);
     }

@@ -60,9 +60,7 @@ const ANSWERS = {
 };
 
 async function open(bytes, name, many, isWhole = false) {
-  const before = page.document;
   page.document = await Document.open(page.program, bytes, name, many, isWhole, progress, isWhole ? page.reaches : null);
-  before?.session.close();
   page.whole = page.document.isPart ? { bytes, name, many } : null;
   return after('open');
 }
