@@ -33,16 +33,30 @@ if TYPE_CHECKING:
     from .trees import Call, tree
     from .values import PlainValue
 
-# No public name is that of a module: who imports the module would get that in its place.
-_MODULES = ('addresses', 'answers', 'comparing', 'errors', 'python_source', 'records', 'scan.checking', 'scan.gating', 'session', 'tasks', 'trees',
-            'values')
+# Which module has which public names. (Most need a few modules alone.) No public name is that of a module: who imports the module would get that in
+# its place.
+_MODULES = {
+    'addresses': ('FoundPickle', 'FoundPickles', 'pickles_in'),
+    'answers': ('Answer', 'Calls', 'Heap', 'Items', 'Listing', 'Objects', 'Part', 'Reached', 'ShownObjects'),
+    'comparing': ('Difference', 'compare'),
+    'errors': ('NoResult', 'NotAllowed', 'NotOpened', 'OutOfMemory', 'PicklestepError', 'ProgramError', 'Refused', 'TimedOut', 'TooLarge'),
+    'python_source': ('PythonSource', 'source'),
+    'records': ('Argument', 'Brief', 'Briefs', 'Change', 'End', 'Extension', 'GateAnswer', 'Global', 'Item', 'Mark', 'Name', 'Object', 'Opcode', 'OtherForm',
+                'Ran', 'Reach', 'ReachAnswer', 'Ref', 'Shown', 'Value', 'Where'),
+    'scan.checking': ('check',),
+    'scan.gating': ('gate',),
+    'session': ('Session',),
+    'tasks': ('calls', 'form', 'listing', 'objects', 'reach'),
+    'trees': ('Call', 'tree'),
+    'values': ('PlainValue',),
+}
 
 
 def check_python() -> None:
     """Raises ImportError in a Python that is too old. (The proved program's own words work with one.)"""
     from sys import version_info
-    if version_info < (3, 9):
-        raise ImportError('picklestep needs Python 3.9 or later')
+    if version_info < (3, 8):
+        raise ImportError('picklestep needs Python 3.8 or later')
 
 
 def __getattr__(name: str) -> object:
@@ -50,11 +64,10 @@ def __getattr__(name: str) -> object:
     if name in __all__:
         check_python()
         from importlib import import_module
-        for module in _MODULES:
-            found = vars(import_module(f'{__name__}.{module}'))
-            if name in found['__all__']:
-                globals()[name] = found[name]
-                return found[name]
+        for module, names in _MODULES.items():
+            if name in names:
+                globals()[name] = getattr(import_module(f'{__name__}.{module}'), name)
+                return globals()[name]
     raise AttributeError(f'module {__name__!r} has no attribute {name!r}')
 
 

@@ -65,7 +65,9 @@ class Labels:
 
     def _of_plain(self, value: Any) -> int:
         kind = type(value)
-        label = self._label(value.kind if kind is Unread else kind, literal(value) if kind is float else bytes(value) if kind is bytearray else value)
+        # (a pickle can choose numbers of one hash, and no texts)
+        text = literal(value) if kind is float else f'{value:x}' if kind is int else bytes(value) if kind is bytearray else value
+        label = self._label(value.kind if kind is Unread else kind, text)
         self._plain.add(label)
         return label
 

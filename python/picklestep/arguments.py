@@ -1,6 +1,6 @@
 """Arguments of opcodes, made from values.
 
-Which form an argument has is asked of the standard library (`pickletools`). A value is written as Python's own picklers write it. Bytes
+Which form an argument has says the table of opcodes. A value is written as Python's own picklers write it. Bytes
 are taken as they are: as the payload of a form with a length, and as the line (without its newline) of a form that is a line. So the
 `argument` of an `Opcode` can be given back.
 """
@@ -8,16 +8,15 @@ are taken as they are: as the payload of a form with a length, and as the line (
 from __future__ import annotations
 
 import pickle
-import pickletools
 import struct
 from typing import Callable, Dict, Sequence, Tuple, Union
+
+from .opcodes import BY_NAME
 
 __all__ = ['ArgumentValue', 'encoded']
 
 # What an opcode's argument can be made from.
 ArgumentValue = Union[bool, int, float, str, bytes, Tuple[Union[str, bytes], Union[str, bytes]]]
-
-_FORMS: Dict[str, str] = {opcode.name: opcode.arg.name if opcode.arg else '' for opcode in pickletools.opcodes}
 
 
 def encoded(name: str, values: Sequence[ArgumentValue]) -> bytes:
@@ -26,11 +25,12 @@ def encoded(name: str, values: Sequence[ArgumentValue]) -> bytes:
     >>> encoded('BININT2', [1]), encoded('GLOBAL', ['os', 'getcwd']), encoded('BINUNICODE', ['id'])
     (b'\\x01\\x00', b'os\\ngetcwd\\n', b'\\x02\\x00\\x00\\x00id')
     """
-    form = _FORMS.get(name, '')
+    entry = BY_NAME.get(name)
+    form = entry.argument if entry is not None else ''
     if len(values) == 1 and isinstance(values[0], tuple):
         values = values[0]
     wanted = 0 if not form else 2 if form == 'stringnl_noescape_pair' else 1
-    if name in _FORMS and len(values) != wanted:
+    if entry is not None and len(values) != wanted:
         raise TypeError(f'{name} takes {wanted} values, and {len(values)} were given')
     if not form:
         return b''

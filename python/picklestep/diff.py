@@ -7,8 +7,9 @@ import argparse
 import os
 import sys
 from collections import Counter
-from itertools import chain, repeat
-from typing import Any, Iterator, List, Optional, Tuple
+from functools import partial
+from itertools import chain, repeat, zip_longest
+from typing import Any, Callable, Iterator, List, Optional, Tuple, TypeVar
 
 from .addresses import given
 from .aligning import Steps, aligned, gaps
@@ -21,12 +22,13 @@ from .records import Opcode, Reach
 from .sources import Source, rereadable
 from .tasks import calls, frames, listing
 from .texts_of_calls import unnumbered
-from .trees import Values, values
+from .trees import Values, objects_to_stop, values
 from .wording import shown
 
 __all__ = ['main', 'of_opcodes', 'of_reaches']
 
 _BLOCK = 1 << 20
+_T = TypeVar('_T')
 
 
 def main(arguments: List[str]) -> int:
@@ -43,6 +45,9 @@ def main(arguments: List[str]) -> int:
     options = parser.parse_args(arguments)
     try:
         old, new = (rereadable(given(name)[0]) for name in (options.old, options.new))
+        if _has_same_bytes(old, new):
+            _named(options.old, lambda: objects_to_stop(old, options.many, options.unframed))
+            return 0
         comparison = Comparison(_values(options.old, old, options), _values(options.new, new, options))
         lines = [*map(str, comparison.of_results()), *of_reaches(old, new, options.unframed, comparison, options.full)]
         lines += of_opcodes(old, new, options.many, options.unframed) if options.opcodes else []
@@ -55,11 +60,26 @@ def main(arguments: List[str]) -> int:
 
 
 def _values(name: str, pickle: Source, options: argparse.Namespace) -> Tuple[Values, Any]:
-    """What is compared of a pickle. Where there is no result, it is said of which."""
+    """What is compared of a pickle."""
+    return _named(name, lambda: values(pickle, options.many, options.unframed, None, None))
+
+
+def _named(name: str, ask: Callable[[], _T]) -> _T:
+    """An answer about a pickle. Where there is no result, it is said of which."""
     try:
-        return values(pickle, options.many, options.unframed, None, None)
+        return ask()
     except NoResult as error:
         raise PicklestepError(f'{shown(name)}: {reason(error)}') from error
+
+
+def _has_same_bytes(old: Source, new: Source) -> bool:
+    """Whether two pickles are the same, byte by byte."""
+    if not isinstance(old, (str, os.PathLike)) or not isinstance(new, (str, os.PathLike)):
+        return type(old) is type(new) and bool(old == new)
+    with open(old, 'rb') as one, open(new, 'rb') as other:
+        if os.fstat(one.fileno()).st_size != os.fstat(other.fileno()).st_size:
+            return False
+        return all(first == second for first, second in zip_longest(*(iter(partial(file.read, _BLOCK), b'') for file in (one, other))))
 
 
 def of_reaches(old: Source, new: Source, unframed: bool = False, comparison: Optional[Comparison] = None, full: bool = False) -> Iterator[str]:
@@ -105,7 +125,7 @@ def of_opcodes(old: Source, new: Source, many: bool = False, unframed: bool = Fa
         yield f'highest protocol among opcodes: {answers[0].protocol} -> {answers[1].protocol}'
     one, other = (list(answer) for answer in answers)
     steps = Steps.for_items(len(one) + len(other))
-    keys = [[(opcode.name, opcode.argument) for opcode in some] for some in (one, other)]
+    keys = [[(opcode.name, _key(opcode.argument)) for opcode in some] for some in (one, other)]
     pairs = aligned(keys[0], keys[1], steps)
     for lefts, rights, _ in gaps(pairs, len(one), len(other)):
         names = [one[at].name for at in lefts], [other[to].name for to in rights]
@@ -115,6 +135,11 @@ def of_opcodes(old: Source, new: Source, many: bool = False, unframed: bool = Fa
             if pair is not None:
                 first, second = one[lefts[pair[0]]], other[rights[pair[1]]]
                 yield f'opcode at {first.offset}: {first.name} {" -> ".join(shown_pair(_argument(first), _argument(second)))}'
+
+
+def _key(argument: Any) -> Any:
+    """What an argument is compared by: of a number its digits, since a pickle can choose many numbers of one hash."""
+    return f'{argument:x}' if type(argument) is int else argument
 
 
 def _argument(opcode: Opcode) -> Any:

@@ -24,10 +24,10 @@ _ASKS_HELP = ('--help', '-h')
 
 def main(words: 'list[str]') -> int:
     """Does what the words say, and answers the status. A word of the program never comes back."""
-    if sys.version_info < (3, 9):
+    if sys.version_info < (3, 8):
         if words and _is_of_program(words[0]):
             return _hand_over(words)
-        return _complain('python3 is older than 3.9: only list, objects, calls, form, gate, reach, members and debug work with it')
+        return _complain('python3 is older than 3.8: only list, objects, calls, form, gate, reach, members and debug work with it')
     if not words or words[0] in _ASKS_HELP:
         return _print_page('picklestep', to_output=bool(words))
     first, rest = words[0], words[1:]
@@ -245,7 +245,7 @@ def _output(number: int, now: 'object') -> 'io.TextIOWrapper | None':
     if now is not None:
         if not isinstance(now, io.TextIOWrapper) or type(getattr(now.buffer, 'raw', now.buffer)) is not io.FileIO:
             return None
-        encoding, errors, is_by_lines = now.encoding, now.errors or 'strict', now.line_buffering or now.write_through
+        encoding, errors, is_by_lines = now.encoding, now.errors or 'strict', now.line_buffering or getattr(now, 'write_through', False)  # (older than 3.7)
     return io.TextIOWrapper(io.BufferedWriter(_Output(number, 'w', closefd=False)), encoding, errors, line_buffering=is_by_lines)
 
 

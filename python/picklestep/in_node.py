@@ -108,6 +108,9 @@ class InNode:
             finally:
                 self._is_asked = False
 
+    def open(self, content: bytes, options: int, window: int) -> None:
+        """None: a session that takes memory for good has a process of its own, so that another cannot use it up."""
+
     def _open(self) -> _Link:
         if self._link is None or self._link.owner != os.getpid():
             self._link = _Link(self._module, self._most)

@@ -9,7 +9,6 @@ The edits are those of a session, so it is the proved program that makes them an
 
 from __future__ import annotations
 
-import pickletools
 from dataclasses import dataclass
 from itertools import islice
 from typing import Dict, List, Optional, Set, Tuple
@@ -18,6 +17,7 @@ from .addresses import opened_in
 from .answers import Heap
 from .errors import PicklestepError, Refused
 from .hints import OF_FRAMES
+from .opcodes import BY_NAME
 from .program import run_program
 from .records import End, Mark, Object
 from .replies import opcode_refused_in, ran_of, refused_in
@@ -41,7 +41,6 @@ _OF_PROTOCOL = 'S6'
 _HIGHEST = 5
 _OF_PROTO = 2
 _PROTO_SIZE = 2
-_PROTOCOLS: Dict[str, int] = {opcode.name: opcode.proto for opcode in pickletools.opcodes}
 
 _UNHASHABLE = ('list', 'dict', 'set', 'bytearray')
 _FILLERS = {'list': 'APPENDS', 'set': 'ADDITEMS', 'dict': 'SETITEMS', 'append': 'APPENDS', 'add': 'ADDITEMS', 'set in': 'SETITEMS'}
@@ -118,7 +117,7 @@ def _with_protocol(content: bytes, many: bool, offset: int, text: str, steps: Li
     with Session(known, many=many) as session:
         _run(session)
         names = {item.name for item in islice(session.items(), session.where().place) if item.offset >= offset}
-    protocol = max([_PROTOCOLS[name] for name in names - {'PROTO'}] + [_OF_PROTO])
+    protocol = max([BY_NAME[name].protocol for name in names - {'PROTO'}] + [_OF_PROTO])
     steps.append(f'{offset}: PROTO {content[offset + 1]} replaced by PROTO {protocol}: {text}')
     return content[:offset + 1] + bytes([protocol]) + content[offset + _PROTO_SIZE:]
 

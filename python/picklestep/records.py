@@ -68,9 +68,10 @@ class GateAnswer:
     """What `gate` says of a pickle, or of a zip archive. It is true where it passes.
 
     `line` is the program's line. `kind` is 'passes', 'not allowed' (no list allows something that it does, or what it gives to a
-    call), 'other form' (no pickler writes it so) or 'ended' (it does not come to its STOP); or of a member of an archive 'packed' or 'an archive',
-    which are not looked at. `reason` says what that is, and `offset` where: in the member, if `member` names one, which is the first that does not
-    pass; or in what is behind the header of an `.npy` member, if `is_behind_header`.
+    call), 'other form' (no pickler writes it so) or 'ended' (it does not come to its STOP); or of a member of an archive 'broken' (it does not open)
+    or 'an archive', which is not looked at; or of a whole archive 'not looked at' (for its names, or for what it unpacks to). `reason` says what
+    that is, and `offset` where: in the member, if `member` names one, which is the first that does not pass, and in its packed bytes, if it is
+    broken; or in what is behind the header of an `.npy` member, if `is_behind_header`.
 
     >>> import picklestep
     >>> bool(picklestep.gate(b'N.')), picklestep.gate(b'J\\x01\\0\\0\\0.').kind

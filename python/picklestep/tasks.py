@@ -20,7 +20,7 @@ from .replies import other_form, reach_answer, where_of
 from .sources import Input, Source, is_read_once, small_content
 from .texts import MOST_OFFSET, OFFSET_IN_BYTES, frames_in
 
-__all__ = ['AskedOfEdits', 'calls', 'calls_of', 'form', 'frames', 'frames_of', 'left_out', 'listing', 'listing_of', 'modes', 'objects', 'reach']
+__all__ = ['Asked', 'AskedOfSession', 'calls', 'calls_of', 'form', 'frames', 'frames_of', 'left_out', 'listing', 'listing_of', 'modes', 'objects', 'reach']
 
 _Report = TypeVar('_Report', Objects, Calls)
 
@@ -44,7 +44,7 @@ def listing(source: Source, *, many: bool = False, unframed: bool = False, timeo
     4 TUPLE2 None
     5 STOP None
     """
-    with _Asked(source, timeout, memory) as asked:
+    with Asked(source, timeout, memory) as asked:
         return listing_of(asked, many, unframed)
 
 
@@ -56,7 +56,7 @@ def objects(source: Source, *, many: bool = False, unframed: bool = False, timeo
     >>> answer[2].kind, answer[2].parts, answer.results
     ('tuple', (0, 1), (2,))
     """
-    with _Asked(source, timeout, memory) as asked:
+    with Asked(source, timeout, memory) as asked:
         return _report(Objects, ['objects', *modes(many, unframed)], asked, modes(many, unframed))
 
 
@@ -78,7 +78,7 @@ def calls(source: Source, *, first: bool = False, memo_kept: bool = False, full:
     >>> [reach.offset for reach in calls(b'cposix\\nsystem\\n....(X\\x02\\x00\\x00\\x00idtR.', skip=[(14, 4)])]
     [0, 27]
     """
-    with _Asked(source, timeout, memory) as asked:
+    with Asked(source, timeout, memory) as asked:
         return calls_of(asked, first, memo_kept, full, asked.holes() if skip is None else skip)
 
 
@@ -90,7 +90,7 @@ def form(source: Source, *, timeout: Optional[float] = None, memory: Optional[in
     >>> form(b'J\\x01\\x00\\x00\\x00.').reason
     'a number that has a shorter form'
     """
-    with _Asked(source, timeout, memory) as asked:
+    with Asked(source, timeout, memory) as asked:
         return other_form(asked.answer(['form']))
 
 
@@ -108,7 +108,7 @@ def reach(source: Source, *, extensions: bool = False, persistent_ids: bool = Fa
     [False, True]
     """
     words = [word for word, given in (('--extensions', extensions), ('--persistent-ids', persistent_ids), ('--buffers', buffers)) if given]
-    with _Asked(source, timeout, memory) as asked:
+    with Asked(source, timeout, memory) as asked:
         return reach_answer(asked.answer(['reach', *words]))
 
 
@@ -119,21 +119,21 @@ def frames(source: Source, many: bool = False) -> List[Tuple[int, int]]:
     >>> frames(data), calls(data, skip=frames(data)).calls
     ([(2, 9)], 1)
     """
-    with _Asked(source, None, None) as asked:
+    with Asked(source, None, None) as asked:
         return frames_of(asked, many)
 
 
-def frames_of(asked: _Asked, many: bool) -> List[Tuple[int, int]]:
+def frames_of(asked: Asked, many: bool) -> List[Tuple[int, int]]:
     """The same of what is asked about."""
     return list(frames_in(asked.answer(['list', *modes(many, True)]).encode('ascii')))
 
 
-def listing_of(asked: _Asked, many: bool, unframed: bool = False) -> Listing:
+def listing_of(asked: Asked, many: bool, unframed: bool = False) -> Listing:
     """The opcodes of what is asked about."""
     return Listing(asked.answer(['list', *modes(many, unframed)]))
 
 
-def calls_of(asked: _Asked, first: bool, memo_kept: bool, full: bool, skip: Iterable[Tuple[int, int]] = ()) -> Calls:
+def calls_of(asked: Asked, first: bool, memo_kept: bool, full: bool, skip: Iterable[Tuple[int, int]] = ()) -> Calls:
     """What it imports and calls."""
     if first and memo_kept:
         raise ValueError('first and memo_kept are two readings')
@@ -164,7 +164,7 @@ def left_out(skip: Iterable[Tuple[int, int]]) -> Iterator[List[str]]:
         yield ['--skip', f'@{path}']
 
 
-def _report(kind: Type[_Report], words: List[str], asked: _Asked, listing_words: Optional[List[str]]) -> _Report:
+def _report(kind: Type[_Report], words: List[str], asked: Asked, listing_words: Optional[List[str]]) -> _Report:
     """An answer that counts opcodes and not bytes. Where one was refused, a reading by these words says at which offset."""
     answer = kind(asked.answer(words))
     if answer.end.how != 'refused' or listing_words is None:
@@ -177,7 +177,7 @@ def modes(many: bool, unframed: bool = False) -> List[str]:
     return [*(['--many'] if many else []), *(['--unframed'] if unframed else [])]
 
 
-class _Asked:
+class Asked:
     """A source that is asked about: a small one in this process, another as an input of the program, from when that is needed."""
 
     def __init__(self, source: Source, timeout: Optional[float], memory: Optional[int]) -> None:
@@ -244,7 +244,7 @@ class _Asked:
         # (A FIFO is read once, and a second question would wait for ever. With a timeout it is the program that waits for its writer.)
         return Input(self._source, own=self._timeout is None and is_read_once(self._source))
 
-    def __enter__(self) -> _Asked:
+    def __enter__(self) -> Asked:
         return self
 
     def __exit__(self, *error: object) -> None:
@@ -252,24 +252,25 @@ class _Asked:
             self._input.close()
 
 
-class AskedOfEdits(_Asked):
-    """A pickle as the edits of a session leave it: a small one is asked about in this process, and so is not saved for that."""
+class AskedOfSession(Asked):
+    """A pickle as the edits of a session leave it, which is made when it is needed: of one that is not `small` the library is not asked."""
 
-    def __init__(self, content: Optional[bytes], many: bool, unframed: bool, edits: bytes, saved: Callable[[], bytes],
-                 timeout: Optional[float], memory: Optional[int]) -> None:
-        super().__init__(content or b'', timeout, memory)
-        self._is_small = content is not None
-        self._many, self._unframed = many, unframed
-        self._edits = edits
-        self._saved = saved
+    def __init__(self, made: Callable[[], bytes], small: bool, timeout: Optional[float], memory: Optional[int]) -> None:
+        super().__init__(b'', timeout, memory)
+        self._is_small = small and timeout is None
+        self._made = made
+        self._whole: Optional[bytes] = None
+
+    def _bytes(self) -> bytes:
+        if self._whole is None:
+            self._whole = self._made()
+        return self._whole
 
     def in_process(self, words: List[str]) -> Optional[bytes]:
-        if self._content is None or not self._is_small:
-            return None
-        return library.edited(words, self._many, self._unframed, self._content, self._edits, self._memory)
+        return library.answer(words, self._bytes(), self._memory) if self._is_small else None
 
     def _made_input(self) -> Input:
-        return Input(self._saved())
+        return Input(self._bytes())
 
 
 def _last_offset(blocks: Iterable[bytes]) -> Optional[int]:

@@ -3,12 +3,14 @@
 from __future__ import annotations
 
 import sys
+from collections import Counter
 from dataclasses import dataclass, field
-from typing import Any, Dict, List, Optional, Tuple, Union
+from typing import Any, Dict, List, Optional, Sequence, Tuple, Union
 
 from _compat_pickle import IMPORT_MAPPING, NAME_MAPPING
 
 from .addresses import opened_in
+from .answers import Objects
 from .changes import changed
 from .errors import NoResult
 from .hints import OF_FRAMES
@@ -18,7 +20,7 @@ from .sources import Source, is_fifo, rereadable
 from .tasks import calls, frames, objects
 from .values import PLAIN_KINDS, Argument, Unread, kind_value
 
-__all__ = ['Call', 'Values', 'tree', 'values']
+__all__ = ['Call', 'Values', 'objects_to_stop', 'tree', 'values']
 
 _SLOTS: Dict[str, Any] = {'slots': True} if sys.version_info >= (3, 10) else {}
 
@@ -77,7 +79,7 @@ class Values:
 
     def members(self, value: Any) -> List[Any]:
         """The members of a set, in the order in which the pickle has them. (Python's order is another one in each run.)"""
-        return list(dict.fromkeys(map(self._key, self._members[id(value)])))
+        return list(dict.fromkeys(self._keys(self._members[id(value)])))
 
     def _made(self, made: Object) -> Any:
         """An object as it was made. What goes into a list, a set or a dictionary comes later, as does what was done to an object."""
@@ -90,7 +92,7 @@ class Values:
         if made.kind == 'tuple':
             return tuple(parts)
         if made.kind == 'frozenset':
-            return frozenset(map(self._key, made.parts))
+            return frozenset(self._keys(made.parts))
         if made.kind in ('global', 'stack-global', 'ext'):
             imported = self._imported(made)
             return Call('import', made.number, imported) if made.changes else imported
@@ -137,6 +139,15 @@ class Values:
             return Ref(number)
         return value
 
+    def _keys(self, numbers: Sequence[int]) -> List[Any]:
+        """Objects as keys of a dictionary or members of a set. Those are their numbers whose hash many others have: a pickle can choose whole numbers
+        so, and Python would compare each with all others."""
+        keys = list(map(self._key, numbers))
+        if len(keys) <= _MOST_ALIKE:
+            return keys
+        counts = Counter(map(hash, keys))
+        return [Ref(number) if counts[hash(key)] > _MOST_ALIKE else key for number, key in zip(numbers, keys)]
+
     def _fill(self, value: Any, made: Object) -> None:
         """Puts into a value what its object holds, and does what was done to that."""
         if isinstance(value, Call):
@@ -155,9 +166,9 @@ class Values:
             if made.kind == 'list':
                 value += map(self.at, held)
             elif made.kind == 'dict':
-                value.update(zip(map(self._key, held[::2]), map(self.at, held[1::2])))
+                value.update(zip(self._keys(held[::2]), map(self.at, held[1::2])))
             else:
-                value.update(map(self._key, held))
+                value.update(self._keys(held))
                 self._members[id(value)] = held
 
 
@@ -167,6 +178,8 @@ _FILLED: Dict[str, Any] = {'list': list, 'dict': dict, 'set': set}
 # item twice, fifty levels deep, would never be done.)
 _MOST_DEPTH = 50
 _MOST_SIZE = 100_000
+# So many keys of one hash stay themselves.
+_MOST_ALIKE = 50
 
 
 def tree(pickle: Source, *, many: bool = False, unframed: bool = False, timeout: Optional[float] = None, memory: Optional[int] = None) -> Any:
@@ -174,7 +187,7 @@ def tree(pickle: Source, *, many: bool = False, unframed: bool = False, timeout:
 
     Lists, dictionaries, sets, tuples and plain values are themselves, and shared as in the pickle; a text that no loader reads is its bytes. What is
     imported is a `Global`, by the name that Python 3 imports, or an `Extension`, what comes from a call or from elsewhere a `Call`. A key or a member
-    that has no hash is a `Ref` to its object. `unframed` is as for `objects`.
+    that has no hash is a `Ref` to its object, as is one whose hash more than fifty others have. `unframed` is as for `objects`.
 
     Raises NoResult where reading ended before the pickle's STOP, or it is not known which item of a list was changed.
 
@@ -184,6 +197,14 @@ def tree(pickle: Source, *, many: bool = False, unframed: bool = False, timeout:
     return values(pickle, many, unframed, timeout, memory)[1]
 
 
+def objects_to_stop(pickle: Source, many: bool, unframed: bool, timeout: Optional[float] = None, memory: Optional[int] = None) -> Objects:
+    """The objects that a pickle makes. Raises NoResult where reading ended before its STOP."""
+    answer = objects(pickle, many=many, unframed=unframed, timeout=timeout, memory=memory)
+    if not answer.end.is_stopped or not answer.results:
+        raise NoResult(answer.end.text, answer.end.code in OF_FRAMES)
+    return answer
+
+
 def values(pickle: Source, many: bool, unframed: bool, timeout: Optional[float], memory: Optional[int]) -> Tuple[Values, Any]:
     """The values of all objects, and what `tree` answers."""
     check_timeout(timeout)
@@ -191,9 +212,7 @@ def values(pickle: Source, many: bool, unframed: bool, timeout: Optional[float],
     pickle = pickle if opened is None else opened.content
     if timeout is None or not is_fifo(pickle):  # (with a timeout it is the program that waits for the writer of a FIFO)
         pickle = rereadable(pickle)
-    answer = objects(pickle, many=many, unframed=unframed, timeout=timeout, memory=memory)
-    if not answer.end.is_stopped or not answer.results:
-        raise NoResult(answer.end.text, answer.end.code in OF_FRAMES)
+    answer = objects_to_stop(pickle, many, unframed, timeout, memory)
     heap = list(answer)
     names: Dict[int, Name] = {}
     if any(_is_renamed(made, heap) for made in heap):  # (it depends on the protocol there)

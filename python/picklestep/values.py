@@ -1,6 +1,6 @@
 """Plain values: what an opcode's argument, or an object that is made of it, is in Python.
 
-Which form an argument has is asked of the standard library (`pickletools`), as in `arguments`, whose inverse this is. A value that a loader
+Which form an argument has says the table of opcodes, as in `arguments`, whose inverse this is. A value that a loader
 would not take (a text that is no UTF-8, a line that is no number) stays as the bytes that it is.
 """
 
@@ -8,9 +8,10 @@ from __future__ import annotations
 
 import codecs
 import math
-import pickletools
 import re
 from typing import Any, Callable, Dict, Optional, Tuple, Union
+
+from .opcodes import BY_NAME
 
 __all__ = ['Argument', 'PLAIN_KINDS', 'PlainValue', 'Unread', 'Unreadable', 'argument_value', 'kind_value', 'read_form', 'unescaped']
 
@@ -109,7 +110,6 @@ _READERS: Dict[str, Callable[[bytes], Union[bool, int, float, str, bytes, bytear
     'unicodestringnl': _escaped, 'string1': _legacy, 'string4': _legacy, 'unicodestring1': _text,
     'unicodestring4': _text, 'unicodestring8': _text, 'bytearray8': bytearray}
 
-_FORMS: Dict[str, str] = {opcode.name: opcode.arg.name if opcode.arg else '' for opcode in pickletools.opcodes}
 _CONSTANTS: Dict[str, PlainValue] = {'NONE': None, 'NEWTRUE': True, 'NEWFALSE': False}
 
 # The kinds of objects that are plain values, each with an opcode that makes it, or the value itself.
@@ -127,7 +127,7 @@ def read_form(name: str, data: bytes) -> PlainValue:
     ('café', 7, b'x')
     """
     try:
-        reader = _READERS.get(_FORMS[name])
+        reader = _READERS.get(BY_NAME[name].argument)
         return data if reader is None else reader(data)
     except ValueError as error:
         raise Unreadable(str(error)) from error

@@ -92,7 +92,7 @@ def scipy(folder: Path) -> None:
     x = np.linspace(0, 1, 8)
     dump(folder, {**{form: eye.asformat(form) for form in ('csr', 'csc', 'coo', 'bsr', 'dia', 'lil', 'dok')}, 'array': sparse.csr_array(np.eye(3)),
                   'spline': interpolate.CubicSpline(x, x), 'smooth': interpolate.UnivariateSpline(x, x), 'linear': interpolate.interp1d(x, x),
-                  'monotone': interpolate.PchipInterpolator(x, x), 'tree': spatial.cKDTree(np.eye(3)), 'density': stats.gaussian_kde(x),
+                  'monotone': interpolate.PchipInterpolator(x, x), 'density': stats.gaussian_kde(x),
                   'result': optimize.minimize(lambda a: (a[0] - 1) ** 2, [0.0]), 'turn': spatial.transform.Rotation.identity(),
                   'basis': interpolate.BSpline(np.arange(8.0), np.arange(4.0), 3)})
 

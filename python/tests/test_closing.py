@@ -75,7 +75,10 @@ class Form(NamedTuple):
 def rows() -> Iterator[Tuple[str, str]]:
     """The texts of the rows that are tried from outside, each with its command."""
     for name in ('texts.txt', 'calls.txt', 'conversations.txt'):
-        for block in re.split('\n\n', (ROOT / 'equipment' / name).read_text('ascii')):
+        text = (ROOT / 'equipment' / name).read_text('ascii')
+        for row in re.finditer(r'^(list|calls)(?: [0-9a-f]+)*: (.*\n)', text, re.MULTILINE):
+            yield row[1], row[2]
+        for block in re.split('\n\n', text):
             for match in re.finditer(r'^\$ (list|objects|calls)(?: .*)?\n((?!\$ |debug> |saved ).*\n?)*', block + '\n', re.MULTILINE):
                 lines = match[0].rstrip('\n').split('\n')[1:]
                 yield match[1], ''.join(f'{line}\n' for line in lines)

@@ -27,6 +27,12 @@ from picklestep.diff import main
 from pickles import HOSTILE, changed_pickles, known_opcodes, real_pickles
 
 
+def _of_one_hash(count: int, value: bytes) -> bytes:
+    """A dictionary whose keys all have the same hash in Python."""
+    keys = (pickle.encode_long(number * (2 ** 61 - 1)) for number in range(1, count + 1))
+    return b'\x80\x02}(' + b''.join(b'\x8a' + bytes([len(key)]) + key + value for key in keys) + b'u.'
+
+
 def _paths(old: Any, new: Any) -> List[str]:
     return [str(difference) for difference in picklestep.compare(pickle.dumps(old), pickle.dumps(new))]
 
@@ -50,6 +56,16 @@ class Values(unittest.TestCase):
                         self.assertEqual((value, repr(value)), (wanted.value, repr(wanted.value)))
                         compared += 1
         self.assertGreater(compared, 3000)
+
+    def test_keys_of_one_hash(self) -> None:
+        """Python would compare each of them with all others: what a loader does with them is its own, and no word here takes so long."""
+        few, many = picklestep.tree(_of_one_hash(50, b'N')), picklestep.tree(_of_one_hash(51, b'N'))
+        self.assertEqual(list(few), [number * (2 ** 61 - 1) for number in range(1, 51)])
+        self.assertEqual(set(map(type, many)), {picklestep.Ref})
+        self.assertEqual(list(map(str, picklestep.compare(_of_one_hash(60, b'N'), _of_one_hash(60, b'N')[:-3] + b'K\x01u.'))), [f'[{60 * (2 ** 61 - 1)}]: None -> 1'])
+        begin = time.process_time()
+        self.assertEqual(len(picklestep.compare(_of_one_hash(40_000, b'N'), _of_one_hash(40_000, b'K\x01'))), 40_000)
+        self.assertLess(time.process_time() - begin, 15)
 
     def test_objects(self) -> None:
         values = [None, True, False, 7, -(1 << 70), 2.5, 'caf\xe9', b'\x00\xff', bytearray(b'a')]
@@ -311,11 +327,11 @@ class Compare(unittest.TestCase):
             for path, data in zip(paths, (b'K\x01.', b'K\x02.', b'K')):
                 with open(path, 'wb') as file:
                     file.write(data)
-            for pair, status, said in (((0, 1), 1, 'result: 1 -> 2\n'), ((0, 0), 0, ''), ((0, 2), 2, '')):
+            for pair, status, said in (((0, 1), 1, 'result: 1 -> 2\n'), ((0, 0), 0, ''), ((0, 2), 2, ''), ((2, 2), 2, '')):
                 with contextlib.redirect_stdout(io.StringIO()) as out:
                     self.assertEqual(main([paths[place] for place in pair]), status)
                 self.assertEqual(out.getvalue(), said)
-            self.assertEqual(errors.getvalue(), f'picklestep: {paths[2]}: F3 truncated at 0\n')
+            self.assertEqual(errors.getvalue(), 2 * f'picklestep: {paths[2]}: F3 truncated at 0\n')
 
     def test_keys_and_members_that_are_made_by_calls(self) -> None:
         """There is a difference where Python's own comparison of the values finds one, in whatever order they were written."""

@@ -2,6 +2,7 @@
 
 from __future__ import annotations
 
+import importlib
 import os
 import re
 import shutil
@@ -129,9 +130,17 @@ class Words(EntranceCase):
             run = subprocess.run(words, env={**os.environ, 'PICKLESTEP_PROGRAM': find_program()}, capture_output=True, text=True, timeout=60)
             self.assertEqual(run.stdout.partition('\n')[0], f'picklestep {picklestep.__version__}{of}', run.stderr)
 
+    def test_what_is_public(self) -> None:
+        """Each name comes from its module, which has it among its own, and brings only what that needs."""
+        self.assertEqual(sorted(name for names in picklestep._MODULES.values() for name in names), sorted(picklestep.__all__))
+        for module, names in picklestep._MODULES.items():
+            self.assertLessEqual(set(names), set(importlib.import_module(f'picklestep.{module}').__all__))
+        code = 'import sys, picklestep; picklestep.calls(b"N."); print([name for name in sys.modules if name.startswith("picklestep.scan")])'
+        self.assertEqual(self.start([sys.executable, '-c', code]).stdout, '[]\n')
+
     def test_an_older_python(self) -> None:
         """The package says what it needs. (The proved program's own words work with an older one.)"""
-        with unittest.mock.patch('sys.version_info', (3, 8, 18)), self.assertRaisesRegex(ImportError, 'needs Python 3.9 or later'):
+        with unittest.mock.patch('sys.version_info', (3, 7, 16)), self.assertRaisesRegex(ImportError, 'needs Python 3.8 or later'):
             picklestep.check_python()
 
     def test_what_is_no_word(self) -> None:

@@ -78,6 +78,8 @@ class Findings(ScanCase):
             if python is not None:
                 done = subprocess.run([python, '-c', VALIDATE, str(SCHEMA), 'out.sarif'], cwd=self.folder, capture_output=True, text=True)
                 self.assertEqual((done.returncode, done.stderr), (0, ''))
+        if python is None:
+            self.skipTest('there is no jsonschema (python3-jsonschema): the schema is compared by json_schema.py alone')
 
     def test_the_parts_ask_for_what_the_whole_schema_does(self) -> None:
         """They take no name that it does not have, and leave out none that it requires."""

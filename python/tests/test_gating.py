@@ -18,6 +18,7 @@ import tempfile
 import unittest
 import unittest.mock
 import zipfile
+import zlib
 from pathlib import Path
 from typing import Any, Dict, Iterator, List, Sequence, Tuple
 
@@ -241,7 +242,7 @@ class Answers(unittest.TestCase):
         self.assertEqual(picklestep.gate(content, names=[f'{NAME}: call made']).kind, 'not allowed')
 
     def test_a_list_that_the_program_does_not_take(self) -> None:
-        with unittest.mock.patch('picklestep.scan.gating.Names.entries', return_value=['no entry']), self.assertRaises(picklestep.ProgramError):
+        with unittest.mock.patch('picklestep.scan.names.Names.entries', return_value=['no entry']), self.assertRaises(picklestep.ProgramError):
             picklestep.gate(b'N.', names=[NAME])
 
 
@@ -261,7 +262,12 @@ class Archives(ScanCase):
     def test_what_does_not_pass(self) -> None:
         deep = archive({'a.zip': archive({'a.pkl': b'N.'})})
         for content, kind, member, offset, reason in (
-            (archive({'a': b'N.'}, zipfile.ZIP_DEFLATED), 'packed', 'a', None, 'it is not looked at'),
+            (archive({'a': b'J\x01\0\0\0' + HOSTILE}, zipfile.ZIP_DEFLATED), 'other form', 'a', 0, 'a number that has a shorter form'),
+            (archive({'a': b'N.'}).replace(zlib.crc32(b'N.').to_bytes(4, 'little'), b'1234'), 'broken', 'a', None, 'another checksum than is told'),
+            (archive({'a': b'N.'}, zipfile.ZIP_DEFLATED).replace(b'\2\0\0\0\1', b'\3\0\0\0\1'), 'broken', 'a', None, 'fewer bytes than are told'),
+            (archive({'a': b'N.', 'A': b'N.'}), 'not looked at', None, None, 'two names that differ in case alone'),
+            (archive({'a': b'N.'}, zipfile.ZIP_DEFLATED).replace(b'\2\0\0\0\1', b'\2\0\0\x70\1'), 'not looked at', None, None,
+             f'it unpacks to more than {1 << 30} bytes'),
             (deep, 'an archive', 'a.zip', None, 'it is not looked at'),
             (archive({'a': b'N.'}) + b'\n', 'other form', None, 81, 'no end record without a comment at the very end'),
             (archive({'a': b'J\x01\0\0\0' + HOSTILE}), 'other form', 'a', 0, 'a number that has a shorter form'),
@@ -281,7 +287,7 @@ class Archives(ScanCase):
             answer = picklestep.gate(path, allow=['numpy'])
             self.assertEqual((answer.passes, answer.member), (passes, None if passes else 'a.npy'), answer.line)
             numpy.savez_compressed(path, a=values)
-            self.assertEqual(picklestep.gate(path, allow=['numpy']).kind, 'packed')
+            self.assertEqual(picklestep.gate(path, allow=['numpy']), answer)
 
 
 class TheWord(ScanCase):

@@ -30,7 +30,8 @@ MB = 1 << 20
 MODES: List[List[str]] = [[], ['--many'], ['--unframed'], ['--many', '--unframed']]
 READINGS = [['calls'], ['calls', '--first'], ['calls', '--memo', 'kept'], ['calls', '--full'], ['calls', '--first', '--full'],
             ['calls', '--memo', 'kept', '--full']]
-WORDS = [*([task, *modes] for task in ('list', 'objects') for modes in MODES), *READINGS, ['calls', '--many'],
+WORDS = [*([task, *modes] for task in ('list', 'objects') for modes in MODES), ['list', '--json'], ['list', '--many', '--json'], *READINGS,
+         ['calls', '--many'],
          ['calls', '--skip', '3:2', '--skip', '9:40'], ['calls', '--full', '--skip', '0:1'], ['form'], ['reach'], ['reach', '--buffers', '--extensions']]
 
 
@@ -62,30 +63,12 @@ class Answers(unittest.TestCase):
             words = chance.choice(WORDS)
             self.assertEqual(library.answer(words, bytes(content)), self.wanted(words, bytes(content)))
 
-    def test_what_edits_leave(self) -> None:
-        """As the program answers of the bytes that it saves after the same lines."""
-        script = b'insert 0 GLOBAL 6f730a6765746377640a\ngoto 1\nstep\ninsert 2 NONE\nundo\nnonsense\ndelete 3\nframe 2 2\nrun\n'
-        for path, modes in chosen(itertools.product(PICKLES[::5], MODES), 2):
-            saved = self.saved(path, modes, script)
-            for words in [['list', *modes], ['objects', *modes], *READINGS]:
-                with self.subTest(path.name, words=words, modes=modes):
-                    answer = library.edited(words, '--many' in modes, '--unframed' in modes, path.read_bytes(), script)
-                    self.assertEqual(answer, self.wanted(words, saved))
-
-    def saved(self, path: Path, modes: List[str], script: bytes) -> bytes:
-        with tempfile.TemporaryDirectory() as folder:
-            out = Path(folder, 'saved')
-            run_program(['debug', str(path), *modes, '--save', str(out)], script=script)
-            return out.read_bytes()
-
     def test_what_the_program_is_asked(self) -> None:
         for words in (['list', '--full'], ['objects', '--skip', '1:1'], ['calls', '--memo', 'lost'], ['calls', '--first', '--memo', 'kept'],
                       ['calls', '--skip', '@holes'], ['calls', '--skip', '5:2', '--skip', '6:1'], ['calls', '--skip', f'{1 << 64}:1'],
                       ['calls', '--unframed'], ['debug'], ['form', '--many']):
             with self.subTest(words=words):
                 self.assertIsNone(library.answer(words, HOSTILE))
-        self.assertIsNone(library.edited(['list', '--many'], False, False, HOSTILE, b''))
-        self.assertIsNone(library.edited(['calls', '--skip', '1:1'], False, False, HOSTILE, b''))
 
     def test_an_answer_with_more_room(self) -> None:
         content = b'\x8c\xfa' + b'n' * 250 + b'0'
@@ -172,24 +155,6 @@ class InProcess(unittest.TestCase):
             with self.started(), self.assertRaises(AssertionError):
                 ask()
 
-    def test_the_limit_of_size_is_that_of_all_inputs(self) -> None:
-        half = library.MOST_BYTES // 2
-        lines = b'step\n' * (half // 5)
-        self.assertIsNotNone(library.edited(['calls'], False, False, b'N.', lines))
-        self.assertIsNone(library.edited(['calls'], False, False, b'N' * (half + 8) + b'.', lines))
-
-    def test_where_memory_runs_out_no_edit_is_missing(self) -> None:
-        """A line for which memory runs out is refused, and no text is that of the other lines."""
-        script = b'insert 0 NONE\n' * 30
-        for content in (b'N' * 65_000 + b'.', b']\x94' * 32_000 + b'.'):
-            wanted = library.edited(['list'], False, False, content, script)
-            answers = {library.edited(['list'], False, False, content, script, memory) for memory in range(8 * MB, 16 * MB, MB // 4)}
-            self.assertLessEqual(answers, {None, wanted})
-        with picklestep.Session(b'N' * 65_000 + b'.', memory=14 * MB) as session:
-            for _ in range(30):
-                session.insert(0, 'NONE')
-            self.assertEqual(len(session.listing()), 65_031)
-
     def test_a_limit_of_memory_stays_an_answer(self) -> None:
         self.assertIsNone(library.answer(['calls'], SQUARE))
         many = b'N' * 65_000 + b'.'
@@ -204,10 +169,10 @@ class InProcess(unittest.TestCase):
             self.skipTest('it is a module, whose limit is the same for all')
         text = in_process.InProcess._text
 
-        def after_another(self: Any, asked: Any, memory: int, *room: Any) -> Optional[bytes]:
+        def after_another(self: Any, asked: Any, memory: int, room: Any) -> Optional[bytes]:
             if memory < 2 * MB:  # (as a handler asks when the limit is set)
                 library.answer(['objects'], HOSTILE)
-            return text(self, asked, memory, *room)
+            return text(self, asked, memory, room)
         with mock.patch.object(in_process.InProcess, '_text', after_another):
             self.assertIsNone(library.answer(['objects'], b'N' * 65_000 + b'.', 9 * MB))
 

@@ -342,6 +342,8 @@ class Reading(PolicyCase):
             code = 'import json, sys, jsonschema; jsonschema.Draft7Validator(json.load(open(sys.argv[1]))).validate(json.load(open(sys.argv[2])))'
             run = subprocess.run([python, '-c', code, str(SHARE / 'picklestep.schema.json'), 'made.json'], cwd=self.folder, capture_output=True, check=False)
             self.assertEqual(run.returncode, 0, run.stderr)
+        else:
+            self.skipTest('there is no jsonschema (python3-jsonschema): the schema is compared by json_schema.py alone')
 
     def plain(self, text: str) -> Any:
         """The policy as JSON has it."""
@@ -421,6 +423,31 @@ class Checks(PolicyCase):
         self.policy('baseline = "base.json"', (self.folder / 'picklestep.toml').read_text())
         self.assertEqual(self.said('models'), ['exceptions[1] (bad.pkl): the baseline hides it, which takes all of its marks'])
 
+    def test_lists_that_nothing_uses(self) -> None:
+        """Of a set it is said as a whole, of a file each entry. What a set needs is its own."""
+        self.file('ours.txt', b'app.Old: call\nposix.*\ninclude plain\n')
+        self.file('none.txt', b'app.Older:\n')
+        self.policy('allow = ["xgboost", "ours.txt", "none.txt"]', '[[rules]]', 'paths = ["old/"]', 'allow = ["networkx", "numpy"]', '[[rules]]', 'paths = ["later/"]',
+                    'allow = ["numpy"]')
+        no_file = 'no file uses a name of its own'
+        self.assertEqual(self.said('models'), [
+            'rules[2] (later/): no file has it', f'allow: xgboost: {no_file}', 'allow: ours.txt: no file uses app.Old', 'allow: none.txt: no file uses a name of it',
+            f'rules[1] (old/): allow: networkx: {no_file}'])
+        self.assertEqual(self.said(), [])
+        # (what was not looked at may use all of them)
+        self.file('models/a.7z', b'7z\xbc\xaf\x27\x1c' + bytes(40))
+        self.assertEqual(self.said('models'), ['rules[2] (later/): no file has it', f'rules[1] (old/): allow: networkx: {no_file}'])
+
+    def test_marks_of_a_baseline_that_are_gone(self) -> None:
+        self.scan('--no-known', '--allow', 'torch', '--write-baseline', 'base.json', 'models/bad.pkl', 'models/job.pkl')
+        count = len(json.loads((self.folder / 'base.json').read_text())['marks'])
+        self.file('ours.txt', b'posix.system\n')
+        self.policy('baseline = "base.json"', 'allow = ["ours.txt"]')
+        self.assertEqual(self.said('models/bad.pkl', 'models/job.pkl'), ['baseline: models/bad.pkl: 1 mark of it is no longer there'])
+        (self.folder / 'models/job.pkl').unlink()
+        self.assertEqual(self.said('models'), ['baseline: 1 file of it is no longer there', 'baseline: models/bad.pkl: 1 mark of it is no longer there'])
+        self.assertGreaterEqual(count, 2)
+
     def test_addresses(self) -> None:
         """Of servers and URLs: those that are given are looked at, and a pattern that none of them has is named."""
         url, other = f'file://{self.folder}/models/bad.pkl', f'file://{self.folder}/models/good.pkl'
@@ -466,19 +493,21 @@ class Lines(ScanCase):
         self.file('a.7z', b'7z\xbc\xaf\x27\x1c' + bytes(40))
         os.mkfifo(self.folder / 'fifo')
         models = Path(__file__).resolve().parent / 'data' / 'models'
+        python = python_with('jsonschema')
         for words in ((), ('--lines', '--allow', 'numpy')):
             run = self.scan('--json', *words, '.', 'none', str(models))
             lines = run.stdout.splitlines()
             self.assertGreater(len(lines), 8)
             for line in lines:
                 self.assertEqual(list(schema_faults(schema, json.loads(line))), [], line[:200])
-            python = python_with('jsonschema')
             if python is not None:
                 code = ('import json, sys, jsonschema\nvalidator = jsonschema.Draft7Validator(json.load(open(sys.argv[1])))\n'
                         'for line in sys.stdin: validator.validate(json.loads(line))')
                 run = subprocess.run([python, '-c', code, str(SHARE / 'picklestep-scan.schema.json')], input=run.stdout, text=True,
                                      capture_output=True, check=False)
                 self.assertEqual((run.returncode, run.stderr), (0, ''))
+        if python is None:
+            self.skipTest('there is no jsonschema (python3-jsonschema): the schema is compared by json_schema.py alone')
 
 
 if __name__ == '__main__':

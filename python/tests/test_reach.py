@@ -4,8 +4,12 @@ import io
 import os
 import pickle
 import random
+import subprocess
+import sys
 import tempfile
 import unittest
+import zipfile
+from ast import literal_eval
 from pathlib import Path
 from typing import Any, BinaryIO, Callable, Iterator, List, Type
 
@@ -102,6 +106,55 @@ class Loaders(unittest.TestCase):
                 self.assertTrue(_reaches(C, file))
         answer = picklestep.reach(content)
         self.assertEqual((answer.offset, answer.line), (content.index(b'cos'), "GLOBAL 'os' 'getcwd'"))
+
+
+# Modules in folders and in an archive, each of which says that it runs; and what asks for some of them as a pickle does.
+_FILES = ('alone.py', 'package/__init__.py', 'package/part.py')
+_PACKED = ('packed/__init__.py', 'packed/part.py')
+_SAYS = 'import builtins; builtins.ran.append(__name__)'
+_IMPORTS = """
+import ast, builtins, io, pickle, sys
+sys.path[:0] = sys.argv[1:3]
+for content in ast.literal_eval(sys.stdin.read()):
+    for kind in pickle.Unpickler, pickle._Unpickler:
+        builtins.ran, before = [], set(sys.modules)
+        try:
+            kind(io.BytesIO(content)).load()
+        except Exception:
+            pass
+        for name in set(sys.modules) - before:
+            del sys.modules[name]
+        print(builtins.ran)
+"""
+
+
+class Imports(unittest.TestCase):
+    """What Python imports of a name before it raises."""
+
+    # What is imported of each name first, and whether `reach` takes it for a module's.
+    NAMES = (
+        (b'alone', 'alone', True), (b'alone.a b', 'alone', True), (b'alone.', 'alone', True), (b'alone. ', 'alone', True), (b'alone.a/b', 'alone', True),
+        (b'alone.\0', 'alone', True), (b'package.part.a b', 'package', True), (b'package..part', 'package', True), (b'package.a,b.c', 'package', True),
+        (b'.alone', '.alone', True), (b'.alone.a b', '.alone', True), (b'packed/part', 'packed/part', True), (b'packed/part.a b', 'packed/part', True),
+        (b'packed/__init__', 'packed/__init__', True), (b'alone ', '', False), (b'alone .x', '', False), (b'alone\r', '', False),
+        (b'a b.alone', '', False), (b' alone', '', False), (b'alone:x.y', '', False), (b'', '', False), (b'package/part', '', True), (b'alone\\x', '', True))
+
+    def test_what_stands_before_a_point_is_imported(self) -> None:
+        asked = [content for name, _, _ in self.NAMES for content in (b'c' + name + b'\n \n.', b'U' + bytes([len(name)]) + name + b'U\x01 \x93.')]
+        with tempfile.TemporaryDirectory() as folder:
+            for path in _FILES:
+                Path(folder, path).parent.mkdir(exist_ok=True)
+                Path(folder, path).write_text(_SAYS, encoding='ascii')
+            packed = Path(folder, 'packed.zip')
+            with zipfile.ZipFile(packed, 'w') as archive:
+                for path in _PACKED:
+                    archive.writestr(path, _SAYS)
+            done = subprocess.run([sys.executable, '-B', '-c', _IMPORTS, folder, packed], input=ascii(asked), stdout=subprocess.PIPE, text=True, check=True)
+        ran = [*map(literal_eval, done.stdout.splitlines())]
+        for number, (name, first, leads) in enumerate(self.NAMES):
+            with self.subTest(name):
+                self.assertEqual([each[:1] for each in ran[4 * number:4 * number + 4]], [[first] if first else []] * 4)
+                self.assertEqual([bool(picklestep.reach(content)) for content in asked[2 * number:2 * number + 2]], [leads, leads])
 
 
 class Answers(unittest.TestCase):

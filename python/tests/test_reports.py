@@ -68,12 +68,23 @@ class Reports(ScanCase):
         order = [re.split('[: ]', line)[-2] for line in re.findall(r'(?:critical|high|medium|unread) models/[^:]*:', page.text)]
         self.assertEqual([re.sub('.*/', '', each) for each in order][-1], 'other.7z')
         for part in ('7 files', "call posix.system once, first at 23: call 'posix' 'system' ('id') as #3", "_3 = system('id')  # 23",
-                     'picklestep calls models/bad.pkl', 'picklestep scan --lines --full models/in.zip', 'a.pkl', '7z', 'without a policy',
+                     'picklestep calls models/bad.pkl', "picklestep calls 'models/in.zip > a.pkl'", 'a.pkl', '7z', 'without a policy', 'scan --everywhere does that',
                      'torch_state.pt', ADVICE['known']):
             self.assertIn(part, page.text)
         self.assertRegex(page.text, r'SHA-256[0-9a-f]{64}')
         self.assertIn('models/<b>.pkl', page.text)
         self.assert_quiet(page)
+
+    def test_what_was_not_looked_at_is_told(self) -> None:
+        """A pickle within a text of another one is found by --everywhere alone. A report says that this was not given."""
+        self.file('models/nested.pkl', b'\x80\x04C' + bytes([len(HOSTILE)]) + HOSTILE + b'.')
+        for path in ('out.html', 'out.md'):
+            self.scan('models/nested.pkl', '--report', path)
+            self.assertIn('--everywhere does that', (self.folder / path).read_text())
+            self.scan('models/nested.pkl', '--everywhere', '--report', path)
+            text = (self.folder / path).read_text()
+            self.assertNotIn('--everywhere does that', text)
+            self.assertIn('posix.system', text)
 
     def test_the_worst_call_stands_in_full(self) -> None:
         """In the lines of scan a text has 64 signs. What runs may stand behind these."""
@@ -160,6 +171,20 @@ class Hostile(unittest.TestCase):
         self.assertIn('<script>alert(1)</script>', suite[0].get('name') or '')
         entries: List[Dict[str, Any]] = json.loads(code_quality(self.findings(2), about))
         self.assertEqual(len({each['fingerprint'] for each in entries}), 2)
+
+    def test_no_file_makes_a_report_large(self) -> None:
+        """Neither many marks of long texts, nor marks that a policy takes, nor long names of members."""
+        look = Look(('<' * 60_000,), 'known', '<' * 100_000, 'a.b', 7, ('<' * 100_000,) * 30, 'critical')
+        findings = Findings(Options())
+        for number in range(100):
+            result = Result(f'{number}.zip', 25, digest='0' * 64)
+            findings.add(result, [look] * 30)
+            findings.add_taken(result, [look] * 30)
+        for report in (html_report, markdown_report):
+            text = report(findings, About('1.0', 'now'))
+            self.assertLess(len(text), 3_500_000)
+            self.assertIn('lines more', text)
+            self.assertIn('99.zip', text)
 
     def test_code_in_markdown_is_not_left(self) -> None:
         for line in markdown_report(self.findings(), About('1.0', 'now')).splitlines():

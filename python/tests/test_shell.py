@@ -22,8 +22,8 @@ from unittest import mock
 
 import picklestep
 from examples_of_using import stories
+from picklestep.opcodes import BY_NAME, TABLE
 from picklestep.shell.complete import completions
-from picklestep.shell.explain import EFFECTS, EXPLAINED
 from picklestep.shell.opened import Opened
 from picklestep.shell.plain import PLAIN
 from picklestep.shell.shell import Shell, WordError
@@ -174,8 +174,8 @@ class Words(unittest.TestCase):
         return shell
 
     def test_explained_are_the_opcodes(self) -> None:
-        self.assertEqual(set(EXPLAINED), {opcode.name for opcode in pickletools.opcodes})
-        self.assertEqual(len(set(EXPLAINED.values())), len(EXPLAINED))
+        self.assertEqual([info.name for info in TABLE], [opcode.name for opcode in pickletools.opcodes])
+        self.assertEqual(len({info.sentence for info in TABLE}), len(TABLE))
 
     def test_bytes_after_stop(self) -> None:
         """They are named, in the program's words, wherever the shell shows all that there is."""
@@ -199,7 +199,7 @@ class Words(unittest.TestCase):
     def test_what_opcodes_take_and_leave(self) -> None:
         """As much as `pickletools` says, which takes what is only looked at for nothing."""
         for opcode in pickletools.opcodes:
-            found = tuple(len(words.split(', ')) if words else 0 for words in EFFECTS[opcode.name])
+            found = tuple(len(words.split(', ')) if words else 0 for words in (BY_NAME[opcode.name].takes, BY_NAME[opcode.name].leaves))
             wanted = (1, 1) if opcode.name.endswith('PUT') else (len(opcode.stack_before), len(opcode.stack_after))
             self.assertEqual(found, wanted, opcode.name)
 
@@ -435,7 +435,7 @@ class Words(unittest.TestCase):
     def test_texts_of_breaks_and_names_in_any_case(self) -> None:
         shell = self.shell(SAMPLE)
         self.assertEqual([shell.obey(line) for line in ("break text 'bob'", 'break opcode reduce')], ['1: text bob', '2: opcode REDUCE'])
-        self.assertEqual(shell.obey('explain reduce'), 'REDUCE: ' + EXPLAINED['REDUCE'])
+        self.assertEqual(shell.obey('explain reduce'), 'REDUCE: ' + BY_NAME['REDUCE'].sentence)
         deep = "''" + "+''" * 20_000
         self.assertEqual(shell.obey(f'break text {deep}'), f'3: text {deep}')
         with self.assertRaisesRegex(WordError, 'is no value'):

@@ -5,8 +5,8 @@ from __future__ import annotations
 import re
 from typing import Callable, Dict
 
+from ..opcodes import BY_NAME
 from ..shell.complete import completions
-from ..shell.explain import EXPLAINED
 from ..shell.shell import WordError
 from ..shell.words import WORDS, understood
 from .arguments import Arguments, RequestError
@@ -42,8 +42,8 @@ class Console:
         found = _OBJECT.fullmatch(line)
         if found is not None:
             return self._object(int(found[1]))
-        if context == 'hover' and line.upper() in EXPLAINED:
-            return {'result': EXPLAINED[line.upper()], 'variablesReference': 0}
+        if context == 'hover' and line.upper() in BY_NAME:
+            return {'result': BY_NAME[line.upper()].sentence, 'variablesReference': 0}
         if context != 'repl' and not _is_look(line):
             raise RequestError('outside of the console only an object (#3) or a word that shows something is evaluated')
         if '\n' in line:

@@ -77,6 +77,6 @@ enter() {
     if command -v python3 >/dev/null; then
         exec python3 -I ${PYTHONDONTWRITEBYTECODE:+-B} "$package/entrance.py" "$@"
     fi
-    echo 'picklestep: python3 (3.9 or later) is not there: only list, objects, calls, form, gate, reach, members and debug work without it' >&2
+    echo 'picklestep: python3 (3.8 or later) is not there: only list, objects, calls, form, gate, reach, members and debug work without it' >&2
     exit 2
 }

@@ -7,7 +7,6 @@ the stack and in the memo: a short plain value as its source, all else as a node
 
 from __future__ import annotations
 
-import pickletools
 from ast import literal_eval
 from functools import lru_cache
 from itertools import repeat
@@ -16,6 +15,7 @@ from typing import Any, Callable, Dict, List, Optional, Sequence, Set, Tuple, Un
 
 from ..hints import is_array_wrapper
 from ..listed import offset_of
+from ..opcodes import TABLE, OpcodeInfo
 from ..texts import argument_at, opcode_of
 from .literals import Failing, of_bytes, of_float, of_floats, of_integer, of_line, of_text
 from .names import Names, python3_name
@@ -685,9 +685,9 @@ def _are_texts(entries: Sequence[Entry]) -> bool:
     return True
 
 
-def taken_count(opcode: pickletools.OpcodeInfo) -> Optional[int]:
+def taken_count(opcode: OpcodeInfo) -> Optional[int]:
     """How many objects an opcode takes from the stack. None where it takes all that is above the mark."""
-    return None if pickletools.markobject in opcode.stack_before else len(opcode.stack_before)
+    return None if opcode.takes_mark else opcode.taken
 
 
 def _form_of(statement: str) -> str:
@@ -708,18 +708,17 @@ def _evaluated(text: str) -> str:
 
 # --- What reads each other opcode, by its code ---
 
-def _handler(opcode: pickletools.OpcodeInfo) -> _Handler:
+def _handler(opcode: OpcodeInfo) -> _Handler:
     own: Optional[_Handler] = getattr(Builder, f'_on_{opcode.name.lower()}', None)
     if own is not None:
         return own
-    form = opcode.arg.name if opcode.arg else ''
     if opcode.name in KINDS:
         return _maker(KINDS[opcode.name], opcode)
     if opcode.name.startswith('EXT'):
         return Builder._on_extension
     if opcode.name.endswith('PUT'):
         return Builder._on_put
-    return _pusher(opcode.name, form)
+    return _pusher(opcode.name, opcode.argument)
 
 
 def _pusher(name: str, form: str) -> _Handler:
@@ -736,7 +735,7 @@ def _pusher(name: str, form: str) -> _Handler:
 _VALUES = {'NONE': 'None', 'NEWTRUE': 'True', 'NEWFALSE': 'False'}
 
 
-def _maker(kind: str, opcode: pickletools.OpcodeInfo) -> _Handler:
+def _maker(kind: str, opcode: OpcodeInfo) -> _Handler:
     """A handler for an opcode that makes a container: empty, of what is above the mark, or of the objects on top."""
     count = taken_count(opcode)
     if count is None:
@@ -747,4 +746,4 @@ def _maker(kind: str, opcode: pickletools.OpcodeInfo) -> _Handler:
     return lambda builder, line: builder._push_container(kind, builder._last(most))
 
 
-_HANDLERS: Dict[str, _Handler] = {opcode.code: _handler(opcode) for opcode in pickletools.opcodes if opcode.code not in _READ - {_MEMOIZE}}
+_HANDLERS: Dict[str, _Handler] = {opcode.letter: _handler(opcode) for opcode in TABLE if opcode.letter not in _READ - {_MEMOIZE}}

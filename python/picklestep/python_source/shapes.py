@@ -6,11 +6,11 @@ lines of many units column by column, and each unit is written by the form of it
 
 from __future__ import annotations
 
-import pickletools
 import re
 from functools import lru_cache, partial
 from typing import Callable, Dict, Iterator, List, NamedTuple, Optional, Sequence, Tuple, Union
 
+from ..opcodes import TABLE
 from ..texts import argument_at, pattern_of_line
 from .literals import of_bytes, of_floats, of_integer, of_line, of_text
 
@@ -18,7 +18,7 @@ __all__ = ['ALIKE', 'BRACKETS', 'GETS', 'LETTERS', 'NAMES', 'Part', 'RUNS', 'RUN
 
 BRACKETS = {'list': ('[', ']'), 'tuple': ('(', ')'), 'set': ('{', '}'), 'dict': ('{', '}'), 'frozenset': ('frozenset({', '})')}
 
-NAMES: Dict[str, str] = {opcode.code: opcode.name for opcode in pickletools.opcodes}
+NAMES: Dict[str, str] = {opcode.letter: opcode.name for opcode in TABLE}
 # The codes of opcodes that are no letters, by what stands behind `\x` in a listing.
 LETTERS: Dict[str, str] = {f'{ord(code):02x}': code for code in NAMES if not '!' <= code <= '~'}
 

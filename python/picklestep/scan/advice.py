@@ -5,14 +5,19 @@ from __future__ import annotations
 import shlex
 from typing import Dict, List
 
+from ..opens import split
 from ..wording import shown
 from .allow import sets_with
 from .known import known_names
 from .looks import Look
 from .reading import is_worked_out
 from .severity import severity_of
+from .wording import place_of
 
 __all__ = ['ADVICE', 'advice_for', 'commands_for']
+
+# An address of more letters stands in no command.
+_MOST_LETTERS = 1_000
 
 # What to do about a mark of each rule, where no more is known of its name.
 ADVICE: Dict[str, str] = {
@@ -56,12 +61,15 @@ def commands_for(path: str, look: Look) -> List[str]:
 
     >>> commands_for('a b.pkl', Look((), 'known', 'import posix.system'))
     ["picklestep calls 'a b.pkl'", "picklestep view 'a b.pkl'"]
+    >>> open('a.zip', 'wb').close()
     >>> commands_for('a.zip', Look(('b.pkl',), 'known', 'import posix.system'))
-    ['picklestep scan --lines --full a.zip']
+    ["picklestep calls 'a.zip > b.pkl'", "picklestep view 'a.zip > b.pkl'"]
     """
     if shown(path) != path or '://' in path or look.rule == 'cannot-be-read':
         return []
-    name = shlex.quote(f'./{path}' if path.startswith('-') else path)
-    if look.where or look.rule == 'not-looked-at':
-        return [f'picklestep scan --lines --full {name}']
-    return [f'picklestep calls {name}', f'picklestep view {name}']
+    name = f'./{path}' if path.startswith('-') else path
+    address = place_of(name, look.where)
+    if look.rule == 'not-looked-at' or look.where and (len(address) > _MOST_LETTERS or split(address) is None):
+        return [f'picklestep scan --lines --full {shlex.quote(name)}']
+    address = shlex.quote(address)
+    return [f'picklestep calls {address}', f'picklestep view {address}']

@@ -9,12 +9,12 @@ import re
 from dataclasses import dataclass
 from functools import lru_cache
 from pathlib import Path
-from typing import Dict, Iterable, Iterator, List, Optional, Set, Tuple
+from typing import Dict, Iterable, Iterator, List, Optional, Sequence, Set, Tuple
 
 from .names import Line, Names, NoList, nearest, read_all
 from .wording import shown
 
-__all__ = ['SETS', 'lines_of', 'placed_lines', 'read_lines', 'read_names', 'sets_with']
+__all__ = ['SETS', 'lines_of', 'names_of', 'placed_lines', 'read_lines', 'read_names', 'sets_with']
 
 _CARRIAGE_RETURN = re.compile(r'\r(?!\n)')
 _FOLDER = Path(__file__).resolve().parent / 'allow'
@@ -113,6 +113,16 @@ def placed_lines(words: Iterable[str], with_needed: bool = True) -> Iterator[Tup
 def read_names(words: Iterable[str], with_needed: bool = True) -> Names:
     """What the given sets and files have together, as `read_lines` reads them."""
     return Names(read_lines(words, with_needed), is_checked=True)
+
+
+def names_of(words: Sequence[str], lines: Sequence[str]) -> Names:
+    """What sets and files have, with lines beside them. What comes of the package's own sets alone is kept."""
+    return _names_of_sets(tuple(words), tuple(lines)) if all(word in SETS for word in words) else Names([*read_lines(words), *lines])
+
+
+@lru_cache(maxsize=16)
+def _names_of_sets(words: Tuple[str, ...], lines: Tuple[str, ...]) -> Names:
+    return Names([*read_lines(words), *lines])
 
 
 @lru_cache(maxsize=None)

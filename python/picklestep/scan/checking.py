@@ -8,14 +8,13 @@ from typing import Iterable, Iterator, List, Optional
 
 from ..errors import NotAllowed
 from ..sources import Readable, Source
-from .allow import read_lines
+from .allow import names_of
 from .begins import HEAD, is_pickle_name
 from .blobs import Budget, BytesBlob, LimitMet, Limits
 from .canonical.kinds import kinds_of
 from .containers import LOADERS, Container
 from .looking import Options, look_at_bytes
 from .looks import Judge
-from .names import Names
 from .reach import leads_of
 from .wording import place_of
 
@@ -49,7 +48,7 @@ def check(source: Source, *, allow: Iterable[str] = (), names: Iterable[str] = (
     content, name = _content(source)
     words, lines_given = ([given] if isinstance(given, str) else list(given) for given in (allow, names))
     # (a list without a name allows none)
-    allowed = Names([*read_lines(words), *lines_given]) if words or lines_given else None
+    allowed = names_of(words, lines_given) if words or lines_given else None
     judge = Judge(allowed)
     options = replace(options, lists=judge.lists(), left=() if loader == LOADERS[0] else _OF_OTHER_LOADERS)
     kinds = list(kinds_of(BytesBlob(content), content[:HEAD]))

@@ -10,9 +10,8 @@ from ..opens import is_archive
 from ..program import check_timeout
 from ..records import GateAnswer
 from ..sources import Source, content_of
-from .allow import read_lines
+from .allow import names_of
 from .entries import asked, text_of
-from .names import Names
 
 __all__ = ['gate']
 
@@ -44,7 +43,7 @@ def gate(source: Source, *, allow: Iterable[str] = (), names: Iterable[str] = ()
     (False, 'not allowed', 30)
     """
     words, lines = ([given] if isinstance(given, str) else list(given) for given in (allow, names))
-    entries = text_of(Names([*read_lines(words), *lines]).entries())
+    entries = text_of(names_of(words, lines).entries())
     is_whole = isinstance(source, (str, os.PathLike)) and is_archive(os.fsdecode(source))  # (the program looks at an archive itself)
     opened = None if is_whole else opened_in(source)
     check_timeout(timeout)

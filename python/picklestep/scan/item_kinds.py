@@ -52,6 +52,8 @@ class ItemKinds:
 
     def name(self, oddness: str) -> str:
         """What numpy or a loader makes of it."""
+        if oddness == 'items':
+            return 'numpy.ndarray'
         if self.odd is None and (oddness == 'attribute' or not self.of_numpy):
             return 'attribute'
         return 'numpy.dtype' if self.odd is not None or self._of_kind is not None else 'numpy.ndarray'

@@ -166,7 +166,7 @@ class Looker:
         kinds = kinds_of(blob, head)
         name = names[0] if names else ''
         # (pandas gives a member the name of its archive, behind which `check` puts the ending .pt)
-        asked = asked_form(name) if name not in (self.name, self.name.removesuffix('.pt')) or not where else None
+        asked = asked_form(name) if self.name not in (name, f'{name}.pt') or not where else None
         if asked is not None and not kinds and asked.is_empty is not None and asked.is_empty(blob):
             kinds = [asked]
         if asked is not None and asked not in kinds:

@@ -58,7 +58,7 @@ class Names:
 
     def __init__(self, lines: Iterable[str], is_checked: bool = False) -> None:
         self.names: Dict[str, str] = {}
-        self.patterns: List[Tuple[str, Pattern[str], str]] = []
+        self.patterns: List[Tuple[str, _Pattern, str]] = []
         self._found: Dict[str, Optional[str]] = {}
         # The words of the lines, by their names and patterns, and what the program gets of them; and of the lines that it always gets.
         self._words: Dict[str, List[FrozenSet[str]]] = {}
@@ -67,7 +67,7 @@ class Names:
         self._alone: Set[str] = set()
         self._digest = ''
         # The patterns by their first part, since a hostile file may have a million names; those that begin with a star are under ''.
-        self._by_part: Dict[str, List[Tuple[str, Pattern[str], str]]] = {}
+        self._by_part: Dict[str, List[Tuple[str, _Pattern, str]]] = {}
         for line in read_all(list(lines), is_checked):
             if line is not None:
                 self._add(line)
@@ -82,7 +82,7 @@ class Names:
         if line.entry:
             (self._always if is_pattern or name in _NO_IMPORTS else self._entries.setdefault(name, [])).append(line.entry)
         if is_pattern:
-            self.patterns.append((name, _pattern(name), line.note))
+            self.patterns.append((name, _Pattern(name), line.note))
             part = name.partition('.')[0]
             self._by_part.setdefault('' if '*' in part else part, []).append(self.patterns[-1])
         else:
@@ -91,12 +91,14 @@ class Names:
     def note(self, name: str) -> Optional[str]:
         """The note of the line that has this name; None where no line has it. A whole name goes before a pattern."""
         if name not in self._found:
+            if len(self._found) >= _MOST_FOUND:
+                self._found.clear()
             self._found[name] = self._look_up(name)
         return self._found[name]
 
     def lines_of(self, name: str) -> List[str]:
         """The names and patterns that have this name."""
-        return [name] * (name in self.names) + [text for text, pattern, _ in self._patterns_of(name) if pattern.fullmatch(name)]
+        return [name] * (name in self.names) + [text for text, pattern, _ in self._patterns_of(name) if pattern.has(name)]
 
     def allows_done(self, what: str, name: str, with_shapes: bool = True) -> bool:
         """Whether words say that this may be done with what is imported by a name that a line has. `what` is the first word of a line of the program,
@@ -144,9 +146,9 @@ class Names:
     def _look_up(self, name: str) -> Optional[str]:
         if name in self.names:
             return self.names[name]
-        return next((note for _, pattern, note in self._patterns_of(name) if pattern.fullmatch(name)), None)
+        return next((note for _, pattern, note in self._patterns_of(name) if pattern.has(name)), None)
 
-    def _patterns_of(self, name: str) -> List[Tuple[str, Pattern[str], str]]:
+    def _patterns_of(self, name: str) -> List[Tuple[str, _Pattern, str]]:
         return [*self._by_part.get(name.partition('.')[0], ()), *self._by_part.get('', ())]
 
 
@@ -171,6 +173,9 @@ _ALONE = re.compile(r'[ (|]alone[ )|]')
 _KNOWN_WORDS = (*_OF_LISTS, 'then', *sorted(_OF_MADE), 'text', 'short', 'fraction', 'bytes', 'number', 'small', 'bool', 'none', 'held', 'alone', 'class', 'any')
 # (a line of any length may be given as a list)
 _MOST_SHOWN = 80
+# Of so many names it is kept whether a list has them.
+_MOST_FOUND = 100_000
+_STARS = re.compile(r'(\*+)')
 
 
 def _grants(words: FrozenSet[str], word: str, with_shapes: bool) -> bool:
@@ -309,7 +314,18 @@ def words_for(done: Iterable[str]) -> str:
     return ''.join([':', *(f' {word}' for word in _OF_LISTS if word in words and (word != 'new' or 'call' not in words))])
 
 
-def _pattern(text: str) -> Pattern[str]:
-    pieces = re.split(r'(\*+)', text)
-    made = (('[^.]*' if piece == '*' else '.*') if piece.startswith('*') else re.escape(piece) for piece in pieces)
-    return re.compile(''.join(made), re.DOTALL)
+class _Pattern:
+    """A pattern of names. (A list has hundreds, of which a file asks for a few: each is made ready when a name begins and ends as it does.)"""
+
+    def __init__(self, text: str) -> None:
+        self._pieces = _STARS.split(text)
+        self._ready: Optional[Pattern[str]] = None
+
+    def has(self, name: str) -> bool:
+        """Whether it has a name."""
+        if not (name.startswith(self._pieces[0]) and name.endswith(self._pieces[-1])):
+            return False
+        if self._ready is None:
+            made = (('[^.]*' if piece == '*' else '.*') if piece.startswith('*') else re.escape(piece) for piece in self._pieces)
+            self._ready = re.compile(''.join(made), re.DOTALL)
+        return self._ready.fullmatch(name) is not None

@@ -75,7 +75,7 @@ class Output:
         reports = _reports(words)
         if reports:
             from .reports import About, Findings
-            findings, about = Findings(options), About.now(policy)
+            findings, about = Findings(options), About.now(policy, options.everywhere)
             self._collectors.append(findings)
             self._add_taken = findings.add_taken
             for path, maker in reports:

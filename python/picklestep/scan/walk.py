@@ -1,14 +1,15 @@
 """Goes from opcode to opcode over bytes in memory: quick enough to be tried at many places.
 
 It finds where pickles may begin and end, so it decides which bytes the program is asked about. What is in a pickle, the program says. All it
-knows of the opcodes is what `pickletools` has.
+knows of the opcodes is what their table has.
 """
 
 from __future__ import annotations
 
-import pickletools
 import re
 from typing import List, Optional, Set, Tuple
+
+from ..opcodes import BY_NAME, TABLE, OpcodeInfo
 
 __all__ = ['CHECKSUM', 'MOST', 'Walk', 'is_opcode', 'length_at', 'may_begin', 'stops_at_end', 'walk']
 
@@ -29,35 +30,32 @@ _MODULE = re.compile(rb'(?=[^\n]*[A-Za-z_\x80-\xff])[A-Za-z0-9_\x80-\xff][A-Za-z
 MOST = 20_000
 
 
-def _step_of(shape: 'pickletools.OpcodeInfo') -> int:
+# How the end of an argument is found whose length is not always the same.
+_ENDS = {'none': 1, 'line': _LINE, 'quoted': _LINE, 'decimal': _LINE, 'lines': _PAIR, 'bytes1': _ONE, 'bytes4': _FOUR, 'bytes4_signed': _FOUR, 'bytes8': _EIGHT}
+
+
+def _step_of(info: OpcodeInfo) -> int:
     """The length of an opcode with its argument where that is always the same, else how the argument's end is found."""
-    if shape.arg is None:
-        return 1
-    if shape.arg.n >= 0:
-        return 1 + shape.arg.n
-    if shape.arg.n == pickletools.UP_TO_NEWLINE:
-        return _PAIR if shape.arg.name == 'stringnl_noescape_pair' else _LINE
-    return {pickletools.TAKEN_FROM_ARGUMENT1: _ONE, pickletools.TAKEN_FROM_ARGUMENT8U: _EIGHT}.get(shape.arg.n, _FOUR)
+    return _ENDS[info.form] if info.form in _ENDS else 1 + int(info.form[-1])
 
 
-def _needs_of(shape: 'pickletools.OpcodeInfo') -> Tuple[int, bool, int]:
+def _needs_of(info: OpcodeInfo) -> Tuple[int, bool, int]:
     """What an opcode takes from the stack (above a mark or not), whether it takes a mark, and what it leaves."""
-    names = [each.name for each in shape.stack_before]
-    if 'mark' not in names:
-        return len(names), False, len(shape.stack_after)
-    return names.index('mark'), True, len(shape.stack_after)
+    if info.name.endswith('PUT'):
+        return 0, False, 0  # (a guess may begin behind what it stores)
+    names, leaves = ([word for word in words.split(', ') if word] for words in (info.takes, info.leaves))
+    return (names.index('mark'), True, len(leaves)) if info.takes_mark else (len(names), False, len(leaves))
 
 
 _STEPS: List[int] = [_UNKNOWN] * 256
 _NEEDS: List[Tuple[int, bool, int]] = [(0, False, 0)] * 256
 _WHAT: List[int] = [0] * 256  # 1: imports, 2: calls, 3: both
-for _each in pickletools.opcodes:
-    _STEPS[ord(_each.code)] = _step_of(_each)
-    _NEEDS[ord(_each.code)] = _needs_of(_each)
-    _WHAT[ord(_each.code)] = (_each.name in _IMPORTS) + 2 * (_each.name in _CALLS)
-_TAKES_NUMBER = frozenset(ord(each.code) for each in pickletools.opcodes if each.name in _NUMBERS)
-_MARK = next(ord(each.code) for each in pickletools.opcodes if each.name == 'MARK')
-_STACK_GLOBAL = next(ord(each.code) for each in pickletools.opcodes if each.name == 'STACK_GLOBAL')
+for _each in TABLE:
+    _STEPS[_each.code] = _step_of(_each)
+    _NEEDS[_each.code] = _needs_of(_each)
+    _WHAT[_each.code] = (_each.name in _IMPORTS) + 2 * (_each.name in _CALLS)
+_TAKES_NUMBER = frozenset(each.code for each in TABLE if each.name in _NUMBERS)
+_MARK, _STACK_GLOBAL = BY_NAME['MARK'].code, BY_NAME['STACK_GLOBAL'].code
 
 
 def _variable(content: bytes, at: int, step: int) -> int:

@@ -19,7 +19,7 @@ from .results import Result
 from .through import why_through
 from .wording import count_of, place_of, shown, times
 
-__all__ = ['Used', 'check_list', 'write_list']
+__all__ = ['Used', 'check_list', 'unused_of', 'write_list']
 
 # How the comment begins that says which names of a list are unused.
 _UNUSED = '# Unused on'
@@ -120,7 +120,7 @@ def _longer(path: str, before: bytes, used: Used) -> bytes:
     end = '\r\n' if b'\r\n' in before else '\n'
     kept, old = _without_unused(before)
     added = _added(path, kept, names, used, end)
-    unused = ', '.join(_unused(path, kept, names, used))
+    unused = ', '.join(unused_of(path, kept, names, used.names()))
     if not added and unused == old:
         return before
     if not unused:
@@ -137,9 +137,9 @@ def _without_unused(content: bytes) -> Tuple[bytes, str]:
     return b''.join(line for line in lines if line not in said), names
 
 
-def _unused(path: str, content: bytes, names: Names, used: Used) -> Iterator[str]:
+def unused_of(path: str, content: bytes, names: Names, used: Iterable[str]) -> Iterator[str]:
     """The names and patterns of a list itself that no used name fits."""
-    fitting = {line for name in used.names() for line in names.lines_of(name)}
+    fitting = {line for name in used for line in names.lines_of(name)}
     own = dict.fromkeys(line.name for _, _, line in lines_of(content, path) if line is not None and not line.is_include)
     return (name for name in own if name not in fitting)
 

@@ -8,13 +8,13 @@ at the end, plain ones stay, and those that nothing behind the edits can change.
 
 from __future__ import annotations
 
-import pickletools
 import sys
 from bisect import bisect_right
 from typing import Any, Dict, List, NamedTuple, Optional, Protocol, Sequence, Tuple
 
 from ..arguments import ArgumentValue, encoded
 from ..listed import offset_of
+from ..opcodes import TABLE
 from ..replies import is_mark
 from ..tasks import listing, objects
 from ..texts import MARK, behind_word, end_of_line, frame_length, key_in, kind_in, line_of, moved_line, without_number
@@ -38,7 +38,7 @@ _FILLS = frozenset(('APPENDS', 'SETITEMS', 'ADDITEMS'))
 _PUTS = {'insert': 1, 'replace': 1, 'delete': 0}
 # What changes an object that is not right below a mark, or puts one on the stack that was below others; and what pushes an object and takes none.
 _NEAR = [CODE_BY_NAME[name] for name in ('APPEND', 'SETITEM', 'BUILD', 'POP', 'DUP')]
-_PUSHES = frozenset(ord(each.code) for each in pickletools.opcodes if not each.stack_before and [*each.stack_after] not in ([], [pickletools.markobject]))
+_PUSHES = frozenset(each.code for each in TABLE if not each.takes and each.leaves not in ('', 'mark'))
 _GETS = [(CODE_BY_NAME[name], name.encode('ascii')) for name in ('GET', 'BINGET', 'LONG_BINGET')]
 _POP, _FRAME, _READONLY = (CODE_BY_NAME[name] for name in ('POP', 'FRAME', 'READONLY_BUFFER'))
 _HEAD = 40  # (letters that have the number and the kind of an object)

@@ -4,9 +4,9 @@ from __future__ import annotations
 
 from typing import Dict, List
 
+from ..opcodes import BY_NAME
 from ..records import Global
 from .breaks import BREAKS, dotted
-from .edits import OPCODES
 from .opened import Opened
 from .words import WORDS
 
@@ -29,7 +29,7 @@ def completions(pickle: Opened, before: str) -> List[str]:
     if words == ['break']:
         found += BREAKS
     if words[0] in _WITH_OPCODES or words[-1] in _WITH_OPCODES:
-        found += OPCODES
+        found += BY_NAME
     if words[-1] in _NAMED:
         found += _names(pickle, words[0] == 'rename')
     return [name for name in found if name.startswith(begun)][:_MOST]

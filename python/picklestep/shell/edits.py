@@ -2,24 +2,22 @@
 
 from __future__ import annotations
 
-import pickletools
 import re
 from ast import literal_eval
 from typing import Dict, Sequence
 
 from ..arguments import ArgumentValue, encoded
+from ..opcodes import BY_NAME
 from .opened import Edit, Opened
 
 __all__ = ['EditError', 'of_object', 'of_value', 'of_words', 'unquoted']
-
-OPCODES: Dict[str, pickletools.OpcodeInfo] = {opcode.name: opcode for opcode in pickletools.opcodes}
 
 # Opcodes that can hold a value of a type, the shortest first.
 _HOLDERS: Dict[type, Sequence[str]] = {
     bool: ('NEWTRUE', 'NEWFALSE', 'INT'), type(None): ('NONE',), float: ('BINFLOAT', 'FLOAT'), bytearray: ('BYTEARRAY8',),
     int: ('BININT1', 'BININT2', 'BININT', 'LONG1', 'LONG4', 'INT', 'LONG'), bytes: ('SHORT_BINBYTES', 'BINBYTES', 'BINBYTES8'),
     str: ('SHORT_BINUNICODE', 'BINUNICODE', 'BINUNICODE8', 'UNICODE')}
-_PLAIN = frozenset(name for name, info in OPCODES.items() if not info.stack_before and len(info.stack_after) == 1 and (
+_PLAIN = frozenset(name for name, info in BY_NAME.items() if not info.takes and info.leaves and (
     not name.endswith('GET') and not name.startswith('EXT') and name not in ('GLOBAL', 'INST', 'PERSID', 'MARK', 'PROTO', 'FRAME')))
 _MADE = re.compile(r'(bytearray|float)\((.*)\)|-?(?:inf|nan)')
 # Texts of Python 2, and what is put in their place where a sign is beyond ASCII: Python 3 would not load its bytes, or another text of them.
@@ -33,11 +31,11 @@ class EditError(ValueError):
 def of_words(word: str, place: int, text: str) -> Edit:
     """The edit that words after a place say: the name of an opcode with values, its bytes in hexadecimal after `hex`, or a value alone."""
     name, _, rest = text.partition(' ')
-    if name not in OPCODES:
+    if name not in BY_NAME:
         return Edit(word, place, values=(_value(text),))
     if rest.split(' ')[0] == 'hex':
         return Edit(word, place, name, raw=bytes.fromhex(rest[3:]))
-    if OPCODES[name].arg is None:
+    if not BY_NAME[name].argument:
         if rest.strip():
             raise EditError(f'{name} has no argument')
         return Edit(word, place, name)
@@ -80,8 +78,8 @@ def of_value(pickle: Opened, edit: Edit, now: str) -> Edit:
     if edit.word == 'replace' and now and now not in _PLAIN:
         return _of_other(edit, now, value)
     holders = _HOLDERS.get(type(value), ())
-    protocol = max([OPCODES[name].proto for name in (now,) if name in OPCODES] + [_protocol(pickle)])
-    known = [name for name in holders if OPCODES[name].proto <= protocol]
+    protocol = max([BY_NAME[name].protocol for name in (now,) if name in BY_NAME] + [_protocol(pickle)])
+    known = [name for name in holders if BY_NAME[name].protocol <= protocol]
     if isinstance(value, str) and now in _LEGACY:
         known.insert(0, now if value.isascii() else _LEGACY[now])
     elif now in known:
@@ -95,7 +93,7 @@ def of_value(pickle: Opened, edit: Edit, now: str) -> Edit:
 
 def _of_other(edit: Edit, now: str, value: ArgumentValue) -> Edit:
     """The edit where no plain value is: of the argument that the opcode has."""
-    found = _fitting(edit, now, value) if OPCODES[now].arg is not None else None
+    found = _fitting(edit, now, value) if BY_NAME[now].argument else None
     if found is None:
         raise EditError(f'{now} cannot hold {value!r:.60}; name the opcode that is to be there')
     return found
@@ -103,7 +101,7 @@ def _of_other(edit: Edit, now: str, value: ArgumentValue) -> Edit:
 
 def _fitting(edit: Edit, name: str, value: ArgumentValue) -> 'Edit | None':
     """The edit with this opcode, if its argument can be the value."""
-    if OPCODES[name].arg is None:
+    if not BY_NAME[name].argument:
         return edit._replace(name=name, values=()) if name in ('NONE', 'NEWTRUE' if value is True else 'NEWFALSE') else None
     try:
         encoded(name, [value])

@@ -2,13 +2,13 @@
 
 from __future__ import annotations
 
-import pickletools
 import time
 from array import array
 from bisect import bisect_left
 from itertools import chain, compress
 from typing import Callable, Dict, Iterator, List, Sequence, Tuple
 
+from ..opcodes import TABLE, OpcodeInfo
 from ..view.lines import OpcodeLines
 
 __all__ = ['History']
@@ -20,22 +20,21 @@ _OTHERS = {'MARK': _MARK, 'POP_MARK': _CUT, 'MEMOIZE': _MEMOIZE, 'DUP': _DUP, 'P
            'FRAME': _NOTHING}
 
 
-def _deed(opcode: pickletools.OpcodeInfo) -> int:
-    takes_cut = pickletools.markobject in opcode.stack_before
+def _deed(opcode: OpcodeInfo) -> int:
     if opcode.name in _OTHERS:
         return _OTHERS[opcode.name]
     if opcode.name in _CHANGES:
-        return _CHANGE_BY_CUT if takes_cut else _CHANGE
+        return _CHANGE_BY_CUT if opcode.takes_mark else _CHANGE
     if opcode.name.endswith(('PUT', 'GET')):
         return _PUT if opcode.name.endswith('PUT') else _GET
-    return _MAKE_OF_CUT if takes_cut else _MAKE_OF_TOP if opcode.stack_before else _MAKE
+    return _MAKE_OF_CUT if opcode.takes_mark else _MAKE_OF_TOP if opcode.takes else _MAKE
 
 
 _DEEDS = bytearray(256)
 _TAKEN = bytearray(256)  # how many objects an opcode takes from the top of the stack
-for _opcode in pickletools.opcodes:
-    _DEEDS[ord(_opcode.code)] = _deed(_opcode)
-    _TAKEN[ord(_opcode.code)] = _CHANGES.get(_opcode.name, len(_opcode.stack_before))
+for _opcode in TABLE:
+    _DEEDS[_opcode.code] = _deed(_opcode)
+    _TAKEN[_opcode.code] = _CHANGES.get(_opcode.name, _opcode.taken)
 
 
 # After so many opcodes it waits so many seconds, so that whoever answers is not kept waiting, and asks whether it is still wanted.

@@ -7,16 +7,17 @@ from __future__ import annotations
 
 from typing import Dict, Iterator, List, NamedTuple, Optional, Sequence, Set, Tuple
 
+from ..opcodes import BY_NAME
 from ..records import Global, Name
 from ..texts import HELD, NAMED_BY_TEXTS, end_of_texts
-from .edits import OPCODES, EditError, of_value
+from .edits import EditError, of_value
 from .opened import Edit, Opened
 
 __all__ = ['Renaming', 'names_of', 'renaming']
 
 _STORES = ('MEMOIZE', 'PUT', 'BINPUT', 'LONG_BINPUT')
 _GETS = ('GET', 'BINGET', 'LONG_BINGET')
-_TEXTS = tuple(name for name in OPCODES if 'UNICODE' in name or 'STRING' in name)
+_TEXTS = tuple(name for name in BY_NAME if 'UNICODE' in name or 'STRING' in name)
 
 Names = Tuple[str, str]
 

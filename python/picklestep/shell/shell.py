@@ -13,6 +13,7 @@ from ..comparing import compare, shown_value
 from ..diff import of_reaches
 from ..errors import NoResult, PicklestepError, Refused, reason
 from ..hints import OF_FRAMES, of_array, of_frame
+from ..opcodes import BY_NAME
 from ..records import Ref
 from ..python_source import source
 from ..replies import entry_of, is_mark, last_words, number_in_word, stored_under, words_of
@@ -23,8 +24,8 @@ from ..view.document import Done
 from ..view.lines import line_of
 from .breaks import BREAKS, OF_NUMBERS, Break, next_break
 from .between import Unknown, line_put
-from .edits import OPCODES, EditError, of_object, of_value, of_words, unquoted
-from .explain import EFFECTS, EXPLAINED, taken
+from .edits import EditError, of_object, of_value, of_words, unquoted
+from .explain import taken
 from .nests import behind_mark, behind_next
 from .opened import Edit, Opened
 from .plain import plainly
@@ -352,7 +353,7 @@ class Shell:
             rest = rest.upper()
         if what == 'text':
             rest = unquoted(rest)
-        if what == 'opcode' and rest and rest not in OPCODES:
+        if what == 'opcode' and rest and rest not in BY_NAME:
             raise WordError(f'{rest[:40]!r} is no opcode')
         if what == 'at' and int(rest) >= len(self.pickle.lines):
             raise WordError(f'there is no opcode at {rest}')
@@ -447,13 +448,13 @@ class Shell:
         return _bytes(content, start, start + self._count(words[1]) if len(words) > 1 else after)
 
     def _do_explain(self, text: str) -> str:
-        if text.upper() in EXPLAINED:
-            return f'{text.upper()}: {EXPLAINED[text.upper()]}'
+        if text.upper() in BY_NAME:
+            return f'{text.upper()}: {BY_NAME[text.upper()].sentence}'
         place = self._place(text)
         if place >= len(self.pickle.lines):
             return '\n'.join([f'the end: {self.pickle.session.where().end.text}', *self.pickle.kept])
         line = self.pickle.lines.at(place)
-        rows = [f'{line.name}: {EXPLAINED[line.name]}', *(f'here: {reached}' for reached in self.pickle.calls_at(place, line))]
+        rows = [f'{line.name}: {BY_NAME[line.name].sentence}', *(f'here: {reached}' for reached in self.pickle.calls_at(place, line))]
         if place == self._now()[0]:
             rows.append(f'the stack before it: {self._top()}')
         number = self.pickle.makes(place)
@@ -464,7 +465,7 @@ class Shell:
                 rows.append(f'it makes #{number}' + (f' of {takes}' if takes else ''))
             else:
                 why = self.pickle.refusal() if is_there else ''
-                takes = EFFECTS[line.name][0] and (self._taken(line.name) if is_there and not why else EFFECTS[line.name][0])
+                takes = BY_NAME[line.name].takes and (self._taken(line.name) if is_there and not why else BY_NAME[line.name].takes)
                 rows += [f'it is refused here: {plainly(why)}'] if why else [f'it takes {takes}'] if takes else []
         return '\n'.join(rows)
 
@@ -566,7 +567,7 @@ class Shell:
             return f'{place}: {old} is gone'
         if edit.word == 'frame':
             self._settle()
-        now = self._was(place) if edit.word == 'frame' else edit.name if OPCODES[edit.name].arg is None else _shown(line_put(edit.name, edit.values, edit.raw))
+        now = self._was(place) if edit.word == 'frame' else edit.name if not BY_NAME[edit.name].argument else _shown(line_put(edit.name, edit.values, edit.raw))
         return f'{place}: {now}' + (f' (was {old})' if old else ' is new')
 
     def _move_breaks(self, moves: Sequence[Tuple[int, int]], shown: List[List[Break]], hidden: List[List[Break]]) -> None:

@@ -162,10 +162,11 @@ def _field(described: Any, depth: int) -> Tuple[int, int, int]:
     return (described[1], *_of_pickled(described[0], depth + 1))
 
 
-def oddness(blob: Blob, budget: Budget, of_numpy: bool = True) -> str:
-    """What is odd in pickles in a row: 'attribute' where an object gets what is imported under a name that loaders call, 'array' where kinds of
-    items are not as numpy describes them, or a state makes an array of an object, or gives one another number of objects than it has.
-    Where half of the time that is left does not suffice, nobody knows it."""
+def oddness(blob: Blob, budget: Budget, of_numpy: bool = True, makes_texts: bool = False) -> str:
+    """What is odd in pickles in a row: 'attribute' where an object gets what is imported under a name that loaders call, 'items' where one gets an
+    item that may make numpy take it for an array, 'array' where kinds of items are not as numpy describes them, or a state makes an array of an
+    object, or gives one another number of objects than it has.
+    `makes_texts` is set where a call may make any text. Where half of the time that is left does not suffice, nobody knows it."""
     at, is_odd = 0, False
     try:
         with budget.half():
@@ -173,6 +174,8 @@ def oddness(blob: Blob, budget: Budget, of_numpy: bool = True) -> str:
                 pickle = read_pickle(blob, at, None, budget, of_numpy)
                 if pickle.gives_methods:
                     return 'attribute'
+                if pickle.has_odd_items or makes_texts and pickle.has_made_items:
+                    return 'items'
                 if of_numpy:
                     is_odd = is_odd or pickle.has_odd_states
                     _require_kinds(pickle)

@@ -12,13 +12,13 @@ import codecs
 import re
 import struct
 from dataclasses import dataclass, field
-from pickletools import opcodes
 from typing import Any, Callable, Dict, List, NoReturn, Optional, Set, Tuple, Type
 
+from ...opcodes import TABLE
 from ..blobs import CHUNK, STEPS, Blob, Budget, JoinedBlob
 from .formed import require_form
 from .forms import NotCanonical, count_of_shape, wrong
-from .methods import CALLED, CALLED_ALONE, CALLED_OF_ITEMS, REPLACING
+from .methods import CALLED, CALLED_ALONE, CALLED_OF_ITEMS, OF_ARRAYS, REPLACING
 
 __all__ = ['Global', 'Hook', 'Made', 'OldText', 'PDict', 'PList', 'Pickle', 'Reader', 'read_pickle']
 
@@ -67,6 +67,11 @@ class OldText(bytes):
     """A text that Python 2 wrote, by opcodes of its own: Python 3 makes a text of it, and of no other bytes."""
 
 
+def _text_of(key: Any) -> str:
+    """The text that a key is, or an empty one."""
+    return key.decode('latin-1') if isinstance(key, OldText) else key if isinstance(key, str) else ''
+
+
 class PList(List[Any]):
     """A list, as far as its items are kept. `left_out` counts the others; `is_set` says that an item was put in place of another, as no pickler
     does."""
@@ -89,14 +94,10 @@ class PDict(PList):
 
     def by_text(self) -> Dict[str, Any]:
         """The values by their keys, where these are texts."""
-        found: Dict[str, Any] = {}
-        for key, value in zip(self[::2], self[1::2]):
-            key = key.decode('latin-1') if isinstance(key, OldText) else key
-            if isinstance(key, str):
-                if key in found:
-                    wrong(f'the key {key!a} comes twice')
-                found[key] = value
-        return found
+        pairs = [(_text_of(key), value) for key, value in zip(self[::2], self[1::2]) if isinstance(key, (str, OldText))]
+        if len(dict(pairs)) < len(pairs):
+            wrong('a key comes twice')
+        return dict(pairs)
 
 
 class _Opaque:
@@ -118,8 +119,6 @@ class _Array(_Opaque):
         self.may_hold_objects = may_hold_objects
 
 
-# The attributes by which numpy takes an object for an array.
-_OF_ARRAYS = ('__array_interface__', '__array_struct__', '__array__')
 # What the memo has where there is nothing.
 _NOTHING = _Opaque()
 
@@ -151,9 +150,9 @@ class Pickle:
     `raw` are the ranges within it that are no opcodes, as offset and end; of these `inner` are pickles with a memo of their own. `counts`
     is set where it takes things from the memo that stand there in the order in which they came: another memo gives it other things. `kinds`
     are numpy's kinds of items that it makes. `has_odd_states` says that a state has a key by which numpy takes an object for an array, or
-    one that is worked out, or may give an array another number of objects than it has items. `gives_methods` says that an object gets what
-    is imported under a name that loaders call. `gets` counts how often a tuple, list or dictionary was taken from the memo, by its id:
-    something else may have changed it.
+    one that is worked out, or may give an array another number of objects than it has items; `has_odd_items` and `has_made_items` say it of items,
+    which some objects take for attributes. `gives_methods` says that an object gets what is imported under a name that loaders call. `gets`
+    counts how often a tuple, list or dictionary was taken from the memo, by its id: something else may have changed it.
     """
 
     offset: int
@@ -166,6 +165,8 @@ class Pickle:
     value: Any = None
     kinds: List['Made'] = field(default_factory=list)
     has_odd_states: bool = False
+    has_odd_items: bool = False
+    has_made_items: bool = False
     gives_methods: bool = False
     gets: Dict[int, int] = field(default_factory=dict)
 
@@ -202,8 +203,7 @@ def _may_be_of_kind(state: Any) -> bool:
 def _has_odd_key(state: Any) -> bool:
     """Whether a state sets an attribute by which numpy takes an object for an array, or one that nobody sees."""
     if isinstance(state, PDict):
-        keys = (key.decode('latin-1') if isinstance(key, OldText) else key for key in state[::2])
-        return not state.is_whole or any(key in _OF_ARRAYS if isinstance(key, str) else isinstance(key, _Opaque) for key in keys)
+        return not state.is_whole or any(isinstance(key, _Opaque) or _text_of(key) in OF_ARRAYS for key in state[::2])
     if isinstance(state, _Opaque):
         return state.may_hold_objects if isinstance(state, _Array) else state is not _DATA
     return isinstance(state, tuple) and len(state) == 2 and any(map(_has_odd_key, state))
@@ -214,23 +214,22 @@ def _gives_method(state: Any, of_items: bool = False) -> bool:
     kept."""
     if isinstance(state, PDict):
         return state.has_called_item if of_items else state.has_called
-    if state is _DICTIONARY:
-        return not of_items
+    if isinstance(state, _Opaque):  # (the unpickler in Python asks any object for its items)
+        return not of_items and state is not _DATA and not isinstance(state, _Array)
     return isinstance(state, tuple) and len(state) == 2 and any(_gives_method(each, of_items) for each in state)
 
 
 def _is_method(key: Any, value: Any, is_item: bool = False) -> bool:
     """Whether a loader may call this by its name. The names of methods of lists and dictionaries also stand for settings, which are values, or
     kinds of them, and for items."""
-    if isinstance(key, OldText):
-        key = key.decode('latin-1')
-    if not isinstance(key, str):
+    if not isinstance(key, (str, OldText)):
         return type(value) is Global and isinstance(key, _Opaque) and key is not _DATA and not is_item
-    if key in REPLACING:
+    name = _text_of(key)
+    if name in REPLACING:
         return not is_item
-    if key in CALLED_ALONE:
+    if name in CALLED_ALONE:
         return type(value) is Global or value is _MADE
-    return key in (CALLED_OF_ITEMS if is_item else CALLED) and type(value) is Global and value.module not in _BUILTINS
+    return name in (CALLED_OF_ITEMS if is_item else CALLED) and type(value) is Global and value.module not in _BUILTINS
 
 
 def _may_be(kind: Type[Any], value: Any) -> bool:
@@ -694,8 +693,7 @@ class Reader:
         top[-count:] = [tuple(top[-count:])]
 
     def marked_tuple(self) -> None:
-        items = tuple(self.marked())
-        self.push(items)
+        self.push(tuple(self.marked()))
 
     def _fill(self, target: PList, items: List[Any]) -> None:
         if self._left > 0:
@@ -710,8 +708,7 @@ class Reader:
             self._fill(target, items)
 
     def append_one(self) -> None:
-        item = self.pop()
-        self.append([item])
+        self.append([self.pop()])
 
     def set_items(self, items: List[Any]) -> None:
         target = self.peek()
@@ -723,8 +720,11 @@ class Reader:
                     target.has_called_item = target.has_called_item or _is_method(key, value, True)
         elif type(target) is PList:
             target.is_set = True
-        elif target is not _DICTIONARY and not self.pickle.gives_methods:  # (some classes take their items for attributes)
-            self.pickle.gives_methods = any(_is_method(*pair, True) for pair in zip(items[::2], items[1::2]))
+        elif target is not _DICTIONARY:  # (some classes take their items for attributes)
+            for key, value in zip(items[::2], items[1::2]):
+                self.pickle.has_odd_items |= _text_of(key) in OF_ARRAYS
+                self.pickle.has_made_items |= isinstance(key, _Opaque) and key is not _DATA
+                self.pickle.gives_methods |= bool(_text_of(key)) and not isinstance(value, (str, int)) and _is_method(key, value)
 
     def set_one(self) -> None:
         value, key = self.pop(), self.pop()
@@ -788,8 +788,8 @@ _OPCODES: Dict[str, Callable[[Reader], Any]] = {
 
 # What each byte does where an opcode is to come.
 _DO: List[Callable[[Reader], Any]] = [Reader.refuse] * 256
-for _each in opcodes:
-    _DO[ord(_each.code)] = _OPCODES.get(_each.name, Reader.refuse)
+for _each in TABLE:
+    _DO[_each.code] = _OPCODES.get(_each.name, Reader.refuse)
 
 
 def read_pickle(blob: Blob, at: int = 0, on_build: Optional[Hook] = None, budget: Optional[Budget] = None, of_numpy: bool = True) -> Pickle:

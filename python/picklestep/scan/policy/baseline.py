@@ -11,17 +11,18 @@ from ..looks import Look
 from ..results import Result
 from .model import BadPolicy
 
-__all__ = ['IN_BASELINE', 'Baseline', 'Marks']
+__all__ = ['IN_BASELINE', 'Baseline', 'Key', 'Marks', 'key_of']
 
 # What is said of a mark that a baseline takes.
 IN_BASELINE = 'in the baseline'
 
 _VERSION = 1
 # A mark by the digest of its file, its place there, its rule and its name.
-_Key = Tuple[str, Tuple[str, ...], str, str]
+Key = Tuple[str, Tuple[str, ...], str, str]
 
 
-def _key(digest: str, look: Look) -> _Key:
+def key_of(digest: str, look: Look) -> Key:
+    """What a mark is known by."""
     return digest, look.where, look.rule, look.name
 
 
@@ -30,7 +31,7 @@ class Baseline:
 
     def __init__(self, paths: Iterable[str], most: int = 1 << 28) -> None:
         """Raises BadPolicy where a file is no baseline, or has more bytes than that."""
-        self._keys: Set[_Key] = set()
+        self.keys: Set[Key] = set()
         self.digests: Dict[str, str] = {}
         for path in paths:
             for mark in _marks_in(path, most):
@@ -38,12 +39,12 @@ class Baseline:
                     key = (str(mark['sha256']), tuple(map(str, mark['where'])), str(mark['rule']), str(mark['name']))
                 except (KeyError, TypeError):
                     raise BadPolicy(f'{shown(path)}: a mark of it has no sha256, where, rule or name') from None
-                self._keys.add(key)
+                self.keys.add(key)
                 self.digests[key[0]] = str(mark.get('path', ''))
 
     def has(self, result: Result, look: Look) -> bool:
         """Whether a mark is in it. What has no digest, such as a value of a server, is in none."""
-        return bool(result.digest) and _key(result.digest, look) in self._keys
+        return bool(result.digest) and key_of(result.digest, look) in self.keys
 
 
 def _marks_in(path: str, most: int) -> List[Any]:
@@ -68,7 +69,7 @@ class Marks:
     """Keeps the marks of a run, to be written as a baseline."""
 
     def __init__(self) -> None:
-        self._marks: Dict[_Key, str] = {}
+        self._marks: Dict[Key, str] = {}
         # How many cannot be kept, since their files have no digest.
         self.left = 0
 
@@ -76,7 +77,7 @@ class Marks:
         """Keeps the marks of a file."""
         for look in looks:
             if result.digest:
-                self._marks.setdefault(_key(result.digest, look), result.path)
+                self._marks.setdefault(key_of(result.digest, look), result.path)
             else:
                 self.left += 1
 

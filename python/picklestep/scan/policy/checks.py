@@ -1,25 +1,33 @@
-"""What is odd about a policy: what nothing uses, what has ended, and what hides another."""
+"""What is odd about a policy: what nothing uses, what has ended or is gone, and what hides another."""
 
 from __future__ import annotations
 
 import datetime
+from collections import Counter
 from dataclasses import dataclass, field
+from pathlib import Path
 from typing import Dict, Iterator, List, Optional, Set
 
 from ...wording import shown
+from ..allow import SETS
 from ..looks import Look
 from ..results import Result
 from ..severity import UNREAD
 from ..wording import count_of, place_of
-from .baseline import Baseline
+from ..written import unused_of
+from .baseline import Baseline, Key, key_of
 from .index import inner_path
 from .judging import PolicyJudges, is_about
-from .model import Policy, PolicyException, Target
+from .model import Policy, PolicyException, Rule, Target
 
 __all__ = ['Used', 'faults']
 
 # An exception that ends within so many days is named.
 _SOON = 30
+# So many entries of a list are named that nothing uses.
+_MOST_ENTRIES = 20
+# What lists have lines for, and is no import.
+_NO_IMPORTS = ('persistent', 'buffer')
 
 
 @dataclass
@@ -34,6 +42,15 @@ class _Use:
     before: Set[str] = field(default_factory=set)
 
 
+@dataclass
+class _Named:
+    """What the files import whose names a rule allows: whether there is such a file, and whether some of it was not looked at."""
+
+    names: Set[str] = field(default_factory=set)
+    is_met: bool = False
+    is_unsure: bool = False
+
+
 class Used:
     """What files, servers and URLs use of a policy."""
 
@@ -41,14 +58,33 @@ class Used:
         self._judges = judges
         # Each path, and where it is in the folder of the policy.
         self.inner: Dict[str, Optional[str]] = {}
+        # The files that are there, those of them that were not looked at whole, and the marks of all.
         self.digests: Set[str] = set()
+        self.unsure: Set[str] = set()
+        self.marks: Set[Key] = set()
         # What cannot be read, and why.
         self.errors: Dict[str, str] = {}
         self._uses = {each.place: _Use() for each in judges.policy.exceptions}
+        self._named = {rule.place: _Named() for rule in (judges.policy.default, *judges.policy.rules)}
 
     def of(self, exception: PolicyException) -> _Use:
         """What an exception is used for."""
         return self._uses[exception.place]
+
+    def unused(self, rule: Rule) -> Iterator[str]:
+        """What nothing uses of the lists that a rule allows. Nothing is said where it has no file, or where one was not looked at whole."""
+        named = self._named[rule.place]
+        for word in rule.allow or () if named.is_met and not named.is_unsure else ():
+            names = self._judges.names_of(word)
+            is_used = any(names.lines_of(name) for name in named.names)
+            if word in SETS:
+                yield from () if is_used else (f'{word}: no file uses a name of its own',)
+                continue
+            found = list(unused_of(word, Path(word).read_bytes(), names, named.names))
+            more = f' and {len(found) - _MOST_ENTRIES} more' if len(found) > _MOST_ENTRIES else ''
+            said = f'{", ".join(map(shown, found[:_MOST_ENTRIES]))}{more}' if is_used else 'a name of it'
+            if found or not is_used:
+                yield f'{shown(Path(word).name)}: no file uses {said}'
 
     def add(self, result: Result) -> None:
         """Counts what a file uses."""
@@ -58,13 +94,28 @@ class Used:
         if result.error is not None:
             self.errors[result.path] = result.error
         exceptions = judges.exceptions_of(result)
-        looks = list(judges.of(result.path).looks(result)) if exceptions else []
+        looks = list(judges.of(result.path).looks(result))
+        is_unsure = any(look.severity == UNREAD for look in looks)
+        self._add_names(result, is_unsure)
+        if result.digest and judges.policy.baselines:
+            self.unsure.update([result.digest] if is_unsure else [])
+            self.marks.update(key_of(result.digest, look) for look in looks)
         for each in exceptions:
             use = self.of(each)
             use.is_met = True
-            use.is_unsure = use.is_unsure or any(look.severity == UNREAD for look in looks)
+            use.is_unsure = use.is_unsure or is_unsure
         for look in looks:
             self._add(result, look, exceptions)
+
+    def _add_names(self, result: Result, is_unsure: bool) -> None:
+        """Counts the names of a file for the rule that says which are allowed there."""
+        rule = self._judges.rule_of(result.path)
+        named = self._named[rule.place if rule.allow is not None else self._judges.policy.default.place]
+        named.is_met = True
+        named.is_unsure = named.is_unsure or is_unsure
+        for pickle in result.pickles:
+            named.names.update(found.name for found in pickle.imports)
+            named.names.update(done.what for done in pickle.calls if done.what in _NO_IMPORTS)
 
     def _add(self, result: Result, look: Look, exceptions: List[PolicyException]) -> None:
         """Counts a mark for the exceptions that are about it. A baseline takes it before them, and the first that has not ended before the others."""
@@ -85,6 +136,10 @@ def faults(policy: Policy, used: Optional[Used], today: datetime.date) -> Iterat
     if used is not None:
         yield from (f'{place_of(path, ())}: cannot be read, so nothing is said of what it would use: {shown(why)}' for path, why in used.errors.items())
     yield from _of_rules(policy, used.inner if used is not None else {})
+    if used is not None:
+        for rule in (policy.default, *policy.rules):
+            about = f' ({shown(str(rule.target))})' if rule is not policy.default else ''
+            yield from (f'{rule.place}{about}: allow: {said}' for said in used.unused(rule))
     hidden: Set[str] = set()
     yield from _of_exceptions(policy, today, hidden)
     if used is not None:
@@ -92,9 +147,17 @@ def faults(policy: Policy, used: Optional[Used], today: datetime.date) -> Iterat
             why = _why_unused(each, used.of(each))
             if why and each.place not in hidden:
                 yield f'{each.place} ({shown(each.about())}): {why}'
-        gone = set(Baseline(map(str, policy.baselines)).digests) - used.digests
-        if gone:
-            yield f'baseline: {count_of(len(gone), "file")} of it {"is" if len(gone) == 1 else "are"} no longer there'
+        yield from _of_baseline(Baseline(map(str, policy.baselines)), used)
+
+
+def _of_baseline(known: Baseline, used: Used) -> Iterator[str]:
+    """What is gone: files, and marks of files that are there and were looked at whole."""
+    gone = set(known.digests) - used.digests
+    if gone:
+        yield f'baseline: {count_of(len(gone), "file")} of it {"is" if len(gone) == 1 else "are"} no longer there'
+    counts = Counter(digest for digest, *_ in known.keys - used.marks if digest not in gone and digest not in used.unsure)
+    for digest, count in counts.items():
+        yield f'baseline: {place_of(known.digests[digest], ())}: {count_of(count, "mark")} of it {"is" if count == 1 else "are"} no longer there'
 
 
 def _none_has(target: Target) -> str:

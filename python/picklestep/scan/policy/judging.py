@@ -14,7 +14,7 @@ from pathlib import Path
 from typing import Dict, Iterator, List, Optional, Sequence, Tuple
 
 from ...wording import shown
-from ..allow import read_names
+from ..allow import SETS, read_names
 from ..judges import Judges
 from ..looks import Judge, Look
 from ..names import Names
@@ -124,6 +124,10 @@ class PolicyJudges(Judges):
         return Judge(self._lists.names(words) if has_list else None, denied, with_known, self._judge if is_found else None)
 
     # --- Exceptions and baselines ---
+
+    def names_of(self, word: str) -> Names:
+        """What a set or a file has that the policy allows; of a set its own names alone, without those of the sets that it needs."""
+        return self._lists.names([word], with_needed=word not in SETS)
 
     def is_in_baseline(self, result: Result, look: Look) -> bool:
         """Whether a baseline of the policy has a mark."""

@@ -5,7 +5,7 @@ from __future__ import annotations
 import datetime
 from collections import Counter
 from dataclasses import dataclass, replace
-from typing import Dict, List, Optional, Sequence, Tuple
+from typing import Dict, Iterable, Iterator, List, Optional, Sequence, Tuple
 
 from ... import __version__
 from ...errors import PicklestepError
@@ -19,12 +19,12 @@ from ..results import Result
 from ..severity import STEPS, rank, worst_of
 from ..wording import count_of, place_of, shown
 
-__all__ = ['About', 'Findings', 'Row']
+__all__ = ['About', 'Findings', 'Row', 'bounded']
 
 # So many marks of a file are kept, and so many letters of a text.
 _MOST_LOOKS, _MOST_LETTERS = 20, 2_000
-# So many marks that a policy takes have a line.
-_MOST_TAKEN = 1_000
+# So many letters the marks of a file have in a report, and those that a policy takes; and of these so many have a line.
+_MOST_OF_MARKS, _MOST_TAKEN = 50_000, 1_000
 # Of so many files, the worst, the source is shown, and of so large a pickle; so much of it; and so long it may take.
 _MOST_SOURCES, _LARGEST, _MOST_SOURCE, _SECONDS, _MEMORY = 50, 1 << 20, 4_000, 10.0, 1 << 29
 
@@ -46,18 +46,25 @@ class Row:
 
 @dataclass(frozen=True)
 class About:
-    """What a report says of the run."""
+    """What a report says of the run. `everywhere` is set where the insides of values and the middle of files were looked at."""
 
     version: str
     made: str
     policy: str = ''
+    everywhere: bool = False
+
+    @property
+    def unseen(self) -> str:
+        """What was not looked at in any file."""
+        return '' if self.everywhere else ('Bytes and texts within pickles, and the middle of files that are no pickles, were not looked at: '
+                                           'picklestep scan --everywhere does that.')
 
     @classmethod
-    def now(cls, policy: str = '') -> 'About':
+    def now(cls, policy: str = '', everywhere: bool = False) -> 'About':
         """That of this run."""
         of = commit()
         made = datetime.datetime.now(datetime.timezone.utc).strftime('%Y-%m-%d %H:%M UTC')
-        return cls(f'{__version__} (commit {of})' if of else __version__, made, policy)
+        return cls(f'{__version__} (commit {of})' if of else __version__, made, policy, everywhere)
 
 
 class Findings:
@@ -120,6 +127,21 @@ class Findings:
         parts = [count_of(self.counts['files'], 'file'), count_of(self.counts['pickles'], 'pickle')]
         parts.extend(f'{found[name]} {name}' for name in STEPS if found[name])
         return ', '.join(parts)
+
+
+def bounded(lines: Iterable[str], count: int) -> Iterator[str]:
+    """The first of so many lines, as many as a report has room for, and how many more there are.
+
+    >>> list(bounded(['a', 'b' * 100_000, 'c'], 3))
+    ['a', '.. 2 lines more']
+    """
+    room = _MOST_OF_MARKS
+    for number, line in enumerate(lines):
+        room -= len(line)
+        if room < 0:
+            yield f'.. {count - number:,} {"line" if count - number == 1 else "lines"} more'
+            return
+        yield line
 
 
 def _row(result: Result, looks: Sequence[Look]) -> Row:

@@ -8,7 +8,7 @@ from typing import Iterator, List
 from ..advice import advice_for, commands_for
 from ..severity import STEPS
 from ..wording import place_of, shown
-from .findings import About, Findings, Row
+from .findings import About, Findings, Row, bounded
 
 __all__ = ['markdown_report']
 
@@ -23,16 +23,17 @@ def markdown_report(findings: Findings, about: About) -> str:
     policy = f'the policy {_code(about.policy)}' if about.policy else 'no policy'
     lines = ['# What the pickles in these files import and call', '', f'{findings.summary()}.', '',
              f'Made by picklestep {about.version} on {about.made}, with {policy}. Nothing of the files was run or loaded. Good files have marks too,',
-             'and a file without a mark may still do harm.', '', *_steps(findings), '']
+             'and a file without a mark may still do harm.', *([about.unseen] if about.unseen else []), '', *_steps(findings), '']
     if marked:
         lines += ['| Severity | File | First mark |', '|---|---|---|', *map(_in_table, marked), '']
     room = _MOST_DETAILS
     for row in marked:
-        details = list(_details(row)) if room > 0 else []
-        room -= sum(map(len, details))
-        lines += details
+        details = list(_details(row)) if room else []
+        size = sum(map(len, details))
+        room = room - size if size <= room else 0
+        lines += details if room else []
     if findings.taken:
-        lines += [f'## Marks that the policy takes: {findings.counts["taken"]}', '', *_block(findings.taken), '']
+        lines += [f'## Marks that the policy takes: {findings.counts["taken"]}', '', *_block(list(bounded(map(shown, findings.taken), len(findings.taken)))), '']
     return '\n'.join(lines).rstrip('\n') + '\n'
 
 
@@ -76,8 +77,8 @@ def _details(row: Row) -> Iterator[str]:
     facts = (('SHA-256', row.digest), ('Size', f'{row.size:,} bytes' if row.size else ''), ('Kind', row.kind))
     yield from (f'- {name}: {_code(value)}' for name, value in facts if value)
     yield from (f'- {advice_for(worst)}', *(f'- {_code(command)} shows more.' for command in commands_for(row.path, worst)), '')
-    lines = [f'{look.severity}: {place_of(row.path, look.where)}: {line}' for look in row.looks for line in look.lines]
-    yield from _block([*lines, *([f'.. {row.more:,} marks more'] if row.more else ())])
+    lines = [f'{look.severity}: {place_of(row.path, look.where)}: {shown(line)}' for look in row.looks for line in look.lines]
+    yield from _block([*bounded(lines, len(lines)), *([f'.. {row.more:,} marks more'] if row.more else ())])
     yield ''
     if row.source:
         yield from ('The pickle as Python source:', '', *_block(row.source.splitlines()), '')

@@ -9,7 +9,7 @@ from ..advice import advice_for, commands_for
 from ..looks import RULES
 from ..severity import STEPS
 from ..wording import place_of, shown
-from .findings import About, Findings, Row
+from .findings import About, Findings, Row, bounded
 
 __all__ = ['html_report']
 
@@ -35,15 +35,17 @@ def html_report(findings: Findings, about: About) -> str:
     room = _MOST_DETAILS
     left: List[Row] = []
     for row in (row for row in rows if row.severity is not None):
-        details = ''.join(_details(row)) if room > 0 else ''
-        room -= len(details)
-        lines.append(details)
-        if not details:
+        details = ''.join(_details(row)) if room else ''
+        room = room - len(details) if len(details) <= room else 0
+        if room:
+            lines.append(details)
+        else:
             left.append(row)
     if left:
         lines += [f'<p>{len(left):,} more have marks. <code>picklestep scan --brief</code> prints them.</p>\n', *_table(left)]
     if findings.taken:
-        lines += [f'<h2>Marks that the policy takes: {findings.counts["taken"]}</h2>\n<pre>', *(f'{_text(line)}\n' for line in findings.taken), '</pre>\n']
+        taken = bounded(map(_text, findings.taken), len(findings.taken))
+        lines += [f'<h2>Marks that the policy takes: {findings.counts["taken"]}</h2>\n<pre>', *(f'{line}\n' for line in taken), '</pre>\n']
     lines += ['<h2>Files without marks</h2>\n', '<p>A file without a mark may still do harm.</p>\n', *_table(row for row in rows if row.severity is None),
               '</body>\n</html>\n']
     return ''.join(lines)
@@ -61,7 +63,7 @@ def _path(path: str) -> str:
 def _about(about: About) -> Iterator[str]:
     yield f'<p>Made by picklestep {_text(about.version)} on {_text(about.made)}'
     yield f', with the policy {_text(about.policy)}' if about.policy else ', without a policy'
-    yield '. Nothing of the files was run or loaded. Good files have marks too.</p>\n'
+    yield f'. Nothing of the files was run or loaded. Good files have marks too. {_text(about.unseen)}</p>\n'
 
 
 def _steps(findings: Findings) -> Iterator[str]:
@@ -83,8 +85,8 @@ def _details(row: Row) -> Iterator[str]:
     if commands:
         yield f'<tr><th>Look further</th><td>{"<br>".join(f"<code>{_text(command)}</code>" for command in commands)}</td></tr>\n'
     yield '</table>\n<pre>'
-    for look in row.looks:
-        yield from (f'{look.severity:8}  {_text(place_of(row.path, look.where))}: {_text(line)}\n' for line in look.lines)
+    shown_lines = (f'{look.severity:8}  {_text(place_of(row.path, look.where))}: {_text(line)}' for look in row.looks for line in look.lines)
+    yield from (f'{line}\n' for line in bounded(shown_lines, sum(len(look.lines) for look in row.looks)))
     if row.more:
         yield f'.. {row.more:,} marks more\n'
     yield '</pre>\n'

@@ -2,9 +2,9 @@
 
 from __future__ import annotations
 
-import pickletools
 from typing import Dict, Iterator, NamedTuple
 
+from ...opcodes import TABLE
 from ...values import unescaped
 from ..blobs import Blob
 from ..walk import length_at
@@ -16,11 +16,10 @@ _WINDOW = 8 << 20
 
 # How many bytes are before the argument of an opcode that holds a text or bytes: its code, and the length.
 _BEFORE: Dict[int, int] = {
-    ord(each.code): 1 if each.arg.n == pickletools.UP_TO_NEWLINE else 1 + int(each.arg.name[-1])
-    for each in pickletools.opcodes if each.arg is not None and each.arg.name.startswith(('string', 'unicodestring', 'bytes', 'bytearray'))
-    and not each.arg.name.startswith('stringnl_')}
+    each.code: 1 if each.argument.endswith('nl') else 1 + int(each.argument[-1])
+    for each in TABLE if each.argument.startswith(('string', 'unicodestring', 'bytes', 'bytearray')) and not each.argument.startswith('stringnl_')}
 _STRING, _UNICODE = ord('S'), ord('V')
-_OF_UTF8 = frozenset(ord(each.code) for each in pickletools.opcodes if each.name.endswith(('BINUNICODE', 'BINUNICODE8')))
+_OF_UTF8 = frozenset(each.code for each in TABLE if each.name.endswith(('BINUNICODE', 'BINUNICODE8')))
 
 
 class Text(NamedTuple):
