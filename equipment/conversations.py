@@ -4,6 +4,7 @@ A conversation on the page is a block of lines, indented or not, that begins wit
 hexadecimal, or with the command that makes `a.pickle` of these (then each command is written as a user types it). After `pickles` they are of several pickles, and every command has the option --many; after `unframed` it has --unframed. Then comes a line of the
 script after `debug> `, then the lines that answer it, and so on. `$ list`, `$ objects`, `$ calls` (with options: `$ calls --first`) or another word comes
 before what that command writes; the list of `$ gate` stands above it, each line after `allow `. A last line `saved` has the bytes that the pickle is saved as. The block ends at an empty line, or at the end of the page.
+A line of a word, the bytes, a colon and the answer is a block of its own.
 
 It is named by the first sentence of the lines above it, so each has to be on its page once; further blocks below that have a number too.
 
@@ -28,6 +29,8 @@ WINDOWS: list[list[str]] = [[], ["--window", "1"], ["--window", "2"]]
 START = re.compile(r" *(pickles?|unframed)((?: [0-9a-f]+)*)")
 # the same as a user types it, and the commands after it
 TYPED = re.compile(r" *(\$) echo '([0-9a-f ]+)' \| xxd -r -p >a\.pickle")
+# the same in one line, where the answer is one line
+ROW = re.compile(r"(form|list|calls|members)((?: [0-9a-f]+)*): (.+)")
 WORD = re.compile(r"\$ (?:picklestep (\w+) a\.pickle(?: --save b\.pickle)?((?: [\w-]+)*)|xxd -p b\.pickle|(.*))")
 OPTIONS: dict[str, list[str]] = {"pickle": [], "pickles": ["--many"], "unframed": ["--unframed"]}
 # the lines with which a command has status 1
@@ -118,7 +121,10 @@ def blocks_of(page: str) -> Iterator[Block]:
     above = Above()
     for line in [*page.splitlines(), ""]:
         start = START.fullmatch(line) or (TYPED.fullmatch(line) if block is None else None)
-        if start is not None:
+        row = ROW.fullmatch(line)
+        if row is not None:
+            yield Block(above.name(), [], bytes.fromhex(row[2]), written={row[1]: [row[3]]})
+        elif start is not None:
             margin = start.start(1)
             block = Block(above.name(), OPTIONS.get(start[1], []), bytes.fromhex(start[2]))
         elif block is None:

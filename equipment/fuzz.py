@@ -35,6 +35,7 @@ from __future__ import annotations
 import argparse
 import ctypes
 import datetime
+import json
 import pathlib
 import pickle
 import pickletools
@@ -46,6 +47,8 @@ import time
 from collections.abc import Callable, Mapping, Sequence
 from random import Random
 from typing import Any, Optional
+
+import json_of_texts
 
 sys.path.insert(0, str(pathlib.Path(__file__).resolve().parents[1] / "python"))
 
@@ -350,14 +353,38 @@ class Library:
         given: list[Any] = [ctypes.c_uint32(sum(option for word, option in self.OPTIONS.items() if word in words))]
         for part in {"calls": (b"", content), "debug": (content, script)}.get(words[0], (content,)):  # (no holes come before what calls reads)
             given += [part, ctypes.c_size_t(len(part))]
-        function, written = getattr(self.library, f"picklestep_{words[0]}_with"), Written()
-        for _ in range(2):
-            answer = function(*given, self.room, ctypes.c_size_t(len(self.room)), ctypes.byref(written)) & 0xFF
+        function = getattr(self.library, f"picklestep_{words[0]}_{'json' if '--json' in words else 'with'}")
+        answered = self.text(function, function, *given)
+        if words[0] == "debug" and self.session(given[0], content, script) != answered:
+            raise Broken(f"a session and a script are answered otherwise: {words}, {script!r}")
+        return answered
+
+    def text(self, function: Any, again: Any, *given: Any) -> tuple[bytes, int]:
+        """What a function answers, which is asked again with more room if it needs that."""
+        written = Written()
+        for ask, arguments in ((function, given), (again, given if again is function else given[:1])):
+            answer = ask(*arguments, self.room, ctypes.c_size_t(len(self.room)), ctypes.byref(written)) & 0xFF
             if answer == 0:
                 return ctypes.string_at(self.room, written.size), written.status
             if answer == 3:
                 self.room = ctypes.create_string_buffer(written.size)
-        raise Broken(f"the library answers {answer} to {words}")
+        raise Broken(f"the library answers {answer}")
+
+    def session(self, options: Any, content: bytes, script: bytes) -> tuple[bytes, int]:
+        """The answers to the lines of a script, asked one after another."""
+        library, handle = self.library, ctypes.byref((ctypes.c_size_t * 2)())
+        if library.picklestep_open(options, ctypes.c_size_t(0), content, ctypes.c_size_t(len(content)), handle) & 0xFF:
+            raise Broken("no session is opened")
+        texts, refused = [], 0
+        for line in script.removesuffix(b"\n").split(b"\n"):
+            if line.split() == [b"quit"]:
+                break
+            text, status = self.text(library.picklestep_ask, library.picklestep_again, handle, line, ctypes.c_size_t(len(line)))
+            texts.append(text)
+            refused |= status
+        if library.picklestep_close(handle) & 0xFF:
+            raise Broken("a session is not closed")
+        return b"".join(texts), refused
 
 
 class Case:
@@ -421,7 +448,16 @@ class Case:
         fault = re.search(r"^fault: (F\d).* at (\d+)$", part, re.M)
         if fault and f"{fault[0]}\n" not in text and not (fault[1] in ("F1", "F3", "F7") and int(fault[2]) <= size):
             raise Broken(f"a beginning of {size} bytes ends in {fault[0]}")
+        self.check_json(text)
         return text
+
+    def check_json(self, listing: str) -> None:
+        lines, status = self.answers(["list", "--json", str(self.file)])
+        found = [list(json.loads(line).items()) for line in lines.splitlines()]
+        if found != [list(fields.items()) for fields in json_of_texts.of_listing(listing)] or not lines.isascii():
+            raise Broken("the lines of JSON say something else than the listing")
+        if status != bool(re.search(r"^(refused|fault): ", listing, re.M)):
+            raise Broken(f"status {status} of lines of JSON")
 
     def check_objects(self, listing: str) -> int:
         report, status = self.answers(["objects", str(self.file)])

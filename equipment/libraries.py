@@ -10,7 +10,7 @@ import re
 import shutil
 import subprocess
 import sys
-from collections.abc import Iterator
+from collections.abc import Iterable, Iterator
 from dataclasses import dataclass, replace
 from pathlib import Path
 from typing import Callable
@@ -36,6 +36,8 @@ TASKS = (
     ("debug", "--many"),
     # (these are asked of the functions with options)
     ("list", "--unframed"),
+    ("list", "--json"),
+    ("list", "--many", "--unframed", "--json"),
     ("objects", "--many", "--unframed"),
     ("calls", "--full"),
     ("calls", "--memo", "kept", "--skip", "3:2", "--skip", "9:40"),
@@ -46,9 +48,8 @@ NO_TASKS = (
     ("list", "--full"),
     ("objects", "--first"),
     ("debug", "--memo", "kept"),
-    ("edited", "list", "--full"),
-    ("edited", "objects", "--first"),
-    ("edited", "calls", "--first", "--memo", "kept"),
+    ("session", "--full"),
+    ("session", "--window", "1000001"),
     ("calls", "--first", "--memo", "kept", "--full"),
     ("calls", "--unframed"),
     ("calls", "--skip", "5:2", "--skip", "6:1"),
@@ -62,11 +63,13 @@ MUSL, MUSL_HEADERS, MUSL_LOADER = Path("/usr/lib/x86_64-linux-musl"), Path("/usr
 ARM_ROOT = Path("/usr/aarch64-linux-gnu")
 # (of these lines some edit each pickle, and some are refused)
 EDITS = b"insert 0 GLOBAL 6f730a6765746377640a\ngoto 1\nstep\ninsert 2 NONE\nundo\nnonsense\ndelete 3\nframe 2 2\nrun\n"
+MODES = ((), ("--many",), ("--unframed",), ("--window", "3"))
 WARNINGS = ("-Wall", "-Wextra", "-Werror")
 OF_STOPS = {1: b"picklestep: out of memory\n", 2: b"picklestep: too large\n", 4: b"no task\n"}
 SEED_OF_LAWS, CASES_OF_LAWS = 2, 400
 LIMITS = (1, 1 << 16, 1 << 20, 4 << 20, 8 << 20)
 LARGE = 300_000  # strings, with which no task has enough
+EXAMPLE_OF_SESSION = b"edited 2\nat 4\nstack #0 #2\n0 #2 tuple (#1)\n1 #1 text 'safe'\n"
 EXAMPLE = b"    0: import 'posix' 'system' as #0\n   23: call 'posix' 'system' ('id') as #3\n1 imports, 1 calls\n"
 
 
@@ -118,59 +121,48 @@ class Libraries(Machines):
         chosen = self.asked_of(sample_of(row for row in rows() if row.words in TASKS))
         return [*(replace(asked, saves=False) for asked in chosen), *self.some]
 
-    def edited(self, every: int) -> tuple[list[Asked], list[Asked]]:
-        """What is asked of the files that the program saves after a script, and the same of what the script leaves: of each real pickle, or of one in so
-        many."""
+    def sessions(self, every: int) -> tuple[list[Asked], list[Answer], list[Asked]]:
+        """Conversations about each real pickle, or about one in so many: what the program is asked, what it saves after each, and what the library is asked
+        for both."""
         folder = self.folder / "saved"
         folder.mkdir(parents=True, exist_ok=True)
-        saved: list[Asked] = []
+        talks: list[Asked] = []
+        saved: list[Answer] = []
         runs: list[Asked] = []
         for file in sorted(self.pickles.glob("*.pickle"))[::every]:
-            for modes in ((), ("--many",), ("--unframed",)):
-                out = folder / f"{len(saved)}_of_{every}.pickle"
+            for modes in MODES:
+                out = folder / "saved.pickle"
                 subprocess.run([self.program, "debug", file, *modes, "--save", out], input=EDITS, capture_output=True, timeout=300, check=False)
-                calls = [task for task in TASKS if task[0] == "calls" and not modes and "--skip" not in task]
-                words = [("list", *modes), ("objects", *modes), *calls]
-                saved += [Asked(task, out) for task in words]
-                runs += [Asked(("edited", *task), file, EDITS) for task in words]
-        return saved, runs
+                talks.append(Asked(("debug", *modes), file, EDITS))
+                saved.append(Answer(0, out.read_bytes(), b""))
+                runs.append(Asked(("session", *modes), file, EDITS))
+        return talks, saved, runs
+
+    def in_files(self, name: str, given: Iterable[tuple[tuple[str, ...], bytes]]) -> list[Asked]:
+        """What is asked of bytes, each in a file of its own."""
+        folder = self.folder / name
+        folder.mkdir(parents=True, exist_ok=True)
+        made = []
+        for number, (words, content) in enumerate(given):
+            made.append(Asked(words, folder / f"{number}.bytes"))
+            made[-1].file.write_bytes(content)
+        return made
 
     @functools.cached_property
     def at_gate(self) -> list[Asked]:
         """The lists and pickles of the trial of the gate."""
-        folder = self.folder / "gate"
-        folder.mkdir(parents=True, exist_ok=True)
-        made = []
-        for number, case in enumerate(CASES):
-            listed, file = folder / f"{number}.list", folder / f"{number}.pickle"
-            listed.write_bytes(case.listed)
-            file.write_bytes(case.pickle)
-            made.append(Asked(("gate", str(listed)), file))
-        return made
+        lists = self.in_files("lists", (((), case.listed) for case in CASES))
+        return self.in_files("gate", ((("gate", str(listed.file)), case.pickle) for listed, case in zip(lists, CASES)))
 
     @functools.cached_property
     def of_reach(self) -> list[Asked]:
         """The bytes of the trial of what is reached."""
-        folder = self.folder / "reach"
-        folder.mkdir(parents=True, exist_ok=True)
-        made = []
-        for number, case in enumerate(REACHES):
-            file = folder / f"{number}.bytes"
-            file.write_bytes(case.given)
-            made.append(Asked(("reach", *case.options), file))
-        return made
+        return self.in_files("reach", ((("reach", *case.options), case.given) for case in REACHES))
 
     @functools.cached_property
     def of_members(self) -> list[Asked]:
         """The bytes of the trial of the members of archives."""
-        folder = self.folder / "members"
-        folder.mkdir(parents=True, exist_ok=True)
-        made = []
-        for number, case in enumerate(MEMBERS):
-            file = folder / f"{number}.bytes"
-            file.write_bytes(case.given)
-            made.append(Asked(("members",), file))
-        return made
+        return self.in_files("members", ((("members",), case.given) for case in MEMBERS))
 
     # --- The ways to link it ---
 
@@ -268,10 +260,15 @@ def compared(libraries: Libraries, way: str, kind: str) -> Noted:
     return libraries.compare_answers(runs, libraries.asked(getattr(libraries, way)(), runs))
 
 
-def of_edits(libraries: Libraries, way: str) -> Noted:
-    """The texts of what a script leaves are those of the bytes that the program saves after it."""
-    saved, runs = libraries.edited(1 if way == WHOLE else 10)
-    return libraries.compare_answers(saved, libraries.asked(getattr(libraries, way)(), runs))
+def of_sessions(libraries: Libraries, way: str) -> "str | Noted":
+    """The lines that are asked one after another of a session that stays open are answered as the program answers a script of them, and its bytes are
+    then those that the program saves."""
+    talks, saved, runs = libraries.sessions(1 if way == WHOLE else 10)
+    command = getattr(libraries, way)()
+    for run, wanted, found in zip(runs, saved, libraries.asked(command, [replace(run, words=("saved", *run.words[1:])) for run in runs]), strict=True):
+        if found != wanted:
+            return f"the bytes of {run.file.name} {' '.join(run.words)}"
+    return libraries.compare_answers(talks, libraries.asked(command, runs))
 
 
 def no_tasks(libraries: Libraries, way: str) -> str:
@@ -316,7 +313,7 @@ def too_large(libraries: Libraries) -> str:
     return "" if found == [Answer(2, b"", OF_STOPS[2])] else str(found)
 
 
-def example(libraries: Libraries, language: str, name: str, build: Callable[[Libraries, Path, Path], None]) -> str:
+def example(libraries: Libraries, language: str, name: str, build: Callable[[Libraries, Path, Path], None], wanted: bytes = EXAMPLE) -> str:
     """An example is compiled, and prints what the page says."""
     folder = libraries.folder / f"example-{name}"
     folder.mkdir(parents=True, exist_ok=True)
@@ -325,7 +322,7 @@ def example(libraries: Libraries, language: str, name: str, build: Callable[[Lib
     build(libraries, source, made)
     command = [libraries.tool("node", "Node 20 or later"), source, libraries.dist / MODULE] if name.endswith(".mjs") else [made]
     found = libraries.call(*command)
-    return "" if found == EXAMPLE else f"it prints {beginning(found)}"
+    return "" if found == wanted else f"it prints {beginning(found)}"
 
 
 def build_c(libraries: Libraries, source: Path, made: Path) -> None:
@@ -365,7 +362,7 @@ ROWS: list[tuple[str, Callable[[Libraries], "str | Noted"]]] = [
     ("the library: the header in C++", in_cxx),
     *((f"the library, {WAYS[WHOLE]}: all {text}", functools.partial(compared, way=WHOLE, kind=kind)) for kind, text in (("real", "real pickles"), ("rows", "rows"))),
     *((f"the library, {name}: the sample", functools.partial(compared, way=way, kind="sample")) for way, name in WAYS.items() if way != WHOLE),
-    *((f"the library, {WAYS[way]}: what edits leave", functools.partial(of_edits, way=way)) for way in (WHOLE, "module")),
+    *((f"the library, {WAYS[way]}: sessions", functools.partial(of_sessions, way=way)) for way in (WHOLE, "musl", "arm", "module")),
     *((f"the library, {WAYS[way]}: lists of the gate", functools.partial(compared, way=way, kind="at_gate")) for way in (WHOLE, "arm", "module")),
     *((f"the library, {WAYS[way]}: what is reached", functools.partial(compared, way=way, kind="of_reach")) for way in (WHOLE, "arm", "module")),
     *((f"the library, {WAYS[way]}: members of archives", functools.partial(compared, way=way, kind="of_members")) for way in (WHOLE, "arm", "module")),
@@ -373,6 +370,7 @@ ROWS: list[tuple[str, Callable[[Libraries], "str | Noted"]]] = [
     ("the library: random pickles and scripts", fuzzed),
     *((f"the library, {WAYS[way]}: out of memory is an answer", functools.partial(limits, way=way)) for way in ("static", "shared", "musl", "arm")),
     ("the library: too large is an answer", too_large),
+    ("the library: the example of a session", functools.partial(example, language="Sessions", name="session.c", build=build_c, wanted=EXAMPLE_OF_SESSION)),
     *(
         (f"the library: the example in {language}", functools.partial(example, language=language, name=name, build=build))
         for language, name, build in (

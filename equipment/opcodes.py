@@ -11,6 +11,7 @@ import functools
 import pickletools
 import re
 import subprocess
+import sys
 from collections.abc import Iterator
 from dataclasses import dataclass
 from pathlib import Path
@@ -18,6 +19,7 @@ from random import Random
 
 import count_calls
 import fuzz
+from picklestep.opcodes import TABLE as TABLE_OF_PACKAGE
 
 from trials.trial import Trial
 
@@ -171,12 +173,16 @@ def fault_of_sets(root: Path) -> str:
     return difference(count_calls.OPAQUE, opaque) or difference(count_calls.FILLS | {"BUILD"}, fills)
 
 
-def fault_of_page(root: Path) -> str:
-    """The page in a browser knows which opcodes make no object."""
-    file = "python/picklestep/view/lines.py"
-    found = next(text for text in texts(root / file) if text.startswith("PROTO "))
+def fault_of_package(root: Path) -> str:
+    """The table of the package is made of the definitions, and says of arguments what pickletools says; an opcode that makes no object has no
+    kind."""
+    made = subprocess.run([sys.executable, "-B", str(root / "tools/make_opcodes.py")], capture_output=True, timeout=60, check=True).stdout
+    if made != (root / "python/picklestep/opcodes.py").read_bytes():
+        return "python3 tools/make_opcodes.py makes another"
+    arguments = {opcode.name: opcode.arg.name if opcode.arg is not None else "" for opcode in pickletools.opcodes}
     wanted = {record.name for record in records(root) if record.kind == "_" and record.row not in MAKERS}
-    return difference(set(found.split()), wanted)
+    return difference({info.name: info.argument for info in TABLE_OF_PACKAGE}, arguments) or difference(
+        {info.name for info in TABLE_OF_PACKAGE if not info.makes}, wanted)
 
 
 def fault_of_fuzzer(root: Path) -> str:
@@ -192,7 +198,7 @@ def trials(root: Path, program: str, folder: Path) -> list[Trial]:
         Trial("each opcode as it is listed and put in, against pickletools", functools.partial(fault_of_program, program, folder)),
         Trial("the rows of the unit tests, for each row, kind and form", functools.partial(fault_of_rows, root)),
         Trial("the opcodes that count_calls.py knows of", functools.partial(fault_of_sets, root)),
-        Trial("the opcodes that make no object, on the page", functools.partial(fault_of_page, root)),
+        Trial("the table of the package", functools.partial(fault_of_package, root)),
         Trial("the arguments that the fuzzer makes", functools.partial(fault_of_fuzzer, root)),
         *(Trial(f"the names of opcodes in {file}", functools.partial(fault_of_names, root, file, others)) for file, others in NAMED.items()),
     ]

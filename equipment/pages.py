@@ -13,7 +13,7 @@ from collections.abc import Iterator
 from dataclasses import dataclass, field
 from pathlib import Path
 
-from trials.trial import Trial
+from trials.trial import Lack, Trial
 
 # A page is as long as its readers need, but who meets the README decides by two screens whether to read on.
 LINES_OF_README = 120
@@ -47,7 +47,6 @@ CHECKLISTS = [
         "To add an opcode",
         r"(?m)^ +BinInt2 +\{|_of op\.BinInt2\b|'BININT2': (\('|')",
         ["crates/*/src/**/*.rt", "crates/*/specs/**/*.antt", "bench/*", *OUTSIDE, *PACKAGE],
-        {"python/picklestep/shell/explain.py": "of opcodes that pickletools has"},
     ),
     Checklist(
         "To add a number that picklers write",
@@ -56,7 +55,7 @@ CHECKLISTS = [
         {
             "python/picklestep/arguments.py": "an example",
             "python/picklestep/session.py": "an example",
-            "python/picklestep/shell/explain.py": "of any opcode",
+            "python/picklestep/opcodes.py": "made of the definitions",
         },
     ),
     Checklist(
@@ -167,11 +166,11 @@ QUESTIONS = Path("equipment/questions.txt")
 
 
 def fault_of_questions(root: Path) -> str:
-    """There are twenty, and each names a heading that is there."""
+    """There are thirty, and each names a heading that is there."""
     text = "".join(line for line in (root / QUESTIONS).read_text(encoding="utf-8").splitlines(keepends=True) if not line.startswith("#")).lstrip()
-    found = list(re.finditer(r"^(\d+)\. \S.*\n   (\S+\.md)(?:#(\S+))?\n", text, flags=re.M))
-    if "".join(match[0] for match in found) != text or [match[1] for match in found] != [str(number) for number in range(1, 21)]:
-        return "they are not numbered from 1 to 20, each with a page"
+    found = list(re.finditer(r"^(\d+)\. \S.*\? (\S+\.md)(?:#(\S+))?\n", text, flags=re.M))
+    if "".join(match[0] for match in found) != text or [match[1] for match in found] != [str(number) for number in range(1, 31)]:
+        return "they are not numbered from 1 to 30, each with a page"
     faults = []
     for match in found:
         page = root / match[2]
@@ -282,13 +281,13 @@ def fault_of_drawings(root: Path, program: str, folder: Path) -> str:
     if done.returncode != 0:
         return done.stderr.strip()[-200:]
     names = sorted({file.name for file in [*made.iterdir(), *(root / DRAWINGS).iterdir()]})
-    shown = "".join(page.read_text(encoding="utf-8") for page in (root / "docs").glob("*.md"))
+    shown = "".join(page.read_text(encoding="utf-8") for page in (root / "docs").rglob("*.md"))
     faults = []
     for name in names:
         files = [made / name, root / DRAWINGS / name]
         if not all(file.is_file() for file in files) or files[0].read_bytes() != files[1].read_bytes():
             faults.append(f"{name} is not what tools/make_drawings.py makes")
-        if f"({DRAWINGS.name}/{name})" not in shown:
+        if f"{DRAWINGS.name}/{name})" not in shown:
             faults.append(f"no page shows {name}")
     return "; ".join(faults)
 
@@ -484,6 +483,15 @@ def fault_of_picture(root: Path) -> str:
     return f"there is no crate {', '.join(missing)}" if missing else ""
 
 
+def fault_of_site(root: Path, folder: Path) -> str:
+    """The pages make a site, in which each link leads somewhere."""
+    if shutil.which("mkdocs") is None:
+        raise Lack("mkdocs is not installed")
+    words = [sys.executable, "-B", str(root / "tools" / "make_site.py"), str(folder / "site")]
+    done = subprocess.run(words, capture_output=True, text=True, timeout=300)
+    return "" if done.returncode == 0 else (done.stdout + done.stderr).strip()[-300:]
+
+
 def fault_of_index(root: Path) -> str:
     """Each file of definitions has a head."""
     index = subprocess.run([sys.executable, str(root / "tools" / "definitions.py")], capture_output=True, text=True, timeout=60)
@@ -500,7 +508,8 @@ def trials(root: Path, program: str, folder: Path) -> list[Trial]:
     for example in itertools.chain.from_iterable(examples(text_of(root / page)) for page in PAGES_OF_CODES):
         name = f"the example of {example.code}, {' '.join([example.pickle, *example.commands])}"
         found.append(Trial(name, functools.partial(fault_of_example, program, example, folder / "code.pickle")))
-    found.append(Trial("the pages that answer the twenty questions", functools.partial(fault_of_questions, root)))
+    found.append(Trial("the pages that answer the thirty questions", functools.partial(fault_of_questions, root)))
+    found.append(Trial("the site", functools.partial(fault_of_site, root, folder)))
     found.append(Trial("the drawings", functools.partial(fault_of_drawings, root, program, folder)))
     for name, checklists in (("docs/DESIGN.md", CHECKLISTS), ("python/CONTRIBUTING.md", CHECKLISTS_OF_PACKAGE)):
         page = (root / name).read_text(encoding="utf-8")

@@ -736,7 +736,7 @@ def completions(releases: Releases) -> str:
         (["help", "sc"], ["scan"]),
         (["ob"], ["objects"]),
         (["one"], ["one.pickle"]),
-        (["list", "--"], ["--help", "--many", "--unframed"]),
+        (["list", "--"], ["--help", "--json", "--many", "--unframed"]),
         (["calls", "--m"], ["--memo"]),
         (["calls", "--f"], ["--first", "--full"]),
         (["debug", "--"], ["--help", "--many", "--save", "--unframed", "--window"]),

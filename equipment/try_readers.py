@@ -46,8 +46,8 @@ LINES = 400
 Acts = Sequence[Sequence[Any]]
 # What a loader has to be given for an act to be its first one.
 GIVEN = {"persistent": ("--persistent-ids",), "buffer": ("--buffers",), "extension": ("--extensions",)}
-# No module has such a sign in its name. (A loader that imports from one raises, and what it did then is not asked.)
-NO_MODULE = re.compile(r"""[\0-\x20\x7f"&'()*,/:-?\[\\\]{|}]""")
+# No module has such a sign in its name. (A loader that imports from one raises, if no point stands before that.)
+NO_MODULE = re.compile(r"""[^.]*[\0-\x20\x7f"&'()*,:-?\[\]{|}]""")
 # So many cases in a hundred begin with an act, at least, and so many reach nothing.
 BEGUN, QUIET = 30, 15
 
@@ -174,7 +174,7 @@ def _given(acts: Acts) -> list[tuple[str, ...]]:
         return []
     what, _, *rest = acts[0]
     if what == "import" and rest[0] != "extension":
-        return [()] if rest[0] and not NO_MODULE.search(rest[0]) else []
+        return [()] if rest[0] and not NO_MODULE.match(rest[0]) else []
     return [GIVEN.get("extension" if what == "import" else what, ())]
 
 

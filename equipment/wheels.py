@@ -156,7 +156,7 @@ def by_tags(wheels: Wheels, machine: str) -> str:
     wheel = wheels.wheel(f"linux-{machine}", wheels.sources)
     for platform in (f"manylinux_2_17_{machine}", f"musllinux_1_1_{machine}"):
         to = wheels.folder / platform
-        words = ("--target", to, "--platform", platform, "--only-binary=:all:", "--python-version", "3.9")
+        words = ("--target", to, "--platform", platform, "--only-binary=:all:", "--python-version", "3.8")
         wheels.call(wheels.python, "-m", "pip", "--disable-pip-version-check", "-q", "install", "--no-index", "--no-deps", *words, wheel)
         file = wheels.folder / "none.pickle"
         file.write_bytes(b"N.")

@@ -166,7 +166,7 @@ def pandas_values() -> Iterator[Any]:
 def scipy_values() -> Iterator[Any]:
     """What scipy has besides."""
     import numpy
-    from scipy import interpolate, optimize, sparse, spatial
+    from scipy import interpolate, optimize, sparse
     x = numpy.linspace(0, 1, 8)
     for form, kind in itertools.product(('csr', 'csc', 'coo', 'bsr', 'dia', 'lil', 'dok'), ('matrix', 'array')):
         yield getattr(sparse, f'{form}_{kind}')(numpy.eye(3))
@@ -174,7 +174,7 @@ def scipy_values() -> Iterator[Any]:
     yield [interpolate.Akima1DInterpolator(x, x), interpolate.CubicHermiteSpline(x, x, x), interpolate.PPoly([[1.0]], [0, 1]), interpolate.BPoly([[1.0]], [0, 1])]
     yield [interpolate.UnivariateSpline(x, x), interpolate.InterpolatedUnivariateSpline(x, x), interpolate.LSQUnivariateSpline(x, x, [0.5])]
     yield [interpolate.RectBivariateSpline(x, x, grid), interpolate.RegularGridInterpolator((x, x), grid), interpolate.RBFInterpolator(x[:, None], x)]
-    yield [interpolate.BarycentricInterpolator(x, x), interpolate.KroghInterpolator(x, x), spatial.KDTree(grid), interpolate.interp1d(x, x, 'cubic')]
+    yield [interpolate.BarycentricInterpolator(x, x), interpolate.KroghInterpolator(x, x), interpolate.interp1d(x, x, 'cubic')]
     yield [interpolate.NdPPoly(numpy.ones((1, 1, 1, 1)), ([0, 1], [0, 1])), optimize.minimize(lambda a: float(a @ a), [1.0], method='L-BFGS-B').get('hess_inv')]
 
 

@@ -1,4 +1,4 @@
-"""Makes the drawings of docs/PICKLES.md and docs/PROMISE.md: what the program answers about one pickle, step by step.
+"""Makes the drawings of docs/PICKLES.md, docs/PROMISE.md, docs/start and docs/why: what the program answers about small pickles, step by step.
 
     python3 tools/make_drawings.py [FOLDER]
 
@@ -20,9 +20,14 @@ import picklestep  # noqa: E402
 from picklestep import Object, Session  # noqa: E402
 
 # pickletools.optimize(pickle.dumps([day, day], 4)), where day is datetime.timedelta(days=1)
-PICKLE = bytes.fromhex('80049525000000000000005d288c086461746574696d658c0974696d6564656c7461934b014b004b008752946800652e')
+DAYS = bytes.fromhex('80049525000000000000005d288c086461746574696d658c0974696d6564656c7461934b014b004b008752946800652e')
 # The places up to which each drawing has run.
-PLACES = (4, 6, 7, 11, 12, 14, 15)
+DAYS_PLACES = (4, 6, 7, 11, 12, 14, 15)
+# The same of types.SimpleNamespace(name='ana'), whose friend is itself.
+ANA = bytes.fromhex('80049536000000000000008c0574797065738c0f53696d706c654e616d657370616365932952947d288c046e616d658c03616e618c06667269656e64680075622e')
+ANA_PLACES = (4, 5, 8, 10, 14, 15, 16)
+# What a drawing leaves out of long names.
+MODULES = ('datetime.', 'types.')
 
 INK, FAINT, LINE, GROUND = '#1a1d2b', '#6a7081', '#b9bfcc', '#ffffff'
 PLAIN, IMPORT, CALL, OBJECT = '#dbe9fb', '#fdeecb', '#fddcd8', '#f3f5f9'
@@ -61,33 +66,34 @@ class Drawing:
         return head + '\n'.join(self.parts) + '\n</svg>\n'
 
 
-def in_words(objects: Sequence[Object], number: int) -> str:
-    """An object as Python would show it; what holds others, by their numbers where these are made by calls."""
+def in_words(objects: Sequence[Object], number: int, within: bool = False) -> str:
+    """An object as Python would show it; what stands in another one, by its number where it was made by a call or holds others."""
     found = objects[number]
-    parts = [in_words(objects, part) for part in found.parts]
+    if within and found.kind in ('call', 'list', 'dict'):
+        return f'#{number}'
+    parts = [in_words(objects, part, True) for part in found.parts]
+    changes = [(change, in_words(objects, change.value, True)) for change in found.changes]
     if found.kind == 'list':
-        return '[' + ', '.join(f'#{change.value}' for change in found.changes) + ']'
+        return '[' + ', '.join(value for _, value in changes) + ']'
+    if found.kind == 'dict':
+        return '{' + ', '.join(f'{in_words(objects, change.key, True)}: {value}' for change, value in changes if change.key is not None) + '}'
     if found.kind == 'text' and isinstance(found.text, bytes):
         return repr(found.text.decode())
     if found.kind == 'stack-global':
-        return '.'.join(part.strip("'") for part in parts)
+        name = '.'.join(part.strip("'") for part in parts)
+        return next((name[len(module):] for module in MODULES if name.startswith(module)), name)
     if found.kind == 'tuple':
         return '(' + ', '.join(parts) + ')'
     if found.kind == 'call':
-        return ''.join(parts)
+        return ''.join(parts) + ''.join(f' with {value}' for change, value in changes if change.how == 'state')
     return str(found.text)
 
 
-def colours() -> Dict[int, str]:
-    """The colour of each opcode that imports or calls, by its offset."""
-    return {reach.offset: IMPORT if reach.what == 'import' else CALL for reach in picklestep.calls(PICKLE)}
-
-
-def draw_opcodes(drawing: Drawing, place: int, before: int) -> None:
+def draw_opcodes(drawing: Drawing, content: bytes, place: int, before: int) -> None:
     """The listing: what ran since the last drawing has a colour, and what did not run yet is faint."""
-    known = colours()
+    known = {reach.offset: IMPORT if reach.what == 'import' else CALL for reach in picklestep.calls(content)}
     drawing.text(20, 30, 'Opcodes', font=SANS, weight='bold')
-    for number, opcode in enumerate(picklestep.listing(PICKLE)):
+    for number, opcode in enumerate(picklestep.listing(content)):
         y = 52 + 18 * number
         if before <= number < place:
             drawing.box(14, y - 14, 356, 18, known.get(opcode.offset, PLAIN), stroke='none')
@@ -95,28 +101,27 @@ def draw_opcodes(drawing: Drawing, place: int, before: int) -> None:
         ink = INK if number < place else FAINT
         drawing.text(58, y, str(opcode.offset), ink, anchor='end')
         drawing.text(72, y, '  ' * opcode.marks + opcode.name, ink)
-        drawing.text(256, y, argument, ink)
+        drawing.text(248, y, argument, ink, size=13 if len(argument) < 15 else 12)
         if number == place:
             drawing.text(16, y, '\u25b6', INK, size=11)
 
 
-def draw_stack(drawing: Drawing, session: Session, floor: int) -> None:
+def draw_stack(drawing: Drawing, session: Session, left: int, width: int, floor: int) -> None:
     """The stack, whose bottom is below."""
     objects = list(session.objects())
-    drawing.text(396, 30, 'Stack', font=SANS, weight='bold')
-    drawing.line(390, floor, 640, floor)
+    drawing.line(left, floor, left + width, floor)
     y = floor
     for entry in session.stack():
         if isinstance(entry, picklestep.Mark):
             y -= 20
-            drawing.line(390, y + 8, 600, y + 8, dashes='6 4')
-            drawing.text(606, y + 12, 'mark', FAINT, SANS)
+            drawing.line(left, y + 8, left + width - 40, y + 8, dashes='6 4')
+            drawing.text(left + width - 34, y + 12, 'mark', FAINT, SANS)
             continue
         y -= 30
-        drawing.box(396, y + 2, 238, 26, OBJECT)
-        drawing.text(406, y + 19, f'#{entry.number}', FAINT, size=12)
+        drawing.box(left + 6, y + 2, width - 12, 26, OBJECT)
+        drawing.text(left + 16, y + 19, f'#{entry.number}', FAINT, size=12)
         words = in_words(objects, entry.number)
-        drawing.text(436, y + 19, words.replace('datetime.timedelta(', 'timedelta('), size=12)
+        drawing.text(left + 42, y + 19, words, size=12 if len(words) < 27 else 10)
 
 
 def draw_memo(drawing: Drawing, session: Session) -> None:
@@ -126,19 +131,74 @@ def draw_memo(drawing: Drawing, session: Session) -> None:
         drawing.text(676, 57 + 32 * row, f'{key} = #{number}', size=12)
 
 
-def steps() -> List[Drawing]:
+def steps(content: bytes, places: Sequence[int]) -> List[Drawing]:
     """The drawings of one pickle: how it stands after the opcodes before each place."""
     drawings, before = [], 0
-    with Session(PICKLE) as session:
-        for place in PLACES:
+    count = len(picklestep.listing(content))
+    height = 62 + 18 * count
+    with Session(content) as session:
+        for place in places:
             session.goto(place)
-            drawing = Drawing(810, 350, f'The opcodes, the stack and the memo after opcode {place} of {len(picklestep.listing(PICKLE))}')
-            draw_opcodes(drawing, place, before)
-            draw_stack(drawing, session, 330)
+            drawing = Drawing(810, height, f'The opcodes, the stack and the memo after opcode {place} of {count}')
+            draw_opcodes(drawing, content, place, before)
+            drawing.text(396, 30, 'Stack', font=SANS, weight='bold')
+            draw_stack(drawing, session, 390, 250, height - 20)
             draw_memo(drawing, session)
             drawings.append(drawing)
             before = place
     return drawings
+
+
+def panels(content: bytes, title: str) -> Drawing:
+    """The stack after each opcode of a short pickle but STOP, side by side, and the memo below it."""
+    opcodes = list(picklestep.listing(content))[:-1]
+    width = 780 // len(opcodes)
+    with Session(content) as session:
+        session.goto(len(opcodes))
+        has_memo = bool(session.memo())
+        drawing = Drawing(810, 200 if has_memo else 170, title)
+        for number, opcode in enumerate(opcodes):
+            session.goto(number + 1)
+            left = 20 + width * number
+            argument = '' if opcode.argument is None else f' {opcode.argument}'
+            drawing.text(left + 4, 28, opcode.name + argument, weight='bold')
+            draw_stack(drawing, session, left, width - 18, 155)
+            words = ', '.join(f'{key} = #{held}' for key, held in session.memo().items())
+            if has_memo:
+                drawing.text(left + 4, 182, f'Memo: {words or "empty"}', FAINT if not words else INK, SANS, 12)
+    return drawing
+
+
+def bytes_of_opcodes() -> Drawing:
+    """The first opcodes of a pickle, byte by byte."""
+    opcodes = list(picklestep.listing(ANA))[:8]
+    drawing = Drawing(810, 64 + 30 * (len(opcodes) - 1), 'Each row is an opcode: its byte, and the bytes of its argument')
+    drawing.text(20, 26, 'Offset', FAINT, SANS, 12)
+    drawing.text(80, 26, 'Opcode and argument, in hexadecimal', FAINT, SANS, 12)
+    drawing.text(560, 26, 'What they mean', FAINT, SANS, 12)
+    for number, opcode in enumerate(opcodes[:-1]):
+        y = 36 + 30 * number
+        drawing.text(58, y + 17, str(opcode.offset), FAINT, anchor='end')
+        for place, byte in enumerate(ANA[opcode.offset:opcodes[number + 1].offset]):
+            drawing.box(76 + 27 * place, y, 25, 24, PLAIN if place == 0 else OBJECT)
+            drawing.text(88.5 + 27 * place, y + 17, f'{byte:02x}', size=12, anchor='middle')
+        argument = '' if opcode.argument is None else repr(opcode.argument.decode()) if isinstance(opcode.argument, bytes) else str(opcode.argument)
+        drawing.text(560, y + 17, f'{opcode.name} {argument}', size=12 if len(argument) < 12 else 11)
+    return drawing
+
+
+def frames() -> Drawing:
+    """A frame: a length, and the bytes that belong to it."""
+    drawing = Drawing(810, 150, 'A frame says how many bytes follow that belong together')
+    size = next(opcode.argument for opcode in picklestep.listing(ANA) if opcode.name == 'FRAME')
+    labelled(drawing, (20, 30, 110, 50), PLAIN, 'PROTO 4', '2 bytes')
+    labelled(drawing, (134, 30, 150, 50), IMPORT, f'FRAME {size}', '9 bytes')
+    labelled(drawing, (288, 30, 502, 50), OBJECT, 'the opcodes of the frame', f'{size} bytes, up to STOP')
+    drawing.line(288, 96, 790, 96)
+    drawing.line(288, 88, 288, 104)
+    drawing.line(790, 88, 790, 104)
+    drawing.text(539, 124, f'a reader fetches these {size} bytes from the file at once', FAINT, SANS, 12, 'middle')
+    return drawing
 
 
 def labelled(drawing: Drawing, place: Tuple[int, int, int, int], fill: str, *words: str) -> None:
@@ -199,7 +259,12 @@ def main(words: Sequence[str]) -> int:
     """Writes all drawings into a folder."""
     folder = Path(words[0]) if words else ROOT / 'docs' / 'drawings'
     folder.mkdir(parents=True, exist_ok=True)
-    drawings = {'machine': machine(), 'trust': trust(), **{f'step_{number}': each for number, each in enumerate(steps(), 1)}}
+    drawings = {'machine': machine(), 'trust': trust(), 'bytes': bytes_of_opcodes(), 'frames': frames()}
+    drawings['stack'] = panels(b'K\x01K\x02\x86.', 'The stack after each of three opcodes')
+    drawings['marks'] = panels(b'](K\x01K\x02e.', 'The stack with a mark, after each of five opcodes')
+    drawings['memo'] = panels(b']\x94h\x00a.', 'The stack and the memo after each of four opcodes')
+    for name, content, places in ('step', DAYS, DAYS_PLACES), ('ana', ANA, ANA_PLACES):
+        drawings.update({f'{name}_{number}': each for number, each in enumerate(steps(content, places), 1)})
     for name, drawing in drawings.items():
         (folder / f'{name}.svg').write_text(drawing.svg(), encoding='utf-8')
     return 0

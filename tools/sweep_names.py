@@ -3,7 +3,7 @@
 
     python3 tools/sweep_names.py [MODULE..]       # without a name: the standard library, and LIBRARIES as far as they are installed
 
-Run it by hand with each Python from 3.9 on (`~/.pyenv/versions/*/bin/python`) and with the system's, which has the libraries, and read
+Run it by hand with each Python from 3.8 on (`~/.pyenv/versions/*/bin/python`) and with the system's, which has the libraries, and read
 what it prints: a name that a pickle can make use of gets a line in python/picklestep/scan/known.txt. It imports the modules with all
 their parts, so run it where that does no harm. A module in C has no source to read: of it the tool sees only what it shares with another.
 

@@ -15,9 +15,12 @@ from .trial import Trial
 
 COMMAND = "    $ "
 MARGIN = "    "
-COMMANDS = ("README.md", "docs/PICKLES.md", "docs/PROMISE.md", "docs/LOOK.md", "docs/LOADERS.md", "docs/ARCHIVES.md", "docs/howto/*.md")
+COMMANDS = ("README.md", "docs/PICKLES.md", "docs/PROMISE.md", "docs/LOOK.md", "docs/LOADERS.md", "docs/ARCHIVES.md", "docs/JSON.md", "docs/howto/*.md")
 PAGES = ("docs/USING.md", "docs/DEBUG.md", "equipment/conversations.txt", "equipment/texts.txt", "equipment/calls.txt")
-BLOCK = re.compile(r"^ *(?:(?:pickles?|unframed)(?: [0-9a-f ]+)?|\$ echo '[0-9a-f ]+' \| xxd -r -p >a\.pickle)$", re.MULTILINE)
+BLOCK = re.compile(r"^ *(?:(?:pickles?|unframed)(?: [0-9a-f ]+)?|(?:form|list|calls|members)(?: [0-9a-f ]+)?: .+|\$ echo '[0-9a-f ]+' \| xxd -r -p >a\.pickle)$", re.MULTILINE)
+# Pages whose commands may be typed at the prompt of the shell too.
+TYPED = ("docs/FAQ.md", "docs/start/*.md", "docs/why/*.md", "docs/reference/*.md")
+PROMPT = "(pickle) "
 
 
 def examples_of(page: str) -> Iterator[tuple[str, str]]:
@@ -31,6 +34,13 @@ def examples_of(page: str) -> Iterator[tuple[str, str]]:
             command, wanted = line[len(COMMAND) :], ""
         elif command:
             wanted += line[len(MARGIN) :] + "\n"
+
+
+def typed(command: str, shown: str) -> tuple[str, str]:
+    """A command that reads what is typed, where lines at its prompt are shown, and what it then writes."""
+    lines = [line.removeprefix(PROMPT) for line in shown.splitlines(keepends=True) if line.startswith(PROMPT)]
+    wanted = "".join(line for line in shown.splitlines(keepends=True) if not line.startswith(PROMPT))
+    return (f"{command} <<'END'\n{''.join(lines)}END", wanted) if lines else (command, shown)
 
 
 @dataclass
@@ -59,7 +69,7 @@ class Commands:
         while self.done < number:
             self.fault(self.done)
         self.done = number + 1
-        command, wanted = self.examples[number]
+        command, wanted = typed(*self.examples[number])
         sources, binary = self.room.root / "python", self.room.program
         settings = [f"PYTHONPATH={sources}", f"PICKLESTEP_PROGRAM={binary}", "PYTHONDONTWRITEBYTECODE=1"]
         # (an answer that has something to look at has status 1)
@@ -69,7 +79,7 @@ class Commands:
 
 def of_commands(room: Room) -> list[Trial]:
     trials = []
-    pages = [str(page.relative_to(room.root)) for pattern in COMMANDS for page in sorted(room.root.glob(pattern))]
+    pages = [str(page.relative_to(room.root)) for pattern in (*COMMANDS, *TYPED) for page in sorted(room.root.glob(pattern))]
     for page in pages:
         commands = Commands(room, page)
         trials += [Trial(f"the example '{command}' of {page}", functools.partial(commands.fault, number))

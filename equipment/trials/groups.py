@@ -31,7 +31,7 @@ import try_others
 import try_readers
 import wheels
 
-from . import begins, examples, forms, gate, large, listings, members, memory, options, program, reach, usage
+from . import begins, examples, forms, gate, json_lines, large, listings, members, memory, options, program, reach, usage
 from .room import Room, Word
 from .trial import Group, Noted, Trial, Verdict
 
@@ -116,6 +116,7 @@ def of_pickles(room: Room) -> list[AnyGroup]:
     inputs = several.Inputs(str(room.program), room.folder / "several")
     return [
         group("listings", listings.trials, room),
+        group("json", json_lines.trials, room),
         group("lines", line_trials, room),
         Group("calls", functools.partial(count_calls.trials, counts, room.pickles), counts.closing),
         group("there-and-back", listings.there_and_back, room),

@@ -14,7 +14,7 @@ from dataclasses import dataclass, field
 from pathlib import Path
 
 from .room import Room, Run, Word, beginning
-from .samples import HOSTILE_CALLS, MEMBERS, NOT_ALLOWED, PAIR_LISTING, PAIR_OBJECTS, REACHED, SEVERAL, TWICE_OBJECTS
+from .samples import HOSTILE_CALLS, MEMBERS, NOT_ALLOWED, PAIR_JSON, PAIR_LISTING, PAIR_OBJECTS, REACHED, SEVERAL, TWICE_OBJECTS
 from .trial import Noted, Trial
 
 LIBRARY = "refuse_memory"
@@ -52,6 +52,7 @@ class Command:
 PAIR = Command("listing a pair", ("list", "pair.pickle"), PAIR_LISTING, is_part)
 COMMANDS = (
     PAIR,
+    Command("JSON of a pair", ("list", "--json", "pair.pickle"), PAIR_JSON, is_part),
     Command("the objects of a pair", ("objects", "pair.pickle"), PAIR_OBJECTS, is_nothing),
     Command("the calls of a pickle", ("calls", "hostile.pickle"), HOSTILE_CALLS, is_part),
     Command("the objects of two pickles", ("objects", "--many", "twice.pickle"), TWICE_OBJECTS, is_nothing),

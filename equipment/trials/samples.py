@@ -16,6 +16,14 @@ PAIR_LISTING = """\
     7: .    STOP
 highest protocol among opcodes = 2
 """
+PAIR_JSON = """\
+{"kind":"opcode","offset":0,"opcode":"BININT1","argument":1,"marks":0}
+{"kind":"opcode","offset":2,"opcode":"BININT1","argument":2,"marks":0}
+{"kind":"opcode","offset":4,"opcode":"TUPLE2","marks":0}
+{"kind":"opcode","offset":5,"opcode":"BINPUT","argument":0,"marks":0}
+{"kind":"opcode","offset":7,"opcode":"STOP","marks":0}
+{"kind":"end","how":"stopped","kept":0,"protocol":2}
+"""
 PAIR_OBJECTS = "#0 int 1\n#1 int 2\n#2 tuple (#0 #1)\nresult #2\n"
 DOUBLED = b"K\x012\x86."
 TWICE_OBJECTS = "#0 int 1\n#1 tuple (#0 #0)\n#2 int 1\n#3 tuple (#2 #2)\nresult #1\nresult #3\n"

@@ -67,6 +67,7 @@ WORDS = (
     repeated("buffers given twice", "--buffers", "reach", "pair.pickle", "--buffers", "--buffers"),
     unexpected("an unframed form", "--unframed", "form <FILE>", "form", "pair.pickle", "--unframed"),
     repeated("an option given twice", "--many", "list", "pair.pickle", "--many", "--many"),
+    repeated("JSON asked for twice", "--json", "list", "pair.pickle", "--json", "--json"),
     fails("a word that is not text", "cannot read", "list", b"\xff"),
     fails("a word that is not text after others", "cannot read", "debug", "pair.pickle", "--save", b"a\xff"),
 )
@@ -125,7 +126,7 @@ REACH_DOES = ("reach", "Says whether any loader of FILE comes to an import or a 
 MEMBERS_DOES = ("members", "Prints the members of FILE, if it is a zip archive in the form that writers write, else where it is not and why")
 GATE_FILES = (("<LIST>", "the list of names, and of what may be done with each"), ("<FILE>...", "a pickle or a zip archive, or several"))
 OPTIONS = {
-    "list": (("    --many", MANY_HELP), ("    --unframed", UNFRAMED_HELP)),
+    "list": (("    --many", MANY_HELP), ("    --unframed", UNFRAMED_HELP), ("    --json", "print JSON Lines, for programs: an object in each line")),
     "objects": (("    --many", MANY_HELP), ("    --unframed", UNFRAMED_HELP)),
     "form": (("    --many", "changes nothing: FILE is to be one pickle"),),
     "reach": (
