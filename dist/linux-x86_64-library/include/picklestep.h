@@ -2,8 +2,8 @@
  *
  * Each function reads an input of `length` bytes and puts a text at the start of `out`, which has `room` bytes. The text is, byte for byte,
  * what the program prints for the same task; the proofs of the program hold for it, up to the bytes in `out`. A text is ASCII, and no NUL
- * byte ends it. Nothing else is read or written, nothing but each thread's limit of memory is kept between calls, and threads may call at
- * once.
+ * byte ends it. Nothing else is read or written, nothing but sessions and each thread's limit of memory is kept between calls, and threads may
+ * call at once.
  *
  * No pointer may be NULL, also where a length is 0, and `out` and `written` may not overlap each other or what is read. Nobody may change what
  * is read during a call. The proofs take these for granted.
@@ -25,8 +25,9 @@ enum {
     PICKLESTEP_OUT_OF_MEMORY = 1, /* memory ran out, or the limit of the thread was met */
     PICKLESTEP_TOO_LARGE = 2,     /* the input has more than 1,073,741,824 bytes */
     PICKLESTEP_NO_ROOM = 3,       /* the text has no room in `out`: its size is told, so that one can ask again with that much room */
-    PICKLESTEP_NO_TASK = 4        /* the options are not those of the function, or do not go together, or a hole begins before the end of the one
-                                     before it, or ends behind 2^62 */
+    PICKLESTEP_NO_TASK = 4,       /* the options are not those of the function, or do not go together, or a hole begins before the end of the one
+                                     before it, or ends behind 2^62; or a session was to be asked where none is open, or opened where one is */
+    PICKLESTEP_LOST = 5           /* a session obeyed or refused the line, and memory ran out for its text */
 };
 
 /* What is told of a text, where the answer is PICKLESTEP_DONE or PICKLESTEP_NO_ROOM. */
@@ -81,20 +82,6 @@ uint8_t picklestep_members(const uint8_t *bytes, size_t length, uint8_t *out, si
 uint8_t picklestep_debug(bool many, const uint8_t *bytes, size_t length, const uint8_t *script, size_t script_length, uint8_t *out, size_t room,
                          picklestep_written *written);
 
-/* The texts of a pickle as the lines of a script leave it, in a conversation about it or with `many` about several: what the functions above answer
- * of the bytes that `picklestep debug FILE [--many] --save OUT` saves then. Nothing is saved, and the answers to the lines are not told: where memory
- * runs out for one of them, PICKLESTEP_OUT_OF_MEMORY is answered. */
-uint8_t picklestep_edited_list(bool many, const uint8_t *bytes, size_t length, const uint8_t *script, size_t script_length, uint8_t *out, size_t room,
-                               picklestep_written *written);
-uint8_t picklestep_edited_objects(bool many, const uint8_t *bytes, size_t length, const uint8_t *script, size_t script_length, uint8_t *out,
-                                  size_t room, picklestep_written *written);
-uint8_t picklestep_edited_calls(bool many, const uint8_t *bytes, size_t length, const uint8_t *script, size_t script_length, uint8_t *out,
-                                size_t room, picklestep_written *written);
-uint8_t picklestep_edited_calls_first(bool many, const uint8_t *bytes, size_t length, const uint8_t *script, size_t script_length, uint8_t *out,
-                                      size_t room, picklestep_written *written);
-uint8_t picklestep_edited_calls_one_memo(bool many, const uint8_t *bytes, size_t length, const uint8_t *script, size_t script_length,
-                                         uint8_t *out, size_t room, picklestep_written *written);
-
 /* The options of the functions below, whose sum is given: those of the program. */
 enum {
     PICKLESTEP_MANY = 1,      /* --many */
@@ -113,20 +100,42 @@ typedef struct {
 /* The same texts as above, with options. `holes` are `count` of them, in order, none of which overlaps another (`count` may be 0): what is left is
  * read, with the offsets of the input. With holes the input is copied. */
 uint8_t picklestep_list_with(uint32_t options, const uint8_t *bytes, size_t length, uint8_t *out, size_t room, picklestep_written *written);
+/* The listing as JSON Lines (`picklestep list --json FILE`), with PICKLESTEP_MANY and PICKLESTEP_UNFRAMED as options. */
+uint8_t picklestep_list_json(uint32_t options, const uint8_t *bytes, size_t length, uint8_t *out, size_t room, picklestep_written *written);
 uint8_t picklestep_objects_with(uint32_t options, const uint8_t *bytes, size_t length, uint8_t *out, size_t room, picklestep_written *written);
 uint8_t picklestep_calls_with(uint32_t options, const picklestep_hole *holes, size_t count, const uint8_t *bytes, size_t length, uint8_t *out,
                               size_t room, picklestep_written *written);
 uint8_t picklestep_debug_with(uint32_t options, const uint8_t *bytes, size_t length, const uint8_t *script, size_t script_length, uint8_t *out,
                               size_t room, picklestep_written *written);
-uint8_t picklestep_edited_list_with(uint32_t options, const uint8_t *bytes, size_t length, const uint8_t *script, size_t script_length,
-                                    uint8_t *out, size_t room, picklestep_written *written);
-uint8_t picklestep_edited_objects_with(uint32_t options, const uint8_t *bytes, size_t length, const uint8_t *script, size_t script_length,
-                                       uint8_t *out, size_t room, picklestep_written *written);
-uint8_t picklestep_edited_calls_with(uint32_t options, const uint8_t *bytes, size_t length, const uint8_t *script, size_t script_length,
-                                     uint8_t *out, size_t room, picklestep_written *written);
 
-/* How many bytes of memory each call on this thread may hold at most from now on, besides `bytes` and `out`; SIZE_MAX, as at first, is no
- * limit. (The module for WebAssembly has no such function: there the limit is that of its memory.) */
+/* A session that stays open from call to call: a pickle that is stepped, looked at and edited line by line. It begins as {0}, in which none is open.
+ * What is in it belongs to the library: nobody may change or copy it while a session is open. A session answers one call at a time. The proofs know
+ * of sessions that stay on the thread that opened them. */
+typedef struct {
+    void *at;
+    size_t is_open; /* 1 or 0 */
+} picklestep_session;
+
+/* Opens a session of the bytes, which are copied (`picklestep debug FILE`), with PICKLESTEP_MANY, PICKLESTEP_UNFRAMED, both or 0. It remembers the
+ * latest `window` steps to go back by (--window), of 1,000,000 at most, or all where `window` is 0. */
+uint8_t picklestep_open(uint32_t options, size_t window, const uint8_t *bytes, size_t length, picklestep_session *session);
+
+/* Obeys a line, which has no newline, and answers what `debug` answers to it; `status` is 1 where the line is refused. The lines that are asked one
+ * after another are answered as a script of them is. PICKLESTEP_NO_ROOM: the line was obeyed, and its text waits for picklestep_again.
+ * PICKLESTEP_OUT_OF_MEMORY: it was not obeyed. The session goes on after each of these answers. */
+uint8_t picklestep_ask(picklestep_session *session, const uint8_t *line, size_t line_length, uint8_t *out, size_t room, picklestep_written *written);
+
+/* The text of the latest line that was obeyed, once more. */
+uint8_t picklestep_again(picklestep_session *session, uint8_t *out, size_t room, picklestep_written *written);
+
+/* The bytes of the pickle as it is, edits and all: what `debug --save` would save. */
+uint8_t picklestep_bytes(picklestep_session *session, uint8_t *out, size_t room, picklestep_written *written);
+
+/* Closes the session, if one is open, and gives back its memory. The answer is PICKLESTEP_DONE. */
+uint8_t picklestep_close(picklestep_session *session);
+
+/* How many bytes of memory the calls on this thread may hold at most from now on, besides `bytes`, `out`, and what its sessions hold already;
+ * SIZE_MAX, as at first, is no limit. (The module for WebAssembly has no such function: there the limit is that of its memory.) */
 void picklestep_limit_memory(size_t most);
 
 #ifdef __cplusplus
