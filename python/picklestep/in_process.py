@@ -90,6 +90,8 @@ class _Room:
 
     def __init__(self, size: int = _ROOM) -> None:
         self.text, self.size, self.written = ctypes.create_string_buffer(size), size, _Written()
+        # What had no room here, if a signal's handler has fetched it.
+        self.fetched: Optional[bytes] = None
         self.at = ctypes.addressof(self.text), size, ctypes.addressof(self.written)
 
     def taken(self) -> bytes:
@@ -117,6 +119,8 @@ class Kept:
         self._obey = functions.ask
         self._handle = _Handle()
         self._at = ctypes.addressof(self._handle)
+        # The room of the answer that is under way.
+        self._room: Optional[_Room] = None
         # Most edits leave the pickle about as large as it was.
         self._most = _ROOM
 
@@ -126,14 +130,30 @@ class Kept:
         return self._functions.open(options, window, content, len(content), self._at) == _DONE
 
     def ask(self, line: bytes) -> bytes:
-        """The answer to a line, which has no newline."""
+        """The answer to a line, which has no newline. (A signal's handler may ask in the midst of it.)"""
         own = _own.__dict__
         room: _Room = own.pop('room', None) or _Room()
+        outer, room.written.size, room.fetched = self._room, 0, None
+        if outer is not None:
+            self._fetch(outer)
+        self._room = room
         try:
             answer = self._obey(self._at, line, len(line), *room.at)
-            return room.taken() if answer == _DONE else self._answer(answer, self._functions.again, room.written.size)
+            if answer == _DONE:
+                return room.taken()
+            if answer == _NO_ROOM:
+                self._fetch(room)
+            return self._answer(answer, self._functions.again, room.written.size) if room.fetched is None else room.fetched
         finally:
+            self._room = outer
             own['room'] = room
+
+    def _fetch(self, room: _Room) -> None:
+        """Fetches the text of the latest line, if that had no room here, and nobody has it: the next line takes its place."""
+        if room.written.size > room.size and room.fetched is None:
+            larger = _Room(room.written.size)
+            if self._functions.again(self._at, *larger.at) == _DONE and room.fetched is None:
+                room.fetched = larger.taken()
 
     def content(self) -> bytes:
         """The bytes of the pickle as it is."""

@@ -554,10 +554,11 @@ class Session(ContextManager['Session']):
         name = os.path.join(os.getcwd(), os.fsdecode(path))
         if self._container and is_in(os.fsdecode(path), self._container):
             raise PicklestepError(f'cannot write {shown(os.fsdecode(path))}: nothing is written into a container')
-        if is_word(name) and not is_opened(name, to_write=True):
+        content = self._talk.content()  # (edits that are made again may come in another order, if a signal's handler edits)
+        if content is None and is_word(name) and not is_opened(name, to_write=True):
             self._save(name, [], self._talk.edits())
         else:
-            content = self.bytes()
+            content = self.bytes() if content is None else content
             try:
                 with written_whole(Path(name)) as file:
                     file.write(content)

@@ -73,6 +73,21 @@ class KeptSessions(unittest.TestCase):
         session.ask(b'goto 4')
         self.assertEqual(len(session.content()), 20_001 + 5 + 0x3000)
 
+    def test_a_handler_that_asks_in_the_midst(self) -> None:
+        """A signal's handler that runs behind the call which finds no room for a text does not change what is answered."""
+        session = self.opened(b'N' * 20_000 + b'.')
+        items, obey, asked = session.ask(b'items'), session._obey, []
+
+        def interrupted(*given: object) -> object:
+            answer = obey(*given)
+            if not asked:
+                asked.append(b'')
+                asked[0] = session.ask(b'where')
+            return answer
+
+        session._obey = interrupted
+        self.assertEqual((session.ask(b'items'), asked), (items, [session.ask(b'where')]))
+
     def test_lines_that_say_nothing(self) -> None:
         session = self.opened(b'N.')
         self.assertEqual((session.ask(b''), session.ask(b'quit'), session.ask(b'step')), (b'', b'', b'at 1\n'))
