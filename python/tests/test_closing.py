@@ -79,7 +79,7 @@ def rows() -> Iterator[Tuple[str, str]]:
         for row in re.finditer(r'^(list|calls)(?: [0-9a-f]+)*: (.*\n)', text, re.MULTILINE):
             yield row[1], row[2]
         for block in re.split('\n\n', text):
-            for match in re.finditer(r'^\$ (list|objects|calls)(?: .*)?\n((?!\$ |debug> |saved ).*\n?)*', block + '\n', re.MULTILINE):
+            for match in re.finditer(r'^\$ (list|objects|calls)(?!.* --json)(?: .*)?\n((?!\$ |debug> |saved ).*\n?)*', block + '\n', re.MULTILINE):
                 lines = match[0].rstrip('\n').split('\n')[1:]
                 yield match[1], ''.join(f'{line}\n' for line in lines)
 
