@@ -1,11 +1,14 @@
 -- Words: such a text is a plain name, however it is read.
-use Rattle.std.proofs.Common.{◌≡◌, ℕ, zero, suc, ◌+◌, ◌-◌, ◌<◌, ◌≤◌, Bool, true, false, ◌&&◌, T, eqb, List, [], ◌∷◌, length, drop, get_or, Option, Some, None, refl, sym, ap, ◌∙◌, inl, inr, arith, eq-zero-or-pos}
+use Rattle.std.proofs.Common.{◌≡◌, subst, ◌^◌, ℕ, zero, suc, ◌+◌, ◌-◌, ◌<◌, ◌≤◌, Bool, true, false, ◌&&◌, T, eqb, List, [], ◌∷◌, length, drop, get_or, Option, Some, None, refl, sym, ap, ◌∙◌, inl, inr, arith, eq-zero-or-pos}
 use Rattle.std.specs.Prelude.{◌==◌, ◌||◌, not, nat_lt, if◌then◌else◌}
 use Rattle.std.specs.List.{fold}
 use Rattle.std.specs.List.{list_all}
 use Rattle.std.proofs.lemmas.List.{at_drop_more}
 use lib.Ieee.Fits.{and_l, and_r}
-use Rattle.pickle_ops.specs.Shape.{is_digit}
+use Rattle.pickle_ops.specs.Shape.{is_digit, text_of, value_of, is_decimal, value_fault}
+use Rattle.pickle_ops.specs.declared.form.Form.{Form}
+use Rattle.pickle_ops.specs.declared.form.Form.TheVariants as form
+use Rattle.pickle_ops.specs.declared.fault.FrontFault.TheVariants as fault
 use Rattle.pickle_names.specs.declared.coding.Coding.{Coding}
 use Rattle.pickle_names.specs.declared.coding.Coding.TheVariants as coding
 use Rattle.pickle_names.specs.declared.coding.Piece.{Piece}
@@ -21,7 +24,8 @@ use Rattle.pickle_form.specs.declared.escape.Part.TheVariants as escape
 use Rattle.pickle_form.specs.declared.escape.RawText.{RawText}
 use Rattle.pickle_form.specs.Escape.{raw_begin, raw_part, raw_after, ends_plain, is_raw_text}
 use Rattle.pickle_form.specs.Held.{text_role}
-use Rattle.pickle_form.specs.Inside.{is_word_byte, is_word, is_no_slash}
+use Rattle.pickle_form.specs.Numeral.{is_natural}
+use Rattle.pickle_form.specs.Inside.{is_word_byte, is_word, is_no_slash, has_no_zero_in_front}
 
 -- ---- the table
 
@@ -136,3 +140,34 @@ wrong_stays (b ∷ text) = wrong_stays text
 pub wrong_at : (text whole : List ℕ) (i : ℕ) (p : NamePart) → i < length text → after_byte p (get_or text i 0) ≡ part.Wrong → fold after_byte p (drop i text) ≡ fold after_byte part.Begin whole → part.Wrong ≡ fold after_byte part.Begin whole
 wrong_at text whole i p h e w =
     sym (wrong_stays (drop (i + 1) text)) ∙ sym (ap (λ (q : NamePart). fold after_byte q (drop (i + 1) text)) e) ∙ sym (at_drop_more (fold after_byte p) text i 0 h) ∙ w
+
+-- ---- digits
+
+-- one byte, or no zero in front: then digits are a number as picklers write it
+none_if : (b : Bool) → (if b then None else Some fault.BadArgument) ≡ None → b ≡ true
+none_if true e = refl
+none_if false e = absurd cc
+
+first_of_two : (a b : Bool) → (a && b) ≡ true → a ≡ true
+first_of_two true b e = refl
+first_of_two false b e = absurd cc
+
+second_of_two : (a b : Bool) → (a && b) ≡ true → b ≡ true
+second_of_two true b e = e
+second_of_two false b e = absurd cc
+
+and_true : (b : Bool) → (b && true) ≡ b
+and_true true = refl
+and_true false = refl
+
+natural_if : (text : List ℕ) → is_decimal text ≡ true → is_natural text ≡ has_no_zero_in_front text
+natural_if text d =
+    let two = first_of_two (nat_lt 0 (length text) && list_all is_digit text) (nat_lt (value_of text) (2 ^ 64)) d in
+    let some = first_of_two (nat_lt 0 (length text)) (list_all is_digit text) two in
+    let digits = second_of_two (nat_lt 0 (length text)) (list_all is_digit text) two in
+    rw (some, digits) (and_true (has_no_zero_in_front text))
+
+pub natural_decimal : (f : Form) (arg : List ℕ) → f ≡ form.Decimal → value_fault f arg ≡ None → has_no_zero_in_front (text_of arg) ≡ is_natural (text_of arg)
+natural_decimal f arg e fine =
+    let good : value_fault form.Decimal arg ≡ None = subst (λ (g : Form). value_fault g arg ≡ None) e fine in
+    sym (natural_if (text_of arg) (none_if (is_decimal (text_of arg)) good))

@@ -1,6 +1,6 @@
 //! The stack, the marks and the memo, of whose objects only the role is kept.
 
-ghost use Rattle.std.specs.Prelude.{◌≡◌, ◌≤◌};
+ghost use Rattle.std.specs.Prelude.{◌≡◌, ◌≤◌, ◌++◌, ◌∷◌, [], OnOk};
 ghost use Rattle.std.specs.Option.{unwrap_or};
 ghost use Rattle.pickle_form.specs.Held.{is_so, is_name_role, is_there, is_buffer, is_dict, is_callable, is_arguments, is_target, if_paired, is_sized, is_instance, is_state, has_right_size, cut_role, is_batch};
 
@@ -180,6 +180,27 @@ fn if_paired(filling: Filling, count: usize, rest: Option<Reason>) -> Option<Rea
         }
         _ => rest,
     }
+}
+
+/// Puts one more behind others. There is room most often.
+#[inline(always)]
+fn append<T: Drop>(list: &mut Vec<T>, item: T) -> Result<(), AllocError>
+    ensures { OnOk result (list.new.items ≡ list.old.items ++ (item ∷ [])) }
+{
+    if list.len() == list.capacity() {
+        return append_with_room(list, item);
+    }
+    list.push_reserved(item);
+    Ok(())
+}
+
+/// Puts one more behind others, and makes room for it.
+#[inline(never)]
+fn append_with_room<T: Drop>(list: &mut Vec<T>, item: T) -> Result<(), AllocError>
+    ensures { OnOk result (list.new.items ≡ list.old.items ++ (item ∷ [])) }
+{
+    list.push(item)?;
+    Ok(())
 }
 
 impl Held {
@@ -465,11 +486,11 @@ impl Held {
     }
 
     /// A new object is put on top.
+    #[inline(always)]
     fn push(&mut self, role: Role) -> Result<(), AllocError>
         ensures ok { OnOk result (self.new ≡ push role self.old) }
     {
-        self.cells.push(role)?;
-        Ok(())
+        append(&mut self.cells, role)
     }
 
     /// The object on top, or a plain value.
@@ -480,13 +501,13 @@ impl Held {
     }
 
     /// The memo keeps the top under the next key, or under the one behind that.
+    #[inline(always)]
     fn keep(&mut self, key: u64) -> Result<(), AllocError>
         ensures ok { OnOk result (self.new ≡ keep key self.old) }
     {
         let top = self.top();
         if key == self.memo.len() as u64 {
-            self.memo.push(top)?;
-            return Ok(());
+            return append(&mut self.memo, top);
         }
         self.memo.push(Role::Absent)?;
         self.memo.push(top)?;
@@ -507,15 +528,17 @@ impl Held {
     }
 
     /// A mark is set. No rule forbids that.
+    #[inline(always)]
     fn take_section(&mut self) -> Result<Option<Reason>, AllocError>
         ensures first { IfOk result (λ why. why ≡ None) }
         ensures next { OnOk result (self.new ≡ next 0 Row.Mark Role.Value self.old) }
     {
-        self.marks.push(self.cells.len())?;
+        append(&mut self.marks, self.cells.len())?;
         Ok(None)
     }
 
     /// A new object of this role is put on top. No rule forbids that.
+    #[inline(always)]
     fn take_new(&mut self, role: Role) -> Result<Option<Reason>, AllocError>
         ensures first { IfOk result (λ why. why ≡ None) }
         ensures next { OnOk result (self.new ≡ push role self.old) }
@@ -638,6 +661,7 @@ impl Held {
     }
 
     /// The object under a key is put on top.
+    #[inline(always)]
     fn take_kept(&mut self, key: u64) -> Result<Option<Reason>, AllocError>
         ensures first { IfOk result (λ why. why ≡ other_row 0 (Row.Get key) Role.Value self.old) }
         ensures next { IfOk result (λ why. why ≡ None → self.new ≡ next 0 (Row.Get key) Role.Value self.old) }
@@ -651,6 +675,7 @@ impl Held {
     }
 
     /// The memo keeps the top under this key.
+    #[inline(always)]
     fn take_put(&mut self, key: u64, protocol: u64) -> Result<Option<Reason>, AllocError>
         ensures first { IfOk result (λ why. why ≡ other_row protocol (Row.Put key) Role.Value self.old) }
         ensures next { IfOk result (λ why. why ≡ None → self.new ≡ next protocol (Row.Put key) Role.Value self.old) }
@@ -663,6 +688,7 @@ impl Held {
     }
 
     /// The memo keeps the top under the next key.
+    #[inline(always)]
     fn take_memoized(&mut self) -> Result<Option<Reason>, AllocError>
         ensures first { IfOk result (λ why. why ≡ other_row 0 Row.Memoize Role.Value self.old) }
         ensures next { IfOk result (λ why. why ≡ None → self.new ≡ next 0 Row.Memoize Role.Value self.old) }
@@ -671,7 +697,7 @@ impl Held {
             return Ok(Some(Reason::TooFew));
         }
         let top = self.top();
-        self.memo.push(top)?;
+        append(&mut self.memo, top)?;
         Ok(None)
     }
 

@@ -215,16 +215,25 @@ pub(crate) fn text_role(text: &[u8]) -> Role
     }
 }
 
+/// The role of a text that is in UTF-8, surrogates allowed, and may be more than a word.
+#[inline(never)]
+fn role_beyond_words(text: &[u8]) -> Option<Role>
+    ensures { result ≡ if is_text Coding.AnyUtf8 text.now then Some (text_role text.now) else None }
+{
+    if is_text(Coding::AnyUtf8, text) {
+        Some(text_role(text))
+    } else {
+        None
+    }
+}
+
 /// The role of a text that is in UTF-8, surrogates allowed. Most texts are one word, for which one look at each byte is enough.
+#[inline(always)]
 pub(crate) fn role_in_utf8(text: &[u8]) -> Option<Role>
     ensures { result ≡ if is_text Coding.AnyUtf8 text.now then Some (text_role text.now) else None }
 {
     if is_word(text) {
         return Some(Role::Name);
     }
-    if is_text(Coding::AnyUtf8, text) {
-        Some(text_role(text))
-    } else {
-        None
-    }
+    role_beyond_words(text)
 }

@@ -147,6 +147,7 @@ fn is_drop(opcode: Opcode) -> bool
 }
 
 /// Whether an opcode keeps the top in the memo.
+#[inline(always)]
 fn is_put(opcode: Opcode) -> bool
     ensures { result ≡ is_put opcode }
 {
@@ -172,6 +173,7 @@ fn is_get(opcode: Opcode) -> bool
 }
 
 /// Whether picklers keep in the memo what an opcode makes.
+#[inline(always)]
 fn is_kept(opcode: Opcode) -> bool
     ensures { result ≡ is_kept opcode }
 {
@@ -210,6 +212,7 @@ fn is_kept(opcode: Opcode) -> bool
 }
 
 /// Whether an opcode asks for more than usual ones, or changes what may follow.
+#[inline(always)]
 fn is_turn(opcode: Opcode) -> bool
     ensures { result ≡ is_turn opcode }
 {
@@ -528,7 +531,7 @@ impl Run {
         ensures next { result ≡ None → self.new ≡ after_run op.now self.old }
     {
         if !self.is_usual(op, last) {
-            return self.take_any(op, last);
+            return self.take_any(&op.again(), last);
         }
         let size = op.size() as u64;
         if 0 < self.left {
@@ -537,7 +540,7 @@ impl Run {
             return None;
         }
         if 4 <= self.first {
-            return self.take_any(op, last);
+            return self.take_any(&op.again(), last);
         }
         let loose = self.loose_outside(size);
         self.pass(op, 0, loose);

@@ -1,18 +1,21 @@
 //! How picklers spell each opcode, and in which protocols.
 
-ghost use Rattle.std.specs.Prelude.{◌≡◌, ◌≤◌, ◌<◌, ◌==◌, ◌&&◌, ◌||◌, ◌-◌, nat_le, nat_lt, int_lt, pos, get_or, length, if◌then◌else◌, true, None};
+ghost use Rattle.std.specs.Prelude.{◌≡◌, ◌≤◌, ◌<◌, ◌==◌, ◌&&◌, ◌||◌, ◌-◌, ℕ, List, nat_le, nat_lt, int_lt, pos, get_or, length, drop, if◌then◌else◌, true, None, IfSome};
 ghost use Rattle.pickle_form.specs.Spelled.{unless, or_else, is_shortest, is_long1, is_long4, other_text, other_names, other_argument, last_of_int, last_of_long};
 ghost use Rattle.pickle_form.specs.Name.{is_name};
 ghost use Rattle.pickle_form.specs.Held.{text_role};
-ghost use Rattle.pickle_form.specs.Inside.{spelling_of};
+ghost use Rattle.pickle_form.specs.Inside.{has_no_zero_in_front, spelling_of, is_frequent, is_seldom};
 ghost use Rattle.pickle_ops.specs.Table.{form_of};
-ghost use Rattle.pickle_ops.specs.Argument.{first_text, second_text, has_number, number_of, signed_of, payload};
+ghost use Rattle.pickle_ops.specs.Argument.{first_text, second_text, number_of, signed_of};
+ghost use Rattle.pickle_ops.specs.Shape.{text_of};
+ghost use Rattle.pickle_form.specs.Numeral.{is_natural};
 
 use crate::escape::{is_raw_text, is_repr};
 use crate::name::{is_name, is_text};
-use crate::numeral::{is_float_line, is_int_line, is_long_line, is_natural, is_truth, unsigned};
+use crate::numeral::{is_float_line, is_int_line, is_long_line, is_truth, unsigned};
 use crate::reason::Reason;
 use crate::role::{Role, role_in_utf8, text_role};
+use byteorder::{ByteOrder, LittleEndian};
 use pickle_names::Coding;
 use pickle_ops::{Form, OpRef, Opcode};
 
@@ -176,133 +179,183 @@ fn last_of_text(text: &[u8]) -> u64
     if 256 <= text.len() { 5 } else { 3 }
 }
 
-/// The payload of an argument of this form. The compiler then looks at no other form.
+/// A line without its newline.
 #[inline(always)]
-fn payload_in<'a>(form: Form, op: &OpRef<'a>) -> &'a [u8]
-    requires { form_of op.now.opcode ≡ form }
-    ensures { result.now ≡ payload form op.now.arg }
+fn text_of(line: &[u8]) -> &[u8]
+    ensures { result.now ≡ text_of line.now }
 {
-    if op.form() == form {
-        op.payload()
-    } else {
-        unreachable!()
+    line.get(..line.len().saturating_sub(1)).unwrap_or_default()
+}
+
+/// The payload of a line.
+#[inline(always)]
+fn line_in<'a>(op: &OpRef<'a>) -> &'a [u8]
+    ensures { result.now ≡ text_of op.now.arg }
+{
+    text_of(op.arg())
+}
+
+/// The payload behind a length of so many bytes.
+#[inline(always)]
+fn counted_in<'a>(width: usize, op: &OpRef<'a>) -> &'a [u8]
+    ensures { result.now ≡ drop width op.now.arg }
+{
+    let arg = op.arg();
+    arg.get(width..).unwrap_or_default()
+}
+
+/// The number of two bytes.
+#[inline(always)]
+fn number_of_two(op: &OpRef<'_>) -> u64
+    requires { form_of op.now.opcode ≡ Form.U2 }
+    ensures { result ≡ number_of Form.U2 op.now.arg }
+{
+    let arg = op.arg();
+    u64::from(LittleEndian::read_u16(arg))
+}
+
+/// The number of four bytes.
+#[inline(always)]
+fn number_of_four(op: &OpRef<'_>) -> u64
+    requires { form_of op.now.opcode ≡ Form.U4 }
+    ensures { result ≡ number_of Form.U4 op.now.arg }
+{
+    let arg = op.arg();
+    u64::from(LittleEndian::read_u32(arg))
+}
+
+/// Whether there is one byte, or the first one is no zero.
+fn has_no_zero_in_front(text: &[u8]) -> bool
+    ensures { result ≡ has_no_zero_in_front text.now }
+{
+    if text.len() == 1 {
+        return true;
+    }
+    match text.first() {
+        Some(first) => *first != b'0',
+        None => true,
     }
 }
 
-/// The number of an argument of this form. The compiler then looks at no other form.
-#[inline(always)]
-fn number_in(form: Form, op: &OpRef<'_>) -> u64
-    requires form { form_of op.now.opcode ≡ form }
-    requires number { has_number form ≡ true }
-    ensures { result ≡ number_of form op.now.arg }
+/// Whether a decimal line is a number without a zero in front. All that is in it are digits.
+#[tactic(auto, using(crate::proofs::Words::natural_decimal))]
+fn is_natural_in(op: &OpRef<'_>) -> bool
+    requires { form_of op.now.opcode ≡ Form.Decimal }
+    ensures { result ≡ is_natural (text_of op.now.arg) }
 {
-    if op.form() == form {
-        op.number()
-    } else {
-        unreachable!()
+    let arg = op.arg();
+    has_no_zero_in_front(text_of(arg))
+}
+
+/// How an opcode is spelled that each pickler writes alike, whatever its argument is. All that is answered is constant, so that the compiler
+/// makes tables of it.
+#[inline(always)]
+fn spelled_alike(opcode: Opcode) -> Option<Spelled>
+    ensures some { IfSome result (λ s. (arg : List ℕ) → s ≡ spelling_of opcode arg) }
+    ensures none { result ≡ None → (is_frequent opcode || is_seldom opcode) ≡ true }
+{
+    match opcode {
+        Opcode::Int => None,
+        Opcode::BinInt => None,
+        Opcode::BinInt2 => None,
+        Opcode::Long => None,
+        Opcode::Long1 => None,
+        Opcode::Long4 => None,
+        Opcode::String => None,
+        Opcode::BinString => None,
+        Opcode::ShortBinString => Some(always(2, Role::Value)),
+        Opcode::BinBytes => None,
+        Opcode::BinBytes8 => None,
+        Opcode::NextBuffer => Some(always(5, Role::Buffer)),
+        Opcode::None => Some(always(5, Role::Null)),
+        Opcode::Unicode => None,
+        Opcode::ShortBinUnicode => None,
+        Opcode::BinUnicode => None,
+        Opcode::BinUnicode8 => None,
+        Opcode::Float => None,
+        Opcode::EmptyList => Some(always(5, Role::List)),
+        Opcode::List => Some(always(0, Role::List)),
+        Opcode::EmptyTuple => Some(always(5, Role::Tuple)),
+        Opcode::Tuple => Some(always(5, Role::Tuple)),
+        Opcode::Tuple1 => Some(always(5, Role::Tuple)),
+        Opcode::Tuple2 => Some(always(5, Role::Tuple)),
+        Opcode::Tuple3 => Some(always(5, Role::Tuple)),
+        Opcode::EmptyDict => Some(always(5, Role::Dict)),
+        Opcode::Dict => Some(always(0, Role::Dict)),
+        Opcode::EmptySet => Some(always(5, Role::Set)),
+        Opcode::Dup => Some(as_spelled(Some(Reason::NeverWritten), 5, Role::Value)),
+        Opcode::Get => None,
+        Opcode::LongBinGet => None,
+        Opcode::Put => None,
+        Opcode::BinPut => Some(always(3, Role::Value)),
+        Opcode::LongBinPut => None,
+        Opcode::Ext1 => None,
+        Opcode::Ext2 => None,
+        Opcode::Ext4 => None,
+        Opcode::Global => None,
+        Opcode::StackGlobal => Some(always(5, Role::Import)),
+        Opcode::Reduce => Some(always(5, Role::Made)),
+        Opcode::NewObj => Some(always(5, Role::Made)),
+        Opcode::NewObjEx => Some(always(5, Role::Made)),
+        Opcode::Inst => None,
+        Opcode::Obj => Some(always(2, Role::Instance)),
+        Opcode::Proto => None,
+        Opcode::Frame => None,
+        Opcode::PersId => None,
+        Opcode::BinPersId => Some(always(5, Role::Outside)),
+        _ => Some(always(5, Role::Value)),
     }
 }
 
-/// How an opcode with its argument is spelled.
-#[inline(always)]
-pub(crate) fn spelling_of(op: &OpRef<'_>) -> Spelled
+/// How an opcode with its argument is spelled that needs more than a few looks, or is seldom there.
+#[inline(never)]
+fn spelled_seldom(op: &OpRef<'_>) -> Spelled
+    requires { is_seldom op.now.opcode ≡ true }
     ensures { result ≡ spelling_of op.now.opcode op.now.arg }
 {
     match op.opcode() {
         Opcode::Int => {
-            let line = payload_in(Form::Line, op);
+            let line = line_in(op);
             value_if(
                 is_int_line(line),
                 Reason::NumberText,
                 u64::from(last_of_int(line)),
             )
         }
-        Opcode::BinInt => value_if(is_wide(op.signed()), Reason::LongNumber, 5),
-        Opcode::BinInt2 => value_if(255 < number_in(Form::U2, op), Reason::LongNumber, 5),
-        Opcode::Long => value_if(
-            is_long_line(payload_in(Form::Line, op)),
-            Reason::NumberText,
-            1,
-        ),
+        Opcode::Long => value_if(is_long_line(line_in(op)), Reason::NumberText, 1),
         Opcode::Long1 => {
-            let bytes = payload_in(Form::B1, op);
+            let bytes = counted_in(1, op);
             value_if(
                 is_long1(bytes),
                 Reason::LongNumber,
                 u64::from(last_of_long(bytes)),
             )
         }
-        Opcode::Long4 => value_if(is_long4(payload_in(Form::Bs4, op)), Reason::LongNumber, 5),
-        Opcode::String => value_if(
-            is_repr(payload_in(Form::Quoted, op)),
-            Reason::TextSpelling,
-            0,
-        ),
-        Opcode::BinString => value_if(
-            256 <= payload_in(Form::Bs4, op).len(),
-            Reason::LongLength,
-            2,
-        ),
-        Opcode::ShortBinString => always(2, Role::Value),
-        Opcode::BinBytes => value_if(256 <= payload_in(Form::B4, op).len(), Reason::LongLength, 5),
+        Opcode::Long4 => value_if(is_long4(counted_in(4, op)), Reason::LongNumber, 5),
+        Opcode::String => value_if(is_repr(line_in(op)), Reason::TextSpelling, 0),
+        Opcode::BinString => value_if(256 <= counted_in(4, op).len(), Reason::LongLength, 2),
+        Opcode::BinBytes => value_if(256 <= counted_in(4, op).len(), Reason::LongLength, 5),
         Opcode::BinBytes8 => value_if(
-            4_294_967_296 <= payload_in(Form::B8, op).len(),
+            4_294_967_296 <= counted_in(8, op).len(),
             Reason::LongLength,
             5,
         ),
-        Opcode::NextBuffer => always(5, Role::Buffer),
-        Opcode::None => always(5, Role::Null),
-        Opcode::Unicode => value_if(
-            is_raw_text(payload_in(Form::Line, op)),
-            Reason::TextSpelling,
-            0,
-        ),
-        Opcode::ShortBinUnicode => text_spelled(payload_in(Form::B1, op), 5),
+        Opcode::Unicode => value_if(is_raw_text(line_in(op)), Reason::TextSpelling, 0),
         Opcode::BinUnicode => {
-            let text = payload_in(Form::B4, op);
+            let text = counted_in(4, op);
             text_spelled(text, last_of_text(text))
         }
         Opcode::BinUnicode8 => as_spelled(
-            other_text(4_294_967_296, payload_in(Form::B8, op)),
+            other_text(4_294_967_296, counted_in(8, op)),
             5,
             Role::Value,
         ),
-        Opcode::Float => value_if(
-            is_float_line(payload_in(Form::Line, op)),
-            Reason::NumberText,
-            0,
-        ),
-        Opcode::EmptyList => always(5, Role::List),
-        Opcode::List => always(0, Role::List),
-        Opcode::EmptyTuple => always(5, Role::Tuple),
-        Opcode::Tuple => always(5, Role::Tuple),
-        Opcode::Tuple1 => always(5, Role::Tuple),
-        Opcode::Tuple2 => always(5, Role::Tuple),
-        Opcode::Tuple3 => always(5, Role::Tuple),
-        Opcode::EmptyDict => always(5, Role::Dict),
-        Opcode::Dict => always(0, Role::Dict),
-        Opcode::EmptySet => always(5, Role::Set),
-        Opcode::Dup => as_spelled(Some(Reason::NeverWritten), 5, Role::Value),
-        Opcode::Get => value_if(
-            is_natural(payload_in(Form::Decimal, op)),
-            Reason::NumberText,
-            0,
-        ),
-        Opcode::LongBinGet => value_if(255 < number_in(Form::U4, op), Reason::LongKey, 5),
-        Opcode::Put => value_if(
-            is_natural(payload_in(Form::Decimal, op)),
-            Reason::NumberText,
-            0,
-        ),
-        Opcode::BinPut => always(3, Role::Value),
-        Opcode::LongBinPut => value_if(255 < number_in(Form::U4, op), Reason::LongKey, 3),
-        Opcode::Ext1 => as_spelled(
-            unless(0 < number_in(Form::U1, op), Reason::LongNumber),
-            5,
-            Role::Import,
-        ),
+        Opcode::Float => value_if(is_float_line(line_in(op)), Reason::NumberText, 0),
+        Opcode::Get => value_if(is_natural_in(op), Reason::NumberText, 0),
+        Opcode::Put => value_if(is_natural_in(op), Reason::NumberText, 0),
+        Opcode::Ext1 => as_spelled(unless(0 < op.number(), Reason::LongNumber), 5, Role::Import),
         Opcode::Ext2 => as_spelled(
-            unless(255 < number_in(Form::U2, op), Reason::LongNumber),
+            unless(255 < number_of_two(op), Reason::LongNumber),
             5,
             Role::Import,
         ),
@@ -312,23 +365,41 @@ pub(crate) fn spelling_of(op: &OpRef<'_>) -> Spelled
             Role::Import,
         ),
         Opcode::Global => as_spelled(other_names(op), 5, Role::Import),
-        Opcode::StackGlobal => always(5, Role::Import),
-        Opcode::Reduce => always(5, Role::Made),
-        Opcode::NewObj => always(5, Role::Made),
-        Opcode::NewObjEx => always(5, Role::Made),
         Opcode::Inst => as_spelled(other_names(op), 0, Role::Instance),
-        Opcode::Obj => always(2, Role::Instance),
-        Opcode::Proto => value_if(is_named(number_in(Form::U1, op)), Reason::Protocol, 5),
-        Opcode::Frame => value_if(0 < number_in(Form::U8, op), Reason::EmptyFrame, 5),
+        Opcode::Proto => value_if(is_named(op.number()), Reason::Protocol, 5),
+        Opcode::Frame => value_if(0 < op.number(), Reason::EmptyFrame, 5),
         Opcode::PersId => as_spelled(
-            unless(
-                is_text(Coding::Ascii, payload_in(Form::Line, op)),
-                Reason::PersistentId,
-            ),
+            unless(is_text(Coding::Ascii, line_in(op)), Reason::PersistentId),
             0,
             Role::Outside,
         ),
-        Opcode::BinPersId => always(5, Role::Outside),
-        _ => always(5, Role::Value),
+        _ => unreachable!(),
+    }
+}
+
+/// How an opcode with its argument is spelled that is not spelled alike whatever its argument is. The frequent ones need few looks.
+#[inline(always)]
+fn spelled_by_argument(op: &OpRef<'_>) -> Spelled
+    requires { (is_frequent op.now.opcode || is_seldom op.now.opcode) ≡ true }
+    ensures { result ≡ spelling_of op.now.opcode op.now.arg }
+{
+    match op.opcode() {
+        Opcode::BinInt => value_if(is_wide(op.signed()), Reason::LongNumber, 5),
+        Opcode::BinInt2 => value_if(255 < number_of_two(op), Reason::LongNumber, 5),
+        Opcode::ShortBinUnicode => text_spelled(counted_in(1, op), 5),
+        Opcode::LongBinGet => value_if(255 < number_of_four(op), Reason::LongKey, 5),
+        Opcode::LongBinPut => value_if(255 < number_of_four(op), Reason::LongKey, 3),
+        _ => spelled_seldom(&op.again()),
+    }
+}
+
+/// How an opcode with its argument is spelled.
+#[inline(always)]
+pub(crate) fn spelling_of(op: &OpRef<'_>) -> Spelled
+    ensures { result ≡ spelling_of op.now.opcode op.now.arg }
+{
+    match spelled_alike(op.opcode()) {
+        Some(spelled) => spelled,
+        None => spelled_by_argument(op),
     }
 }

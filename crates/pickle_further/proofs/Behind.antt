@@ -23,8 +23,8 @@ use Rattle.pickle_further.specs.declared.way.Way.{Way}
 use Rattle.pickle_further.specs.Going.{Standing, going, gone_by, gone_to, moved_so, then_as, used_op, event_by, keeps}
 use Rattle.pickle_further.specs.Parts.{parts}
 use Rattle.pickle_show.specs.Calls.{calls}
-use Rattle.pickle_further.specs.Leads.{warning_text, warned_status}
-use Rattle.pickle_further.specs.CallsText.{document_leads}
+use Rattle.pickle_further.specs.Leads.{or_first, warned_status}
+use Rattle.pickle_further.specs.CallsText.{document_leads, document_deep, document_warnings}
 use Rattle.pickle_further.specs.Laws.{LinesComeFirst, NoLineNoReachBehind}
 use Rattle.pickle_show.proofs.Walking.{event_by as event_fresh}
 use Rattle.pickle_show.proofs.Reaches.{row_unseen}
@@ -36,7 +36,7 @@ status_first (Some id) status e = absurd (omega (arith, e))
 pub lines_come_first : LinesComeFirst
 unfolding ◌⧺◌
 lines_come_first how p d =
-    ((warning_text (document_leads d) ++ parts how p d, append_assoc (calls how d).text (warning_text (document_leads d)) (parts how p d)), status_first (document_leads d) (calls how d).status)
+    ((document_warnings d ++ parts how p d, append_assoc (calls how d).text (document_warnings d) (parts how p d)), status_first (or_first (document_leads d) (document_deep d)) (calls how d).status)
 
 -- ---- no line, no reach
 

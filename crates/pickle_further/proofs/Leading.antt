@@ -12,7 +12,7 @@ use Rattle.pickle_ops.specs.Kind.{class_of}
 use Rattle.pickle_machine.specs.Seen.{class_at}
 use Rattle.pickle_ops.specs.KindRef.{kind_view, parts_shown, shown, look_shown}
 use Rattle.pickle_show.proofs.Looks.{there, absent}
-use Rattle.pickle_further.specs.Leads.{name_of, name_at, kind_leads, leads_at, or_first, if_leads, first_of, first_leading}
+use Rattle.pickle_further.specs.Leads.{name_of, name_at, kind_leads, leads_at, or_first, if_leads, first_of}
 
 -- ---- what a look says
 
@@ -73,17 +73,17 @@ pub or_first_none : (a : Option ℕ) → or_first a None ≡ a
 or_first_none None = refl
 or_first_none (Some x) = refl
 
-pub none_of_none : (heap : List Object) → first_of heap 0 ≡ None
+pub none_of_none : (is : ℕ → Bool) → first_of is 0 ≡ None
 unfolding first_of
-none_of_none heap = refl
+none_of_none is = refl
 
-pub none_yet : (heap : List Object) (n : ℕ) → first_of heap n ≡ None → leads_at heap n ≡ false → first_of heap (suc n) ≡ None
+pub none_yet : (is : ℕ → Bool) (n : ℕ) → first_of is n ≡ None → is n ≡ false → first_of is (suc n) ≡ None
 unfolding first_of
-none_yet heap n none e = rw (none, e) refl
+none_yet is n none e = rw (none, e) refl
 
-found_here : (heap : List Object) (n : ℕ) → first_of heap n ≡ None → leads_at heap n ≡ true → first_of heap (suc n) ≡ Some n
+found_here : (is : ℕ → Bool) (n : ℕ) → first_of is n ≡ None → is n ≡ true → first_of is (suc n) ≡ Some n
 unfolding first_of
-found_here heap n none e = rw (none, e) refl
+found_here is n none e = rw (none, e) refl
 
 none_more : (n : ℕ) → 0 + n ≡ n
 none_more n = omega arith
@@ -91,13 +91,12 @@ none_more n = omega arith
 one_more : (more n : ℕ) → suc more + n ≡ suc (more + n)
 one_more more n = omega arith
 
-stays : (heap : List Object) (n k more : ℕ) → first_of heap n ≡ Some k → first_of heap (more + n) ≡ Some k
+stays : (is : ℕ → Bool) (n k more : ℕ) → first_of is n ≡ Some k → first_of is (more + n) ≡ Some k
 unfolding first_of
-stays heap n k zero e = ap (first_of heap) (none_more n) ∙ e
-stays heap n k (suc more) e =
-    ap (first_of heap) (one_more more n) ∙ ap (λ (x : Option ℕ). or_first x (if_leads (leads_at heap (more + n)) (more + n))) (stays heap n k more e)
+stays is n k zero e = ap (first_of is) (none_more n) ∙ e
+stays is n k (suc more) e = ap (first_of is) (one_more more n) ∙ ap (λ (x : Option ℕ). or_first x (if_leads (is (more + n)) (more + n))) (stays is n k more e)
 
-pub first_found : (heap : List Object) (n : ℕ) → first_of heap n ≡ None → leads_at heap n ≡ true → n < length heap → Some n ≡ first_leading heap
-first_found heap n none e less =
-    let all : (length heap - suc n) + suc n ≡ length heap = omega (arith, less) in
-    sym (ap (first_of heap) (sym all) ∙ stays heap (suc n) n (length heap - suc n) (found_here heap n none e))
+pub first_found : (is : ℕ → Bool) (n all : ℕ) → first_of is n ≡ None → is n ≡ true → n < all → Some n ≡ first_of is all
+first_found is n all none e less =
+    let more : (all - suc n) + suc n ≡ all = omega (arith, less) in
+    sym (ap (first_of is) (sym more) ∙ stays is (suc n) n (all - suc n) (found_here is n none e))

@@ -1,5 +1,6 @@
 -- Lemmas that the proofs of several functions cite.
-pub mod Leading
+mod Nested
+mod Leading
 pub mod Pieces
 pub mod Fars
 pub mod FarGoings

@@ -12,7 +12,7 @@ use Rattle.pickle_further.specs.declared.way.Way.{Way}
 use Rattle.pickle_further.specs.declared.going.Gone.{Gone}
 use Rattle.pickle_further.specs.declared.seek.Visited.{Visited}
 use Rattle.pickle_further.specs.Going.{Standing}
-use Rattle.pickle_further.specs.Parts.{buffering, lost_by, mixed_there, mixed_from, first_mixed, mixed_text, lost_text}
+use Rattle.pickle_further.specs.Parts.{Wording, buffering, lost_by_in, mixed_there, mixed_from, first_mixed, mixed_text_in, lost_text_in}
 use Rattle.pickle_further.specs.Inside.{standing_of, Finds}
 use Rattle.pickle_further.specs.CallsText.{CutsText}
 use Rattle.pickle_further.proofs.Pieces.{cut_before, cut_after, memory_first}
@@ -36,28 +36,28 @@ none_mixed w p x t is f = none_by w p t (subst (λ (y : Option Visited). Finds w
 -- ---- the text
 
 -- the part, cut short
-pub lossy_cut : (how : Manner) (p : Pickles) (bytes : List ℕ) (a b : Told) (x : TextStop) → CutsText a b (lost_by how (buffering p) bytes) x → CutsText a b (lost_text how p bytes) x
+pub lossy_cut : (tell : Wording) (how : Manner) (p : Pickles) (bytes : List ℕ) (a b : Told) (x : TextStop) → CutsText a b (lost_by_in tell how (buffering p) bytes) x → CutsText a b (lost_text_in tell how p bytes) x
 unfolding ◌⧺◌
-lossy_cut how p bytes a b x w = cut_before a b (lost_by how (buffering p) bytes) (mixed_text how.holes (first_mixed how.detail p bytes)) x w
+lossy_cut tell how p bytes a b x w = cut_before a b (lost_by_in tell how (buffering p) bytes) (mixed_text_in tell how.holes (first_mixed how.detail p bytes)) x w
 
 -- all of it, and memory ran out
-pub lossy_first : (how : Manner) (p : Pickles) (bytes : List ℕ) (a b : Told) (x : TextStop) → x ≡ stop.Memory → Wrote a b (lost_by how (buffering p) bytes) → CutsText a b (lost_text how p bytes) x
+pub lossy_first : (tell : Wording) (how : Manner) (p : Pickles) (bytes : List ℕ) (a b : Told) (x : TextStop) → x ≡ stop.Memory → Wrote a b (lost_by_in tell how (buffering p) bytes) → CutsText a b (lost_text_in tell how p bytes) x
 unfolding ◌⧺◌
-lossy_first how p bytes a b x is w =
-    let more : List ℕ = mixed_text how.holes (first_mixed how.detail p bytes) in
-    cut_after a b b (lost_by how (buffering p) bytes) more x w (memory_first b more x is)
+lossy_first tell how p bytes a b x is w =
+    let more : List ℕ = mixed_text_in tell how.holes (first_mixed how.detail p bytes) in
+    cut_after a b b (lost_by_in tell how (buffering p) bytes) more x w (memory_first b more x is)
 
 -- and a beginning of the line
-pub lossy_broken : (how : Manner) (p : Pickles) (bytes : List ℕ) (mixed : Option ℕ) (a b c : Told) → mixed ≡ first_mixed how.detail p bytes → Wrote a b (lost_by how (buffering p) bytes) → Broke b c (mixed_text how.holes mixed)
-    → Broke a c (lost_text how p bytes)
+pub lossy_broken : (tell : Wording) (how : Manner) (p : Pickles) (bytes : List ℕ) (mixed : Option ℕ) (a b c : Told) → mixed ≡ first_mixed how.detail p bytes → Wrote a b (lost_by_in tell how (buffering p) bytes) → Broke b c (mixed_text_in tell how.holes mixed)
+    → Broke a c (lost_text_in tell how p bytes)
 unfolding ◌⧺◌
-lossy_broken how p bytes mixed a b c is w q =
-    let line : Broke b c (mixed_text how.holes (first_mixed how.detail p bytes)) = rw (← is) q in
-    Broke-after a b c (lost_by how (buffering p) bytes) (mixed_text how.holes (first_mixed how.detail p bytes)) w line
+lossy_broken tell how p bytes mixed a b c is w q =
+    let line : Broke b c (mixed_text_in tell how.holes (first_mixed how.detail p bytes)) = rw (← is) q in
+    Broke-after a b c (lost_by_in tell how (buffering p) bytes) (mixed_text_in tell how.holes (first_mixed how.detail p bytes)) w line
 
-pub lossy_done : (how : Manner) (p : Pickles) (bytes : List ℕ) (mixed : Option ℕ) (a b c : Told) → mixed ≡ first_mixed how.detail p bytes → Wrote a b (lost_by how (buffering p) bytes) → Wrote b c (mixed_text how.holes mixed)
-    → Wrote a c (lost_text how p bytes)
+pub lossy_done : (tell : Wording) (how : Manner) (p : Pickles) (bytes : List ℕ) (mixed : Option ℕ) (a b c : Told) → mixed ≡ first_mixed how.detail p bytes → Wrote a b (lost_by_in tell how (buffering p) bytes) → Wrote b c (mixed_text_in tell how.holes mixed)
+    → Wrote a c (lost_text_in tell how p bytes)
 unfolding ◌⧺◌
-lossy_done how p bytes mixed a b c is w q =
-    let line : Wrote b c (mixed_text how.holes (first_mixed how.detail p bytes)) = rw (← is) q in
-    Wrote-trans a b c (lost_by how (buffering p) bytes) (mixed_text how.holes (first_mixed how.detail p bytes)) w line
+lossy_done tell how p bytes mixed a b c is w q =
+    let line : Wrote b c (mixed_text_in tell how.holes (first_mixed how.detail p bytes)) = rw (← is) q in
+    Wrote-trans a b c (lost_by_in tell how (buffering p) bytes) (mixed_text_in tell how.holes (first_mixed how.detail p bytes)) w line

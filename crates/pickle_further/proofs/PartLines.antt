@@ -11,7 +11,7 @@ use Rattle.pickle_show.specs.Calls.{counted_text}
 use Rattle.pickle_further.specs.declared.way.Way.{Way}
 use Rattle.pickle_further.specs.declared.seek.Sought.TheVariants as sought
 use Rattle.pickle_further.specs.Leads.{event_leads}
-use Rattle.pickle_further.specs.Going.{Standing, Going, going, Tale, tale_over, tale_after, tale, stands_after, search}
+use Rattle.pickle_further.specs.Going.{Standing, Going, going, Tale, tale_over, tale_after, tale, tale_in, stands_after, search}
 use Rattle.pickle_further.specs.Laws.{BeginsAtLine, PartsBeginAtLines}
 
 -- an item without an event adds nothing
@@ -37,7 +37,7 @@ carried holes n w p next None e h = ap (λ (t : Tale). t.lines.text) e ∙ h
 -- one item, by its event and by why it ends there
 one_item : (holes : List Hole) (n : ℕ) (w : Way) (p : Standing) (e : Option Event) (c : Option Closing) → (going w p).gone.event ≡ e → (going w p).gone.closing ≡ c
     → BeginsAtLine holes n w (stands_after p (going w p)) (search sought.Event n w (stands_after p (going w p))) → BeginsAtLine holes (suc n) w p (search sought.Event (suc n) w p)
-unfolding tale search
+unfolding tale_in search
 one_item holes n w p (Some x) c is closes more =
     let after : Option Standing = search sought.Event n w (stands_after p (going w p)) in
     let found : search sought.Event (suc n) w p ≡ Some p = ap (λ (y : Option Event). if is_some y then Some p else (if is_some (going w p).gone.closing then None else after)) is in
@@ -60,7 +60,7 @@ one_item holes n w p None None is closes more =
     subst (BeginsAtLine holes (suc n) w p) (sym on) (carried holes n w p (stands_after p g) after (here ∙ nothing_added (tale holes n w (stands_after p g))) more)
 
 no_items : (holes : List Hole) (w : Way) (p : Standing) → BeginsAtLine holes 0 w p (search sought.Event 0 w p)
-unfolding tale search
+unfolding tale_in search
 no_items holes w p = refl
 
 begins : (holes : List Hole) (n : ℕ) (w : Way) (p : Standing) → BeginsAtLine holes n w p (search sought.Event n w p)

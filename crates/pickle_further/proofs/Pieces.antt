@@ -11,19 +11,20 @@ use Rattle.pickle_show.specs.declared.stop.TextStop.{TextStop}
 use Rattle.pickle_show.specs.declared.stop.TextStop.TheVariants as stop
 use Rattle.pickle_further.specs.declared.way.Pickles.{Pickles}
 use Rattle.pickle_further.specs.declared.way.Pickles.TheVariants as pickles
-use Rattle.pickle_further.specs.CallsText.{CutsText, PutsText, IsCallsText, CutsCallsText, document_calls, kept_calls}
+use Rattle.pickle_further.specs.Parts.{Wording}
+use Rattle.pickle_further.specs.CallsText.{CutsText, PutsText, IsCallsTextIn, CutsCallsTextIn, document_calls_in, kept_calls_in}
 
 -- nothing is written yet
 pub nothing_written : (a : Told) (text : List ℕ) → CutsText a a text stop.Memory
 nothing_written a text = (text, WroteAllBut-none a text)
 
-some_text : (how : Manner) (p : Pickles) (bytes : List ℕ) → AreBytes bytes → (o : Output) × IsCallsText how p bytes o
-some_text how pickles.First bytes are = let d = some_document false false bytes are in (document_calls how pickles.First d.0, (d.0, d.1, refl))
-some_text how pickles.All bytes are = let d = some_document true false bytes are in (document_calls how pickles.All d.0, (d.0, d.1, refl))
-some_text how pickles.OneMemo bytes are = (kept_calls how bytes, refl)
+some_text : (tell : Wording) (how : Manner) (p : Pickles) (bytes : List ℕ) → AreBytes bytes → (o : Output) × IsCallsTextIn tell how p bytes o
+some_text tell how pickles.First bytes are = let d = some_document false false bytes are in (document_calls_in tell how pickles.First d.0, (d.0, d.1, refl))
+some_text tell how pickles.All bytes are = let d = some_document true false bytes are in (document_calls_in tell how pickles.All d.0, (d.0, d.1, refl))
+some_text tell how pickles.OneMemo bytes are = (kept_calls_in tell how bytes, refl)
 
-pub no_text_yet : (how : Manner) (p : Pickles) (bytes : List ℕ) (a : Told) → AreBytes bytes → CutsCallsText how p bytes a a stop.Memory
-no_text_yet how p bytes a are = let o = some_text how p bytes are in (o.0, o.1, nothing_written a o.0.text)
+pub no_text_yet : (tell : Wording) (how : Manner) (p : Pickles) (bytes : List ℕ) (a : Told) → AreBytes bytes → CutsCallsTextIn tell how p bytes a a stop.Memory
+no_text_yet tell how p bytes a are = let o = some_text tell how p bytes are in (o.0, o.1, nothing_written a o.0.text)
 
 -- ---- a text of pieces
 

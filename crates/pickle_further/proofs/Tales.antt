@@ -18,15 +18,16 @@ use Rattle.pickle_show.specs.declared.naming.Naming.{Naming}
 use Rattle.pickle_show.specs.declared.stop.TextStop.{TextStop}
 use Rattle.pickle_show.specs.declared.stop.TextStop.TheVariants as stop
 use Rattle.pickle_show.specs.Naming.{naming_after}
-use Rattle.pickle_show.specs.CallsLine.{line_of, imports_of, calls_of}
-use Rattle.pickle_show.specs.Calls.{CountedText, counted_text}
+use Rattle.pickle_show.specs.CallsLine.{imports_of, calls_of}
+use Rattle.pickle_show.specs.Telling.{Telling}
+use Rattle.pickle_show.specs.Calls.{CountedText, counted_in}
 use Rattle.pickle_show.proofs.Walking.{few_imports, few_calls}
 use Rattle.pickle_further.specs.declared.way.Way.{Way}
 use Rattle.pickle_further.specs.declared.way.Spot.{Spot}
 use Rattle.pickle_further.specs.declared.going.Gone.{Gone}
 use Rattle.pickle_further.specs.Leads.{or_first, event_leads}
 use Rattle.pickle_further.proofs.Leading.{or_first_assoc, or_first_none}
-use Rattle.pickle_further.specs.Going.{Standing, going, stands_after, spot_after, Tale, tale_over, tale_after, tale}
+use Rattle.pickle_further.specs.Going.{Standing, going, stands_after, spot_after, Tale, tale_over, tale_after, tale_in}
 use Rattle.pickle_further.specs.CallsText.{CutsText}
 use Rattle.pickle_further.specs.Inside.{standing, Goes, here, tale_here, ended, WroteTale, InTale}
 
@@ -89,51 +90,51 @@ no_some : (c : Closing) → None ≡ Some c → ⊥
 no_some c e = cc
 
 -- it ends after this item
-pub ends_here : (holes : List Hole) (n : ℕ) (w : Way) (p : Standing) (gone : Gone) (c : Closing) → ended gone n p.at.offset ≡ Some c
-    → tale_here holes n w p gone ≡ tale_after (counted_text (in_file holes p.at.offset) p.naming p.state.heap gone.event) (event_leads p.state.heap gone.event) (tale_over c)
-unfolding tale
-ends_here holes n w p gone c e = ap (tale_after (counted_text (in_file holes p.at.offset) p.naming p.state.heap gone.event) (event_leads p.state.heap gone.event)) (go (n == 0) refl gone.closing e)
+pub ends_here : (say : Telling) (holes : List Hole) (n : ℕ) (w : Way) (p : Standing) (gone : Gone) (c : Closing) → ended gone n p.at.offset ≡ Some c
+    → tale_here say holes n w p gone ≡ tale_after (counted_in say (in_file holes p.at.offset) p.naming p.state.heap gone.event) (event_leads p.state.heap gone.event) (tale_over c)
+unfolding tale_in
+ends_here say holes n w p gone c e = ap (tale_after (counted_in say (in_file holes p.at.offset) p.naming p.state.heap gone.event) (event_leads p.state.heap gone.event)) (go (n == 0) refl gone.closing e)
   where
     go : (b : Bool) → (n == 0) ≡ b → (x : Option Closing) → option_map_or Some x (if b then Some (closing.Fault (tail.Front front.Ended) (p.at.offset + gone.size)) else None) ≡ Some c
-        → option_map_or tale_over x (tale holes n w (stands_after p (here gone p))) ≡ tale_over c
-    go true is None e = ap (λ (m : ℕ). tale holes m w (stands_after p (here gone p))) (is_zero n is) ∙ ap tale_over (inside _ c e)
+        → option_map_or tale_over x (tale_in say holes n w (stands_after p (here gone p))) ≡ tale_over c
+    go true is None e = ap (λ (m : ℕ). tale_in say holes m w (stands_after p (here gone p))) (is_zero n is) ∙ ap tale_over (inside _ c e)
     go false is None e = absurd (no_some c e)
     go b is (Some x) e = ap tale_over (inside x c e)
 
 no_none : (c : Closing) → Some c ≡ None → ⊥
 no_none c e = cc
 
-pub record GoesBehind (holes : List Hole) (n : ℕ) (w : Way) (p : Standing) (gone : Gone) : Type 0 where
+pub record GoesBehind (say : Telling) (holes : List Hole) (n : ℕ) (w : Way) (p : Standing) (gone : Gone) : Type 0 where
   pub before : ℕ
   pub count : n ≡ suc before
-  pub tale_is : tale_here holes n w p gone ≡ tale_after (counted_text (in_file holes p.at.offset) p.naming p.state.heap gone.event) (event_leads p.state.heap gone.event) (tale holes n w (stands_after p (here gone p)))
+  pub tale_is : tale_here say holes n w p gone ≡ tale_after (counted_in say (in_file holes p.at.offset) p.naming p.state.heap gone.event) (event_leads p.state.heap gone.event) (tale_in say holes n w (stands_after p (here gone p)))
 
 -- it does not
-pub goes_behind : (holes : List Hole) (n : ℕ) (w : Way) (p : Standing) (gone : Gone) → ended gone n p.at.offset ≡ None → GoesBehind holes n w p gone
-goes_behind holes n w p gone e = go n gone.closing refl e
+pub goes_behind : {say : Telling} (holes : List Hole) (n : ℕ) (w : Way) (p : Standing) (gone : Gone) → ended gone n p.at.offset ≡ None → GoesBehind say holes n w p gone
+goes_behind {say = say} holes n w p gone e = go n gone.closing refl e
   where
     go : (n : ℕ) (x : Option Closing) → gone.closing ≡ x → option_map_or Some x (if n == 0 then Some (closing.Fault (tail.Front front.Ended) (p.at.offset + gone.size)) else None) ≡ None
-        → GoesBehind holes n w p gone
+        → GoesBehind say holes n w p gone
     go zero None is e = absurd (no_none _ e)
     go (suc m) None is e = record { before = m; count = refl; tale_is = rw is refl }
     go n (Some x) is e = absurd (no_none x e)
 
 -- what the next item comes to, by the state after it
-pub next_tale : (holes : List Hole) (n : ℕ) (w : Way) (p : Standing) (gone : Gone) (t : State) → Goes (going w p) gone t
-    → tale holes (suc n) w p ≡ tale_here holes n w (standing t p.rest p.at p.naming) gone
-unfolding tale
-next_tale holes n w p gone t g = elim g.state [
+pub next_tale : (say : Telling) (holes : List Hole) (n : ℕ) (w : Way) (p : Standing) (gone : Gone) (t : State) → Goes (going w p) gone t
+    → tale_in say holes (suc n) w p ≡ tale_here say holes n w (standing t p.rest p.at p.naming) gone
+unfolding tale_in
+next_tale say holes n w p gone t g = elim g.state [
   | inl same ↦ rw (same, g.is) refl
   | inr over ↦
       let silent : (going w p).gone.event ≡ None = sym (ap (λ (x : Gone). x.event) g.is) ∙ over.silent in
       let ends : (going w p).gone.closing ≡ Some over.closing.0 = sym (ap (λ (x : Gone). x.closing) g.is) ∙ over.closing.1 in
-      rw (silent, ends, over.silent, over.closing.1) refl
+      rw (silent, ends, over.silent, over.closing.1, say.silent (in_file holes p.at.offset) p.naming (going w p).state.heap, say.silent (in_file holes p.at.offset) p.naming t.heap) refl
 ]
 
 -- ---- the loop
 
-pub record InLoop (holes : List Hole) (w : Way) (whole : Tale) (old now : Told) (s : State) (rest : List ℕ) (at : Spot) (gone : Gone) (course : Course) (found : Option ℕ) (left : ℕ) : Type 0 where
-  pub in_tale : InTale whole old now course found (tale_here holes left w (standing s rest at course.naming) gone)
+pub record InLoop (say : Telling) (holes : List Hole) (w : Way) (whole : Tale) (old now : Told) (s : State) (rest : List ℕ) (at : Spot) (gone : Gone) (course : Course) (found : Option ℕ) (left : ℕ) : Type 0 where
+  pub in_tale : InTale whole old now course found (tale_here say holes left w (standing s rest at course.naming) gone)
   pub size : gone.size ≤ length rest
   pub few : left ≤ 2 ^ 30
   pub small : length rest ≤ 2 ^ 30
@@ -148,40 +149,40 @@ abbrev pub behind : State → List ℕ → Spot → Gone → Naming → Standing
 behind s rest at gone m = standing s (drop gone.size rest) (spot_after at gone) m
 
 -- the tale is this item's line, and what comes then
-goes_in_tale : (holes : List Hole) (w : Way) (whole : Tale) (a b c : Told) (s t : State) (rest : List ℕ) (at : Spot) (gone next : Gone) (course more : Course) (found first : Option ℕ) (left m : ℕ)
-    → InTale whole a b course found (tale_here holes left w (standing s rest at course.naming) gone) → Wrote b c (line_of (in_file holes at.offset) course.naming s.heap gone.event)
+goes_in_tale : (say : Telling) (holes : List Hole) (w : Way) (whole : Tale) (a b c : Told) (s t : State) (rest : List ℕ) (at : Spot) (gone next : Gone) (course more : Course) (found first : Option ℕ) (left m : ℕ)
+    → InTale whole a b course found (tale_here say holes left w (standing s rest at course.naming) gone) → Wrote b c (say.line (in_file holes at.offset) course.naming s.heap gone.event)
     → more.imports ≡ course.imports + imports_of s.heap gone.event → more.calls ≡ course.calls + calls_of s.heap gone.event
     → more.naming ≡ naming_after gone.row (length s.heap) course.naming → first ≡ or_first found (event_leads s.heap gone.event)
     → left ≡ suc m
-    → tale_here holes left w (standing s rest at course.naming) gone ≡ tale_after (counted_text (in_file holes at.offset) course.naming s.heap gone.event) (event_leads s.heap gone.event) (tale holes left w (behind s rest at gone (naming_after gone.row (length s.heap) course.naming)))
+    → tale_here say holes left w (standing s rest at course.naming) gone ≡ tale_after (counted_in say (in_file holes at.offset) course.naming s.heap gone.event) (event_leads s.heap gone.event) (tale_in say holes left w (behind s rest at gone (naming_after gone.row (length s.heap) course.naming)))
     → Goes (going w (behind s rest at gone more.naming)) next t
-    → InTale whole a c more first (tale_here holes m w (behind t rest at gone more.naming) next)
-goes_in_tale holes w whole a b c s t rest at gone next course more found first left m k q i j naming f suc_is is g =
+    → InTale whole a c more first (tale_here say holes m w (behind t rest at gone more.naming) next)
+goes_in_tale say holes w whole a b c s t rest at gone next course more found first left m k q i j naming f suc_is is g =
     let p : Standing = behind s rest at gone more.naming in
-    let named : tale holes left w (behind s rest at gone (naming_after gone.row (length s.heap) course.naming)) ≡ tale holes left w p = ap (λ (n : Naming). tale holes left w (behind s rest at gone n)) (sym naming) in
+    let named : tale_in say holes left w (behind s rest at gone (naming_after gone.row (length s.heap) course.naming)) ≡ tale_in say holes left w p = ap (λ (n : Naming). tale_in say holes left w (behind s rest at gone n)) (sym naming) in
     let l : Option ℕ = event_leads s.heap gone.event in
-    let same_tale : tale_here holes left w (standing s rest at course.naming) gone ≡ tale_after (counted_text (in_file holes at.offset) course.naming s.heap gone.event) l (tale holes left w p) =
-    is ∙ ap (tale_after (counted_text (in_file holes at.offset) course.naming s.heap gone.event) l) named in
-    let here_is : InTale whole a b course found (tale_after (counted_text (in_file holes at.offset) course.naming s.heap gone.event) l (tale holes left w p)) = subst (InTale whole a b course found) same_tale k in
-    let line : InTale whole a c more first (tale holes left w p) = line_written whole a b c course more found first (counted_text (in_file holes at.offset) course.naming s.heap gone.event) l (tale holes left w p) here_is q i j f in
-    let then_is : tale holes left w p ≡ tale_here holes m w (behind t rest at gone more.naming) next = ap (λ (n : ℕ). tale holes n w p) suc_is ∙ next_tale holes m w p next t g in
+    let same_tale : tale_here say holes left w (standing s rest at course.naming) gone ≡ tale_after (counted_in say (in_file holes at.offset) course.naming s.heap gone.event) l (tale_in say holes left w p) =
+    is ∙ ap (tale_after (counted_in say (in_file holes at.offset) course.naming s.heap gone.event) l) named in
+    let here_is : InTale whole a b course found (tale_after (counted_in say (in_file holes at.offset) course.naming s.heap gone.event) l (tale_in say holes left w p)) = subst (InTale whole a b course found) same_tale k in
+    let line : InTale whole a c more first (tale_in say holes left w p) = line_written whole a b c course more found first (counted_in say (in_file holes at.offset) course.naming s.heap gone.event) l (tale_in say holes left w p) here_is q i j f in
+    let then_is : tale_in say holes left w p ≡ tale_here say holes m w (behind t rest at gone more.naming) next = ap (λ (n : ℕ). tale_in say holes n w p) suc_is ∙ next_tale say holes m w p next t g in
     subst (InTale whole a c more first) then_is line
 
-pub goes_round : (holes : List Hole) (w : Way) (whole : Tale) (a b c : Told) (s t : State) (rest : List ℕ) (at : Spot) (gone next : Gone) (course more : Course) (found first : Option ℕ) (left : ℕ)
-    → InLoop holes w whole a b s rest at gone course found left → Wrote b c (line_of (in_file holes at.offset) course.naming s.heap gone.event)
+pub goes_round : {say : Telling} (holes : List Hole) (w : Way) (whole : Tale) (a b c : Told) (s t : State) (rest : List ℕ) (at : Spot) (gone next : Gone) (course more : Course) (found first : Option ℕ) (left : ℕ)
+    → InLoop say holes w whole a b s rest at gone course found left → Wrote b c (say.line (in_file holes at.offset) course.naming s.heap gone.event)
     → more.imports ≡ course.imports + imports_of s.heap gone.event → more.calls ≡ course.calls + calls_of s.heap gone.event
     → more.naming ≡ naming_after gone.row (length s.heap) course.naming → first ≡ or_first found (event_leads s.heap gone.event)
     → ended gone left at.offset ≡ None
     → Goes (going w (behind s rest at gone more.naming)) next t
     → next.size ≤ length (drop gone.size rest) → length t.heap ≤ length s.heap + 2
-    → InLoop holes w whole a c t (drop gone.size rest) (spot_after at gone) next more first (left - 1)
-goes_round holes w whole a b c s t rest at gone next course more found first left k q i j naming f none g size heap =
+    → InLoop say holes w whole a c t (drop gone.size rest) (spot_after at gone) next more first (left - 1)
+goes_round {say = say} holes w whole a b c s t rest at gone next course more found first left k q i j naming f none g size heap =
     let behind = goes_behind holes left w (standing s rest at course.naming) gone none in
     let m : ℕ = behind.before in
     let less : left - 1 ≡ m = omega (arith, behind.count) in
     let shorter : length (drop gone.size rest) ≡ length rest - gone.size = length-drop gone.size rest in
     rw less (record {
-      in_tale = goes_in_tale holes w whole a b c s t rest at gone next course more found first left m k.in_tale q i j naming f behind.count behind.tale_is g;
+      in_tale = goes_in_tale say holes w whole a b c s t rest at gone next course more found first left m k.in_tale q i j naming f behind.count behind.tale_is g;
       size = size;
       few = omega (arith, k.few, behind.count);
       small = omega (arith, k.small, shorter);
@@ -193,27 +194,27 @@ goes_round holes w whole a b c s t rest at gone next course more found first lef
     })
 
 -- the line of an item after which it ends
-pub last_line : (holes : List Hole) (w : Way) (whole : Tale) (a b c : Told) (s : State) (rest : List ℕ) (at : Spot) (gone : Gone) (course more : Course) (found first : Option ℕ) (left : ℕ) (x : Closing)
-    → InLoop holes w whole a b s rest at gone course found left → Wrote b c (line_of (in_file holes at.offset) course.naming s.heap gone.event)
+pub last_line : {say : Telling} (holes : List Hole) (w : Way) (whole : Tale) (a b c : Told) (s : State) (rest : List ℕ) (at : Spot) (gone : Gone) (course more : Course) (found first : Option ℕ) (left : ℕ) (x : Closing)
+    → InLoop say holes w whole a b s rest at gone course found left → Wrote b c (say.line (in_file holes at.offset) course.naming s.heap gone.event)
     → more.imports ≡ course.imports + imports_of s.heap gone.event → more.calls ≡ course.calls + calls_of s.heap gone.event
     → first ≡ or_first found (event_leads s.heap gone.event)
     → ended gone left at.offset ≡ Some x → WroteTale a c whole (record { course = more; closing = x; leads = first })
-last_line holes w whole a b c s rest at gone course more found first left x k q i j f e =
-    tale_done whole a c more first x (line_written whole a b c course more found first (counted_text (in_file holes at.offset) course.naming s.heap gone.event) (event_leads s.heap gone.event) (tale_over x)
-    (subst (InTale whole a b course found) (ends_here holes left w (standing s rest at course.naming) gone x e) k.in_tale) q i j f)
+last_line {say = say} holes w whole a b c s rest at gone course more found first left x k q i j f e =
+    tale_done whole a c more first x (line_written whole a b c course more found first (counted_in say (in_file holes at.offset) course.naming s.heap gone.event) (event_leads s.heap gone.event) (tale_over x)
+    (subst (InTale whole a b course found) (ends_here say holes left w (standing s rest at course.naming) gone x e) k.in_tale) q i j f)
 
 -- the line is cut short
-pub item_broken : (holes : List Hole) (w : Way) (whole : Tale) (a b c : Told) (s : State) (rest : List ℕ) (at : Spot) (gone : Gone) (course : Course) (found : Option ℕ) (left : ℕ)
-    → InLoop holes w whole a b s rest at gone course found left → Broke b c (line_of (in_file holes at.offset) course.naming s.heap gone.event) → Broke a c whole.lines.text
-item_broken holes w whole a b c s rest at gone course found left k q =
-    line_broken whole a b c course found (counted_text (in_file holes at.offset) course.naming s.heap gone.event) (event_leads s.heap gone.event) _ k.in_tale q
+pub item_broken : {say : Telling} (holes : List Hole) (w : Way) (whole : Tale) (a b c : Told) (s : State) (rest : List ℕ) (at : Spot) (gone : Gone) (course : Course) (found : Option ℕ) (left : ℕ)
+    → InLoop say holes w whole a b s rest at gone course found left → Broke b c (say.line (in_file holes at.offset) course.naming s.heap gone.event) → Broke a c whole.lines.text
+item_broken {say = say} holes w whole a b c s rest at gone course found left k q =
+    line_broken whole a b c course found (counted_in say (in_file holes at.offset) course.naming s.heap gone.event) (event_leads s.heap gone.event) _ k.in_tale q
 
 -- memory runs out behind the line of an item
-pub memory_behind : (holes : List Hole) (w : Way) (whole : Tale) (a b c : Told) (s : State) (rest : List ℕ) (at : Spot) (gone : Gone) (course : Course) (found : Option ℕ) (left : ℕ)
-    → InLoop holes w whole a b s rest at gone course found left → Wrote b c (line_of (in_file holes at.offset) course.naming s.heap gone.event)
+pub memory_behind : {say : Telling} (holes : List Hole) (w : Way) (whole : Tale) (a b c : Told) (s : State) (rest : List ℕ) (at : Spot) (gone : Gone) (course : Course) (found : Option ℕ) (left : ℕ)
+    → InLoop say holes w whole a b s rest at gone course found left → Wrote b c (say.line (in_file holes at.offset) course.naming s.heap gone.event)
     → CutsText a c whole.lines.text stop.Memory
-memory_behind holes w whole a b c s rest at gone course found left k q =
-    let e : CountedText = counted_text (in_file holes at.offset) course.naming s.heap gone.event in
+memory_behind {say = say} holes w whole a b c s rest at gone course found left k q =
+    let e : CountedText = counted_in say (in_file holes at.offset) course.naming s.heap gone.event in
     let more : Course = record { imports = course.imports + e.imports; calls = course.calls + e.calls; naming = course.naming; left = course.left } in
     let l : Option ℕ = event_leads s.heap gone.event in
     memory_stops whole a c more (or_first found l) _ (line_written whole a b c course more found (or_first found l) e l _ k.in_tale q refl refl refl)

@@ -33,7 +33,8 @@ use Rattle.pickle_show.specs.declared.event.Event.TheVariants as event
 use Rattle.pickle_show.specs.declared.naming.Naming.{Naming}
 use Rattle.pickle_show.specs.Naming.{naming_after}
 use Rattle.pickle_show.specs.Event.{before_of, event_of}
-use Rattle.pickle_show.specs.Calls.{CountedText, counted_text}
+use Rattle.pickle_show.specs.Telling.{Telling, for_people}
+use Rattle.pickle_show.specs.Calls.{CountedText, counted_in}
 use Rattle.pickle_further.specs.declared.way.Pickles.{Pickles}
 use Rattle.pickle_further.specs.declared.way.Pickles.TheVariants as pickles
 use Rattle.pickle_further.specs.declared.way.Way.{Way}
@@ -163,18 +164,25 @@ tale_after e l t =
     }
 
 -- an item, and unless it ended there what comes then
-abbrev pub tale_with : List Hole → Standing → Going → Tale → Tale
-tale_with holes p g more =
-    tale_after (counted_text (in_file holes p.at.offset) p.naming g.state.heap g.gone.event) (event_leads g.state.heap g.gone.event)
+abbrev pub tale_with : Telling → List Hole → Standing → Going → Tale → Tale
+tale_with say holes p g more =
+    tale_after (counted_in say (in_file holes p.at.offset) p.naming g.state.heap g.gone.event) (event_leads g.state.heap g.gone.event)
     (option_map_or tale_over g.gone.closing more)
 
 -- at most n items: more than there are bytes there are not
-unfoldable pub tale : List Hole → ℕ → Way → Standing → Tale
-tale holes zero w p = tale_over (closing.Fault (tail.Front front.Ended) p.at.offset)
-tale holes (suc n) w p = tale_with holes p (going w p) (tale holes n w (stands_after p (going w p)))
+unfoldable pub tale_in : Telling → List Hole → ℕ → Way → Standing → Tale
+tale_in say holes zero w p = tale_over (closing.Fault (tail.Front front.Ended) p.at.offset)
+tale_in say holes (suc n) w p = tale_with say holes p (going w p) (tale_in say holes n w (stands_after p (going w p)))
+
+abbrev pub tale_from : Telling → List Hole → Way → Standing → Tale
+tale_from say holes w p = tale_in say holes (suc (length p.rest)) w p
+
+-- the same as lines for people
+abbrev pub tale : List Hole → ℕ → Way → Standing → Tale
+tale holes n w p = tale_in for_people holes n w p
 
 abbrev pub tale_of : List Hole → Way → Standing → Tale
-tale_of holes w p = tale holes (suc (length p.rest)) w p
+tale_of holes w p = tale_from for_people holes w p
 
 -- ---- the first item of a kind
 

@@ -12,6 +12,7 @@ use Rattle.pickle_show.specs.declared.course.Course.{Course}
 use Rattle.pickle_show.specs.declared.calls.Ran.{Ran}
 use Rattle.pickle_show.specs.declared.naming.Naming.{Naming}
 use Rattle.pickle_show.specs.declared.naming.Detail.{Detail}
+use Rattle.pickle_show.specs.Telling.{Telling}
 use Rattle.pickle_show.specs.Naming.{begin}
 use Rattle.pickle_show.specs.declared.report.Closing.{Closing}
 use Rattle.pickle_show.specs.declared.report.Closing.TheVariants as closing
@@ -22,7 +23,7 @@ use Rattle.pickle_further.specs.declared.going.Gone.{Gone}
 use Rattle.pickle_further.specs.declared.seek.Visited.{Visited}
 use Rattle.pickle_further.specs.declared.seek.Sought.TheVariants as sought
 use Rattle.pickle_further.specs.Leads.{or_first}
-use Rattle.pickle_further.specs.Going.{Standing, Going, going, Tale, tale, tale_with, stands_after, nothing, search_from}
+use Rattle.pickle_further.specs.Going.{Standing, Going, going, Tale, tale_in, tale_with, stands_after, nothing, search_from}
 
 abbrev pub standing : State → List ℕ → Spot → Naming → Standing
 standing s rest at naming = record { state = s; rest = rest; at = at; naming = naming }
@@ -66,12 +67,12 @@ EndsAtFault stop.Memory offset gone = ⊥
 abbrev pub here : Gone → Standing → Going
 here gone p = record { gone = gone; state = p.state }
 
-abbrev pub tale_here : List Hole → ℕ → Way → Standing → Gone → Tale
-tale_here holes n w p gone = tale_with holes p (here gone p) (tale holes n w (stands_after p (here gone p)))
+abbrev pub tale_here : Telling → List Hole → ℕ → Way → Standing → Gone → Tale
+tale_here say holes n w p gone = tale_with say holes p (here gone p) (tale_in say holes n w (stands_after p (here gone p)))
 
 -- the same of all items behind it
-abbrev pub tale_at : List Hole → Way → Standing → Gone → Tale
-tale_at holes w p gone = tale_here holes (length p.rest) w p gone
+abbrev pub tale_at : Telling → List Hole → Way → Standing → Gone → Tale
+tale_at say holes w p gone = tale_here say holes (length p.rest) w p gone
 
 -- why it ends after this item, n being how many more may come
 abbrev pub ended : Gone → ℕ → ℕ → Option Closing

@@ -124,14 +124,14 @@ or_first None next = next
 abbrev pub if_leads : Bool → ℕ → Option ℕ
 if_leads b id = if b then Some id else None
 
--- the first of the first n objects
-unfoldable pub first_of : List Object → ℕ → Option ℕ
-first_of heap zero = None
-first_of heap (suc n) = or_first (first_of heap n) (if_leads (leads_at heap n) n)
+-- the first of the first n of which this is true
+unfoldable pub first_of : (ℕ → Bool) → ℕ → Option ℕ
+first_of is zero = None
+first_of is (suc n) = or_first (first_of is n) (if_leads (is n) n)
 
 -- the first of all objects
 abbrev pub first_leading : List Object → Option ℕ
-first_leading heap = first_of heap (length heap)
+first_leading heap = first_of (leads_at heap) (length heap)
 
 -- the object that an event makes
 abbrev pub event_leads : List Object → Option Event → Option ℕ

@@ -1,5 +1,6 @@
 -- The definitions that contracts cite.
 pub mod Leads
+pub mod Deep
 pub mod Splits
 pub mod Going
 pub mod Far

@@ -11,7 +11,7 @@ use crate::way::{Spot, Way};
 use pickle_doc::TailFault;
 use pickle_io::{Holes, Page};
 use pickle_ops::{FrontFault, ObjId};
-use pickle_show::{Closing, Course, Naming, TextStop, write_line};
+use pickle_show::{Closing, Course, Naming, Teller, TextStop};
 use std::alloc::Global;
 
 /// How the lines of what loaders do end.
@@ -69,7 +69,7 @@ pub fn spot_after(at: Spot, gone: Gone) -> Spot
 }
 
 /// Writes the line of an item that was gone over, and those of what comes then: of what is left of a file without these holes.
-pub fn write_items<S: Page>(
+pub fn write_items<T: Teller, S: Page>(
     alloc: Global,
     holes: &Holes,
     way: Way,
@@ -85,9 +85,9 @@ pub fn write_items<S: Page>(
     requires heap { length machine.old.state.heap + 2 * length bytes.now ≤ 2 ^ 32 - 8 }
     requires offset { from.offset ≤ 2 ^ 31 }
     requires place { from.place ≤ 2 ^ 31 }
-    ensures ok { IfOk result (WroteTale (S.told page.old) (S.told page.new) (tale_at holes.now way (standing machine.old.state bytes.now from naming) first)) }
+    ensures ok { IfOk result (WroteTale (S.told page.old) (S.told page.new) (tale_at T.telling holes.now way (standing machine.old.state bytes.now from naming) first)) }
     ensures err { IfErr result (CutsText (S.told page.old) (S.told page.new)
-        (tale_at holes.now way (standing machine.old.state bytes.now from naming) first).lines.text) }
+        (tale_at T.telling holes.now way (standing machine.old.state bytes.now from naming) first).lines.text) }
 {
     let mut gone = first;
     let mut rest = bytes;
@@ -96,7 +96,7 @@ pub fn write_items<S: Page>(
     let mut leads = None;
     let mut left = bytes.len();
     'items: loop {
-        write_line(holes, at.offset, course.naming, machine, gone.event, page)?;
+        T::write_step(holes, at.offset, course.naming, machine, gone.event, page)?;
         course = course.with(gone.row, machine, gone.event);
         leads = or_first(leads, event_leads(machine, gone.event));
         if let Some(closing) = ended(gone, left, at.offset) {

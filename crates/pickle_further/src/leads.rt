@@ -418,7 +418,7 @@ pub fn or_first(found: Option<ObjId>, next: Option<ObjId>) -> Option<ObjId>
 
 /// The words before the object.
 #[tactic(auto, unfolding(crate::specs::Leads::warning_words))]
-fn warning_words() -> &'static str
+pub fn warning_words() -> &'static str
     ensures { result.now ≡ warning_words }
 {
     "warning: "
@@ -434,7 +434,7 @@ fn leads_words() -> &'static str
 
 /// Writes that this object leads to the unpickler.
 #[tactic(auto, using(pickle_io::proofs::Devices::text_steps), unfolding(crate::specs::Leads::warning_line))]
-fn write_warning_line<S: Page>(id: ObjId, page: &mut S) -> Result<(), Failed>
+pub fn write_warning_line<S: Page>(id: ObjId, page: &mut S) -> Result<(), Failed>
     ensures { Writes (S.told page.old) (S.told page.new) result (warning_line id) }
 {
     write_all(page, warning_words().as_bytes())?;

@@ -6,17 +6,21 @@
 //! their own.
 #![tactic(auto)]
 
+mod deep;
 mod engine;
 mod going;
 mod laws;
 mod leads;
 mod machine;
 mod parts;
+mod people;
 mod seek;
 mod splits;
 mod texts;
 mod way;
+mod worder;
 
 pub use laws::{lines_come_first, no_line_no_reach_behind, parts_begin_at_lines};
 pub use texts::calls;
 pub use way::Pickles;
+pub use worder::Worder;

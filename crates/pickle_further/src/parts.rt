@@ -3,138 +3,25 @@
 
 ghost use Rattle.std.specs.Prelude.{◌≡◌, ◌≤◌, ◌^◌, length, Some, IfOk, IfErr};
 ghost use Rattle.std.specs.List.{list_any};
-ghost use Rattle.pickle_io.specs.Device.{Writes};
-ghost use Rattle.pickle_io.specs.Text.{◌⧺◌};
-ghost use Rattle.pickle_further.specs.Leads.{warning_text};
 ghost use Rattle.pickle_further.specs.CallsText.{PutsText};
 ghost use Rattle.pickle_further.specs.Going.{search_from};
-ghost use Rattle.pickle_further.specs.Parts.{stop_words, stop_line, ends_line, part_end, ignored_words, buffered_words, held_words, header_words, header, tale_text, part_text, text_from, found_text, is_frame_code, mixed_there, mixed_from};
+ghost use Rattle.pickle_further.specs.Parts.{wording, tale_text_in, part_text_in, text_from_in, found_text_in, is_frame_code, mixed_there, mixed_from};
 ghost use Rattle.pickle_machine.specs.State.{State};
 ghost use Rattle.pickle_show.specs.Naming.{begin};
 ghost use Rattle.pickle_further.specs.Inside.{standing, standing_begun, standing_of, loss_from, tale_at, IsGoneOver, HasRoom, Finds, FindsRoom};
 
 use crate::engine::write_items;
 use crate::going::go;
-use crate::leads::write_warning;
 use crate::machine::LoaderMachine;
 use crate::seek::{Sought, Visited, seek};
 use crate::way::{Spot, Way};
-use pickle_io::{Failed, Holes, Page, write_all};
-use pickle_lenient::Frames;
-use pickle_ops::ObjId;
-use pickle_show::{
-    Closing, Course, Detail, Naming, TextStop, closing_in, write_closing, write_totals,
-};
+use crate::worder::Worder;
+use pickle_io::{Holes, Page};
+use pickle_show::{Detail, Naming, TextStop, closing_in};
 use std::alloc::Global;
 
-/// The words of the line above what loaders may do that ignore frames.
-#[tactic(auto, unfolding(crate::specs::Parts::ignored_words))]
-fn ignored_words() -> &'static str
-    ensures { result.now ≡ ignored_words }
-{
-    "a loader may go on:"
-}
-
-/// The words of the line above what loaders may do that buffer frames.
-#[tactic(auto, unfolding(crate::specs::Parts::buffered_words))]
-fn buffered_words() -> &'static str
-    ensures { result.now ≡ buffered_words }
-{
-    "a loader that buffers frames may go on:"
-}
-
-/// The words of the line above what loaders may do that keep their buffer behind STOP.
-#[tactic(auto, unfolding(crate::specs::Parts::held_words))]
-fn held_words() -> &'static str
-    ensures { result.now ≡ held_words }
-{
-    "a loader that keeps its buffer may go on:"
-}
-
-/// The words of the line above what loaders may do.
-fn header_words(frames: Frames) -> &'static str
-    ensures { result.now ≡ header_words frames }
-{
-    match frames {
-        Frames::Ignored => ignored_words(),
-        Frames::Buffered => buffered_words(),
-        Frames::Held => held_words(),
-    }
-}
-
-/// Writes that a loader may go on.
-#[tactic(auto, using(pickle_io::proofs::Devices::text_steps), unfolding(crate::specs::Parts::header))]
-fn write_header<S: Page>(frames: Frames, page: &mut S) -> Result<(), Failed>
-    ensures { Writes (S.told page.old) (S.told page.new) result (header frames) }
-{
-    write_all(page, header_words(frames).as_bytes())?;
-    write_all(page, b"\n")
-}
-
-/// The words of the last line where it ended at STOP.
-#[tactic(auto, unfolding(crate::specs::Parts::stop_words))]
-fn stop_words() -> &'static str
-    ensures { result.now ≡ stop_words }
-{
-    "it ends: STOP"
-}
-
-/// Writes that it ended at STOP.
-#[tactic(auto, using(pickle_io::proofs::Devices::text_steps), unfolding(crate::specs::Parts::stop_line))]
-fn write_stopped<S: Page>(page: &mut S) -> Result<(), Failed>
-    ensures { Writes (S.told page.old) (S.told page.new) result stop_line }
-{
-    write_all(page, stop_words().as_bytes())?;
-    write_all(page, b"\n")
-}
-
-/// Writes how it ended.
-#[tactic(auto, using(pickle_io::proofs::Devices::text_steps), unfolding(crate::specs::Parts::ends_line))]
-fn write_ends<S: Page>(closing: Closing, page: &mut S) -> Result<(), Failed>
-    ensures { Writes (S.told page.old) (S.told page.new) result (ends_line closing) }
-{
-    match closing {
-        Closing::Stopped => write_stopped(page),
-        Closing::Refused(place, refusal) => {
-            write_all(page, b"it ends: ")?;
-            write_closing(Closing::Refused(place, refusal), page)
-        }
-        Closing::Fault(fault, offset) => {
-            write_all(page, b"it ends: ")?;
-            write_closing(Closing::Fault(fault, offset), page)
-        }
-    }
-}
-
-/// Writes how it ended, and a line where an import leads to the unpickler.
-#[tactic(auto, using(pickle_io::proofs::Devices::text_steps))]
-fn write_ends_warned<S: Page>(
-    closing: Closing,
-    leads: Option<ObjId>,
-    page: &mut S,
-) -> Result<(), Failed>
-    ensures { Writes (S.told page.old) (S.told page.new) result (ends_line closing ⧺ warning_text leads) }
-{
-    write_ends(closing, page)?;
-    write_warning(leads, page)
-}
-
-/// Writes the last lines.
-#[tactic(auto, using(pickle_io::proofs::Devices::text_steps), unfolding(crate::specs::Parts::part_end))]
-fn write_part_end<S: Page>(
-    course: Course,
-    closing: Closing,
-    leads: Option<ObjId>,
-    page: &mut S,
-) -> Result<(), Failed>
-    ensures { Writes (S.told page.old) (S.told page.new) result (part_end course.imports course.calls closing leads) }
-{
-    write_totals(course, page)?;
-    write_ends_warned(closing, leads, page)
-}
-
 /// Writes what comes to this, and the last lines.
-fn write_tale<S: Page>(
+fn write_tale<T: Worder, S: Page>(
     alloc: Global,
     holes: &Holes,
     way: Way,
@@ -144,9 +31,9 @@ fn write_tale<S: Page>(
 ) -> Result<(), TextStop>
     requires { HasRoom machine.old.state item }
     ensures { PutsText (S.told page.old) (S.told page.new)
-        (tale_text holes.now (tale_at holes.now way (standing_of machine.old.state item.entry) item.entry.gone)) result }
+        (tale_text_in (wording T.telling T.words) holes.now (tale_at T.telling holes.now way (standing_of machine.old.state item.entry) item.entry.gone)) result }
 {
-    let end = write_items(
+    let end = write_items::<T, S>(
         alloc,
         holes,
         way,
@@ -157,12 +44,12 @@ fn write_tale<S: Page>(
         machine,
         page,
     )?;
-    write_part_end(end.course, closing_in(holes, end.closing), end.leads, page)?;
+    T::write_closed(end.course, closing_in(holes, end.closing), end.leads, page)?;
     Ok(())
 }
 
 /// Writes what loaders may do from this item on, which has an event.
-fn write_part<S: Page>(
+fn write_part<T: Worder, S: Page>(
     alloc: Global,
     holes: &Holes,
     way: Way,
@@ -172,14 +59,14 @@ fn write_part<S: Page>(
 ) -> Result<(), TextStop>
     requires { HasRoom machine.old.state item }
     ensures { (s : State) → IsGoneOver way s item.entry machine.old.state
-        → PutsText (S.told page.old) (S.told page.new) (part_text holes.now way (Some (standing_of s item.entry))) result }
+        → PutsText (S.told page.old) (S.told page.new) (part_text_in (wording T.telling T.words) holes.now way (Some (standing_of s item.entry))) result }
 {
-    write_header(way.frames, page)?;
-    write_tale(alloc, holes, way, item, machine, page)
+    T::write_heading(way.frames, page)?;
+    write_tale::<T, S>(alloc, holes, way, item, machine, page)
 }
 
 /// Writes what loaders may do from this item on, where it or one behind it has an event.
-fn write_visited<S: Page>(
+fn write_visited<T: Worder, S: Page>(
     alloc: Global,
     holes: &Holes,
     way: Way,
@@ -189,16 +76,16 @@ fn write_visited<S: Page>(
 ) -> Result<(), TextStop>
     requires { HasRoom machine.old.state item }
     ensures { (s : State) → IsGoneOver way s item.entry machine.old.state
-        → PutsText (S.told page.old) (S.told page.new) (text_from holes.now way (standing_of s item.entry)) result }
+        → PutsText (S.told page.old) (S.told page.new) (text_from_in (wording T.telling T.words) holes.now way (standing_of s item.entry)) result }
 {
     match seek(alloc, way, Sought::Event, item, machine)? {
-        Some(found) => write_part(alloc, holes, way, found, machine, page),
+        Some(found) => write_part::<T, S>(alloc, holes, way, found, machine, page),
         None => Ok(()),
     }
 }
 
 /// Writes what loaders may do from here on, where an item has an event.
-pub fn write_from<S: Page>(
+pub fn write_from<T: Worder, S: Page>(
     alloc: Global,
     holes: &Holes,
     way: Way,
@@ -212,7 +99,7 @@ pub fn write_from<S: Page>(
     requires heap { length machine.old.state.heap ≤ 2 ^ 30 }
     requires offset { at.offset ≤ 2 ^ 30 }
     requires place { at.place ≤ 2 ^ 30 }
-    ensures { PutsText (S.told page.old) (S.told page.new) (text_from holes.now way (standing machine.old.state rest.now at naming)) result }
+    ensures { PutsText (S.told page.old) (S.told page.new) (text_from_in (wording T.telling T.words) holes.now way (standing machine.old.state rest.now at naming)) result }
 {
     let gone = go(alloc, way, rest, at, machine)?;
     let item = Visited {
@@ -221,7 +108,7 @@ pub fn write_from<S: Page>(
         naming,
         gone,
     };
-    write_visited(alloc, holes, way, item, machine, page)
+    write_visited::<T, S>(alloc, holes, way, item, machine, page)
 }
 
 /// The first item that is looked for, if there is one. The machine has done nothing yet.
@@ -257,7 +144,7 @@ fn first_sought<'a>(
 
 /// Writes what loaders may do from the first item on whose reading loses bytes, where it or one behind it has an event. The machine has
 /// done nothing yet.
-pub fn write_found<S: Page>(
+pub fn write_found<T: Worder, S: Page>(
     alloc: Global,
     detail: Detail,
     holes: &Holes,
@@ -269,10 +156,10 @@ pub fn write_found<S: Page>(
     requires few { length bytes.now ≤ 2 ^ 30 }
     requires heap { length machine.old.state.heap ≤ 2 ^ 30 }
     ensures { PutsText (S.told page.old) (S.told page.new)
-        (found_text holes.now way (search_from Sought.Lost way (standing_begun machine.old.state bytes.now detail))) result }
+        (found_text_in (wording T.telling T.words) holes.now way (search_from Sought.Lost way (standing_begun machine.old.state bytes.now detail))) result }
 {
     match first_sought(alloc, detail, way, Sought::Lost, bytes, machine)? {
-        Some(found) => write_visited(alloc, holes, way, found, machine, page),
+        Some(found) => write_visited::<T, S>(alloc, holes, way, found, machine, page),
         None => Ok(()),
     }
 }

@@ -30,6 +30,7 @@ use Rattle.pickle_show.specs.CallsLine.{line_of}
 use Rattle.pickle_show.specs.Listing.{reached}
 use Rattle.pickle_show.specs.Report.{refused_on}
 use Rattle.pickle_show.specs.Manner.{Manner}
+use Rattle.pickle_show.specs.Telling.{for_people}
 use Rattle.pickle_show.specs.Calls.{CountedText, CallsEnd, entry_at, is_inside, left_at, or_here, first_inside, closing_of, closing_to, kept_by, end_to, end_from, calls_end}
 use Rattle.pickle_show.specs.LineLaws.{if_any, item_lines}
 use Rattle.pickle_show.proofs.Places.{is_reached}
@@ -101,7 +102,7 @@ accepted_here how p d k s t r from to =
       there = m.there;
       goes = both.1;
       line =
-          ap (λ (c : CountedText). c.text) (entry_is how d k m.item m.before t m.there m.reached to)
+          ap (λ (c : CountedText). c.text) (entry_is for_people how d k m.item m.before t m.there m.reached to)
           ∙ sym (line_item how.holes p at m.item t r.anew moves.next)
           ∙ ap (λ (g : Going). line_gone how.holes at g) (sym both.1);
     })

@@ -7,12 +7,15 @@ use Rattle.pickle_machine.specs.State.{State}
 use Rattle.pickle_machine.specs.Move.{fresh}
 use Rattle.pickle_loader.specs.Environment.{Value, Foreign, Act, World}
 use Rattle.pickle_loader.specs.Dispatch.{Loaded, Going, Ended, Failed}
-use Rattle.pickle_loader.specs.Values.{Origin, AsLiteral, AsMade, AsAnswer, AsView, origin, IsViewOf, IsFrom, Knows}
+use Rattle.pickle_loader.specs.Values.{Origin, AsLiteral, AsMade, AsAnswer, AsView, origin, WasReadOnly, IsViewOf, IsFrom, Knows}
 use Rattle.pickle_loader.specs.Laws.{Holds}
+
+was_same : (a w : World) (acts : List Act) (v : Value) → a.readonly ≡ w.readonly → WasReadOnly a acts v → WasReadOnly w acts v
+was_same a w acts v e (before, more, split, only) = (before, more, split, sym (ap (λ (r : List Act → Value → Bool). r before v) e) ∙ only)
 
 view_same : (a w : World) (acts : List Act) (seen v : Value) → a.readonly ≡ w.readonly → IsViewOf a acts seen v → IsViewOf w acts seen v
 view_same a w acts seen v e (inl is) = inl is
-view_same a w acts seen v e (inr (t, n, is, same, memory, only)) = inr (t, n, is, same, memory, sym (ap (λ (r : List Act → Value → Bool). r acts (Foreign t n)) e) ∙ only)
+view_same a w acts seen v e (inr (t, n, is, same, memory, was)) = inr (t, n, is, same, memory, was_same a w acts (Foreign t n) e was)
 
 from_same : (a w : World) (acts : List Act) (k : Kind) (v : Value) (o : Origin) → a.readonly ≡ w.readonly → IsFrom a acts k v o → IsFrom w acts k v o
 from_same a w acts k v AsLiteral e is = is

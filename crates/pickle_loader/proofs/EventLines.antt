@@ -31,7 +31,8 @@ use Rattle.pickle_show.specs.Report.{refused_item_line, closing_line}
 use Rattle.pickle_show.specs.Manner.{Manner, closing_in, ending_in}
 use Rattle.pickle_show.specs.Output.{Output}
 use Rattle.pickle_show.specs.CallsLine.{event_text, event_line, totals_line, unsure_words, unsure_line}
-use Rattle.pickle_show.specs.Calls.{CallsEnd, naming_at, entry_on, entry_at, entries, calls_end}
+use Rattle.pickle_show.specs.Telling.{for_people}
+use Rattle.pickle_show.specs.Calls.{CallsEnd, naming_at, entry_on, entry_at, entries, calls_end, entry_in}
 use Rattle.pickle_show.specs.LineLaws.{cut_lines, if_any, item_lines, ending_pieces, last_pieces}
 use Rattle.pickle_show.proofs.LinesApart.{both_hold, first_of, rest_of}
 use Rattle.pickle_show.proofs.OneEvent.{lacks, lacks_none, lacks_joined, decimal_lacks, no_colon}
@@ -41,9 +42,10 @@ use Rattle.pickle_further.specs.declared.way.Pickles.{Pickles}
 use Rattle.pickle_further.specs.declared.way.Pickles.TheVariants as pickles
 use Rattle.pickle_further.specs.declared.way.Way.{Way}
 use Rattle.pickle_further.specs.Going.{Standing, going, stands_after, is_sought, Tale, tale_of, search, search_from}
-use Rattle.pickle_further.specs.Parts.{stop_words, stop_line, ends_line, ignored_words, buffered_words, held_words, header, ignoring, buffering, holding, are_many, is_open, standing_at, standing_first, loss_at, first_mixed, mixed_words, mixed_line, mixed_text}
+use Rattle.pickle_further.specs.Parts.{stop_words, stop_line, ends_line, ignored_words, buffered_words, held_words, header, ignoring, buffering, holding, are_many, is_open, standing_at, standing_first, loss_at, first_mixed, mixed_words, mixed_line, mixed_text, loss_words, loss_line}
 use Rattle.pickle_further.specs.Leads.{warning_words, warning_line, warning_text}
-use Rattle.pickle_further.specs.CallsText.{document_leads, loss_words, loss_line, first_loss, IsCallsText}
+use Rattle.pickle_further.specs.Deep.{deep_line, warnings_text}
+use Rattle.pickle_further.specs.CallsText.{document_leads, document_deep, document_warnings, first_loss, IsCallsText}
 use Rattle.pickle_loader.specs.Onward.{stands}
 use Rattle.pickle_loader.specs.Text.{line_gone, line_on, lines_before, all_lines, part_end_lines, part_lines, lines_from, lines_if, behind_lines, lost_lines, mixed_lines, parts_lines, document_last, document_lines, kept_first, kept_closing, kept_last, kept_parts, kept_lines, IsAmong, is_in_text}
 use Rattle.pickle_loader.specs.EventLine.{BeginsWithOffset, LacksOffset, IsStart, IsOfItem, EventLinesApart}
@@ -220,6 +222,15 @@ warning_apart : (leads : Option ℕ) → LacksOffset (warning_text leads)
 warning_apart None = lacks_colon [] refl
 warning_apart (Some id) = no_letter 119 (warning_line id) (omega arith) (warning_begins id)
 
+deep_begins : (id : ℕ) → Begins 119 (deep_line id)
+unfolding deep_line warning_words ◌⧺◌
+deep_begins id = (_, refl)
+
+warnings_apart : (leads deep : Option ℕ) → LacksOffset (warnings_text leads deep)
+warnings_apart (Some id) deep = warning_apart (Some id)
+warnings_apart None None = lacks_colon [] refl
+warnings_apart None (Some id) = no_letter 119 (deep_line id) (omega arith) (deep_begins id)
+
 mixed_apart : (holes : List Hole) (mixed : Option ℕ) → LacksOffset (mixed_text holes mixed)
 mixed_apart holes None = lacks_colon [] refl
 mixed_apart holes (Some offset) = no_letter 117 (mixed_line (in_file holes offset)) (omega arith) (mixed_begins (in_file holes offset))
@@ -315,6 +326,9 @@ no_last a bytes imports calls e h = elim (among_split a.line (if_any (begins_tex
 
 no_warning : (a : Asked) (leads : Option ℕ) → IsAmong a.line (if_any (warning_text leads)) → Answer a
 no_warning a leads h = not_asked a (warning_text leads) (warning_apart leads) (among_if a.line (warning_text leads) h)
+
+no_warnings : (a : Asked) (d : Contents) → IsAmong a.line (if_any (document_warnings d)) → Answer a
+no_warnings a d h = not_asked a (document_warnings d) (warnings_apart (document_leads d) (document_deep d)) (among_if a.line (document_warnings d) h)
 
 no_mixed : (a : Asked) (mixed : Option ℕ) → IsAmong a.line (if_any (mixed_text a.how.holes mixed)) → Answer a
 no_mixed a mixed h = not_asked a (mixed_text a.how.holes mixed) (mixed_apart a.how.holes mixed) (among_if a.line (mixed_text a.how.holes mixed) h)
@@ -418,7 +432,7 @@ unfolding stands
 stands_here w q = refl
 
 item_found : (a : Asked) (d : Contents) (k : ℕ) → IsReadSo a.pickles d → ReadsAs (are_many a.pickles) a.bytes d → (x : Option Operation) (y z : Option State) → run (start d.many) (ops_of d) k ≡ y → run (start d.many) (ops_of d) (suc k) ≡ z
-    → (entry_at a.how d k).text ≡ a.line → (entry_on (in_file a.how.holes (offset_of d k)) (naming_at a.how.detail d k) x y z).text ≡ a.line → Answer a
+    → (entry_at a.how d k).text ≡ a.line → (entry_on for_people (in_file a.how.holes (offset_of d k)) (naming_at a.how.detail d k) x y z).text ≡ a.line → Answer a
 item_found a d k r reads (Some o) (Some s) (Some t) from to e f =
     let q : Standing = standing_at a.how.detail d k s in
     let at = accepted_here a.how a.pickles d k s t r from to in
@@ -439,7 +453,7 @@ item_found a d k r reads (Some o) None z from to e f = not_asked a [] (lacks_col
 item_found a d k r reads None y z from to e f = not_asked a [] (lacks_colon [] refl) f
 
 item_at_place : (a : Asked) (d : Contents) (k : ℕ) → IsReadSo a.pickles d → ReadsAs (are_many a.pickles) a.bytes d → (entry_at a.how d k).text ≡ a.line → Answer a
-unfolding entry_at
+unfolding entry_in
 item_at_place a d k r reads e = item_found a d k r reads (item_at d k) (run (start d.many) (ops_of d) k) (run (start d.many) (ops_of d) (suc k)) refl refl e e
 
 in_items : (a : Asked) (d : Contents) (n : ℕ) → IsReadSo a.pickles d → ReadsAs (are_many a.pickles) a.bytes d → IsAmong a.line (item_lines a.how d n) → Answer a
@@ -478,9 +492,9 @@ in_document a d r reads h =
     elim (among_split a.line (items ++ document_last a.how d) (parts_lines a.how a.pickles d e) h) [
       | inl lines ↦ elim (among_split a.line items (document_last a.how d) lines) [
         | inl item ↦ in_items a d e.place r reads item
-        | inr last ↦ elim (among_split a.line (last_pieces a.how d e) (if_any (warning_text (document_leads d))) last) [
+        | inr last ↦ elim (among_split a.line (last_pieces a.how d e) (if_any (document_warnings d)) last) [
           | inl end ↦ no_last a (document_bytes d) (entries a.how d e.place).imports (entries a.how d e.place).calls (ending_in a.how.holes e.ending) end
-          | inr warning ↦ no_warning a (document_leads d) warning
+          | inr warning ↦ no_warnings a d warning
         ]
       ]
       | inr parts ↦ in_parts a d (is_open e.ending) reads parts
@@ -493,7 +507,9 @@ in_memo a mode h =
     let first : Standing = standing_first a.how.detail pickles.OneMemo a.bytes in
     let w : Way = ignoring pickles.OneMemo in
     let t : Tale = tale_of a.how.holes w first in
-    elim (among_split a.line (kept_first a.how first ++ kept_last a.how a.bytes t) (kept_parts a.how a.bytes (first_loss a.how.detail a.bytes)) h) [
+    let lossy : List (List ℕ) = kept_parts a.how a.bytes (first_loss a.how.detail a.bytes) in
+    let mixed : List (List ℕ) = mixed_lines a.how pickles.OneMemo a.bytes in
+    elim (among_split a.line (kept_first a.how first ++ kept_last a.how a.bytes t) (lossy ++ mixed) h) [
       | inl lines ↦ elim (among_split a.line (kept_first a.how first) (kept_last a.how a.bytes t) lines) [
         | inl items ↦ in_reading a w first 0 first (suc (length a.bytes)) (mode, refl) (inl (ap (λ (p : Pickles). standing_first a.how.detail p a.bytes) mode)) (stands_here w first) items
         | inr last ↦ elim (among_split a.line (kept_closing a.how a.bytes t) (if_any (warning_text t.leads)) last) [
@@ -501,7 +517,10 @@ in_memo a mode h =
           | inr warning ↦ no_warning a t.leads warning
         ]
       ]
-      | inr parts ↦ go (first_loss a.how.detail a.bytes) parts
+      | inr parts ↦ elim (among_split a.line lossy mixed parts) [
+        | inl some ↦ go (first_loss a.how.detail a.bytes) some
+        | inr last ↦ no_mixed a (first_mixed a.how.detail pickles.OneMemo a.bytes) last
+      ]
     ]
   where
     go : (x : Option ℕ) → IsAmong a.line (kept_parts a.how a.bytes x) → Answer a
@@ -541,6 +560,7 @@ event_lines_apart = record {
   unsure = unsure_apart;
   loss = loss_apart;
   warning = warning_apart;
+  warnings = warnings_apart;
   mixed = mixed_apart;
   heading = heading_apart;
   ends = ends_apart;

@@ -32,6 +32,7 @@ use Rattle.pickle_show.specs.declared.event.Event.{Event}
 use Rattle.pickle_show.specs.Event.{before_of, made_as, event_of}
 use Rattle.pickle_show.specs.CallsLine.{line_of}
 use Rattle.pickle_show.specs.Manner.{Manner}
+use Rattle.pickle_show.specs.Telling.{for_people}
 use Rattle.pickle_show.specs.Calls.{CountedText, naming_at, entry_at, left_on, left_at, calls_end}
 use Rattle.pickle_show.proofs.Walking.{entry_is}
 use Rattle.pickle_further.specs.declared.way.Pickles.TheVariants as pickles
@@ -79,7 +80,7 @@ stop_line_none how d k t o to here stop =
     let leads : next_of row.Stop (kind_of m.item) k (fresh m.before) ≡ t = ap (λ (r : Row). next_of r (kind_of m.item) k (fresh m.before)) (sym is) ∙ m.leads in
     let none : event_of (row_of m.item) (before_of (fresh m.before)) t ≡ None =
     ap (λ (r : Row). event_of r (before_of (fresh m.before)) t) is ∙ stop_makes_none (kind_of m.item) k (fresh m.before) t leads in
-    ap (λ (c : CountedText). c.text) (entry_is how d k m.item m.before t m.there m.reached to) ∙ ap (line_of (in_file how.holes (offset_of d k)) (naming_at how.detail d k) t.heap) none
+    ap (λ (c : CountedText). c.text) (entry_is for_people how d k m.item m.before t m.there m.reached to) ∙ ap (line_of (in_file how.holes (offset_of d k)) (naming_at how.detail d k) t.heap) none
   where
     one_item : (x : Option Operation) (a b : Operation) → x ≡ Some a → x ≡ Some b → a ≡ b
     one_item x a b e f = cc

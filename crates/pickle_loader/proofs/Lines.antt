@@ -26,7 +26,8 @@ use Rattle.pickle_show.specs.declared.report.Closing.{Closing}
 use Rattle.pickle_io.specs.Holes.{in_file}
 use Rattle.pickle_show.specs.Manner.{Manner}
 use Rattle.pickle_show.specs.declared.naming.Naming.{Naming}
-use Rattle.pickle_show.specs.Calls.{naming_at, entry_on, entry_at, first_inside, closing_to, kept_by, end_to, end_from, end_by, calls_end, calls}
+use Rattle.pickle_show.specs.Telling.{for_people}
+use Rattle.pickle_show.specs.Calls.{naming_at, entry_on, entry_at, first_inside, closing_to, kept_by, end_to, end_from, end_by, calls_end, calls, entry_in, calls_in}
 use Rattle.pickle_loader.specs.Environment.{Value, Act, World}
 use Rattle.pickle_loader.specs.Listed.{listed, listed_of, acts_listed, listed_on, listed_at, protocol_at}
 use Rattle.pickle_loader.specs.Laws.{Follows, ActsHaveLines, AllListed, NoLineNoAct}
@@ -45,14 +46,14 @@ event_tells : (V : ℕ → Value) (proto offset : ℕ) (m : Naming) (s t : State
 event_tells V proto offset m s t None h = refl
 event_tells V proto offset m s t (Some e) h = absurd (omega (arith, long offset m t.heap e, ap length h))
 
-item_tells : (V : ℕ → Value) (proto offset : ℕ) (m : Naming) (x : Option Operation) (y z : Option State) → (entry_on offset m x y z).text ≡ [] → listed_on V proto x y z ≡ []
+item_tells : (V : ℕ → Value) (proto offset : ℕ) (m : Naming) (x : Option Operation) (y z : Option State) → (entry_on for_people offset m x y z).text ≡ [] → listed_on V proto x y z ≡ []
 item_tells V proto offset m (Some o) (Some s) (Some t) h = event_tells V proto offset m (fresh s) t (event_of (row_of o) (before_of (fresh s)) t) h
 item_tells V proto offset m (Some o) (Some s) None h = refl
 item_tells V proto offset m (Some o) None z h = refl
 item_tells V proto offset m None y z h = refl
 
 pub acts_have_lines : ActsHaveLines
-unfolding listed_at entry_at
+unfolding listed_at entry_in
 acts_have_lines how V d k some = λ none. some (item_tells V (protocol_at (ops_of d) k) (in_file how.holes (offset_of d k)) (naming_at how.detail d k) (item_at d k) (run (start d.many) (ops_of d) k) (run (start d.many) (ops_of d) (suc k)) none)
 
 -- ---- status 0
@@ -85,7 +86,7 @@ zero_by d k s None is here e =
 
 pub zero_end : (how : Manner) (d : Contents) (k : ℕ) (s : State) → reached (start d.many) (ops_of d) (length (ops_of d)) ≡ k → run (start d.many) (ops_of d) k ≡ Some s → (calls how d).status ≡ 0
     → (first_inside d k ≡ None) × (closing_status (closing_to d k (refused_on (item_at d k) s)) ≡ 0) × ((kept_by d (closing_to d k (refused_on (item_at d k) s)) == 0) ≡ true)
-unfolding calls calls_end
+unfolding calls_in calls_end
 zero_end how d k s e here nought =
     let z : ending_status (end_by d k).ending ≡ 0 = sym (ap (λ (n : ℕ). ending_status (end_by d n).ending) e) ∙ nought in
     zero_by d k s (first_inside d k) refl here z
@@ -121,7 +122,7 @@ all_listed how w d formed status =
 -- ---- no line, no act
 
 listed_same : (how : Manner) (V : ℕ → Value) (d : Contents) (k : ℕ) → (entry_at how d k).text ≡ [] → listed V d.many (ops_of d) (suc k) ≡ listed V d.many (ops_of d) k
-unfolding listed listed_at entry_at
+unfolding listed listed_at entry_in
 listed_same how V d k none =
     ap (λ (l : List Act). listed V d.many (ops_of d) k ++ l)
     (item_tells V (protocol_at (ops_of d) k) (in_file how.holes (offset_of d k)) (naming_at how.detail d k) (item_at d k) (run (start d.many) (ops_of d) k) (run (start d.many) (ops_of d) (suc k)) none)

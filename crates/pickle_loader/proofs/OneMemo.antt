@@ -26,14 +26,14 @@ use Rattle.pickle_further.specs.declared.way.Pickles.{Pickles}
 use Rattle.pickle_further.specs.declared.way.Pickles.TheVariants as pickles
 use Rattle.pickle_further.specs.declared.way.Way.{Way}
 use Rattle.pickle_further.specs.Going.{Standing, Going, used_op, moved_so, gone_to, gone_by, tale_of, going}
-use Rattle.pickle_further.specs.Parts.{ignoring, buffering, holding, are_many, standing_first, loss_at}
-use Rattle.pickle_further.specs.CallsText.{document_calls, loss_line, first_loss, kept_status, tale_calls, kept_calls, IsCallsText}
+use Rattle.pickle_further.specs.Parts.{ignoring, buffering, holding, are_many, standing_first, loss_at, first_mixed, loss_line}
+use Rattle.pickle_further.specs.CallsText.{document_calls, first_loss, kept_status, tale_calls, kept_calls, IsCallsText, kept_calls_in}
 use Rattle.pickle_loader.specs.Environment.{Value, Act}
 use Rattle.pickle_loader.specs.Dispatch.{acts_of}
 use Rattle.pickle_loader.specs.Listed.{listed_of}
 use Rattle.pickle_loader.specs.Onward.{stands, state_behind, begins_anew, acts_before, unbuffered, NoneLost, IsFound, load_way}
 use Rattle.pickle_loader.specs.CLoad.{as_in_c}
-use Rattle.pickle_loader.specs.Text.{line_gone, lines_if, lost_lines, document_lines, kept_first, kept_last, kept_parts, kept_lines, IsAmong, way_of, is_in_text, OneWholeText, EachReachHasItsLine}
+use Rattle.pickle_loader.specs.Text.{line_gone, lines_if, lost_lines, mixed_lines, document_lines, kept_first, kept_last, kept_parts, kept_lines, IsAmong, way_of, is_in_text, OneWholeText, EachReachHasItsLine}
 use Rattle.pickle_loader.specs.OneMemo.{NothingElseWithOneMemo, NothingElseWithOneMemoInC}
 use Rattle.pickle_loader.proofs.Bytes.{joined}
 use Rattle.pickle_loader.proofs.Losses.{loss_is_found}
@@ -68,7 +68,7 @@ abbrev pub Memo : Manner → List ℕ → Standing
 Memo how bytes = standing_first how.detail pickles.OneMemo bytes
 
 pub no_loss : (how : Manner) (bytes : List ℕ) (o : Output) → o ≡ kept_calls how bytes → o.status ≡ 0 → loss_at how.detail (buffering pickles.OneMemo) bytes ≡ None
-unfolding kept_calls
+unfolding kept_calls_in
 no_loss how bytes o e status = go (loss_at how.detail (buffering pickles.OneMemo) bytes) refl
   where
     rest : ℕ
@@ -77,7 +77,7 @@ no_loss how bytes o e status = go (loss_at how.detail (buffering pickles.OneMemo
     go : (x : Option Standing) → loss_at how.detail (buffering pickles.OneMemo) bytes ≡ x → loss_at how.detail (buffering pickles.OneMemo) bytes ≡ None
     go None is = is
     go (Some q) is =
-        let one : 1 ≡ 0 = sym (ap (λ (x : Option Standing). kept_status (option_map (λ (p : Standing). p.at.offset) x) rest) is) ∙ ap (λ (x : Output). x.status) (sym e) ∙ status in
+        let one : 1 ≡ 0 = sym (ap (λ (x : Option Standing). kept_status (option_map (λ (p : Standing). p.at.offset) x) (first_mixed how.detail pickles.OneMemo bytes) rest) is) ∙ ap (λ (x : Output). x.status) (sym e) ∙ status in
         absurd (omega (arith, one))
 
 pub nothing_lost : (how : Detail) (bytes : List ℕ) → loss_at how (buffering pickles.OneMemo) bytes ≡ None → (f : Frames) (n : ℕ) → NoneLost (way_of pickles.OneMemo f) (standing_first how pickles.OneMemo bytes) n
@@ -130,7 +130,7 @@ memo_ignoring how bytes n q there ev =
     let p : Standing = Memo how bytes in
     let line : List ℕ = line_gone how.holes q (going w q) in
     let last : List (List ℕ) = kept_last how bytes (tale_of how.holes w p) in
-    among_left line (kept_first how p ++ last) (kept_parts how bytes (first_loss how.detail bytes))
+    among_left line (kept_first how p ++ last) (kept_parts how bytes (first_loss how.detail bytes) ++ mixed_lines how pickles.OneMemo bytes)
     (among_left line (kept_first how p) last (among_before how.holes w p n (suc (length bytes)) q (omega (arith, few w p n q there)) there (line_some how.holes q (going w q) ev.0 ev.1)))
 
 -- where bytes are lost, both parts are there
@@ -140,8 +140,10 @@ memo_parts how bytes q line is h =
     let p : Standing = Memo how bytes in
     let both : List (List ℕ) = lost_lines how (buffering pickles.OneMemo) bytes ++ lost_lines how (holding pickles.OneMemo) bytes in
     let parts : IsAmong line (kept_parts how bytes (Some q.at.offset)) = among_right line (loss_line (in_file how.holes q.at.offset) ∷ []) both h in
-    among_right line (kept_first how p ++ kept_last how bytes (tale_of how.holes (ignoring pickles.OneMemo) p)) (kept_parts how bytes (first_loss how.detail bytes))
-    (subst (λ (x : Option Standing). IsAmong line (kept_parts how bytes (option_map (λ (y : Standing). y.at.offset) x))) (sym is) parts)
+    let lossy : List (List ℕ) = kept_parts how bytes (first_loss how.detail bytes) in
+    let mixed : List (List ℕ) = mixed_lines how pickles.OneMemo bytes in
+    among_right line (kept_first how p ++ kept_last how bytes (tale_of how.holes (ignoring pickles.OneMemo) p)) (lossy ++ mixed)
+    (among_left line lossy mixed (subst (λ (x : Option Standing). IsAmong line (kept_parts how bytes (option_map (λ (y : Standing). y.at.offset) x))) (sym is) parts))
 
 memo_lost : (how : Manner) (f : Frames) (bytes : List ℕ) (n : ℕ) (q : Standing) (x : Option Standing) → loss_at how.detail (buffering pickles.OneMemo) bytes ≡ x → IsBehindLoss how.detail (way_of pickles.OneMemo f) bytes n q → HasEvent (way_of pickles.OneMemo f) q
     → IsAmong (line_gone how.holes q (going (way_of pickles.OneMemo f) q)) (kept_lines how bytes)

@@ -4,7 +4,7 @@ use Rattle.std.specs.Prelude.{slice_get, ◌||◌, if◌then◌else◌}
 use Rattle.std.specs.Option.{unwrap_or, option_map_or}
 use Rattle.std.proofs.lemmas.Bool.{cases_lt}
 use Rattle.std.proofs.lemmas.Option.{slice_get_within}
-use Rattle.std.proofs.lemmas.List.{map-append, append-nil}
+use Rattle.std.proofs.lemmas.List.{map-append, append-nil, append_assoc}
 use Rattle.pickle_doc.proofs.Lists.{get-within}
 use Rattle.pickle_ops.specs.declared.kind.Kind.{Kind}
 use Rattle.pickle_ops.specs.declared.kind.Kind.TheVariants as kind
@@ -18,10 +18,10 @@ use Rattle.pickle_machine.proofs.Shown.{last_of_more}
 use Rattle.pickle_show.specs.declared.event.Event.TheVariants as event
 use Rattle.pickle_show.specs.Event.{made_event, made_as, is_shown, is_view}
 use Rattle.pickle_show.proofs.Steps.{some_same, none_made}
-use Rattle.pickle_loader.specs.Environment.{PyType, PyTuple, PyList, PyDict, PySet, PyFrozenSet, PyByteArray, PyMemoryView, Value, Plain, Own, Foreign, Act, Make, Reply, Raises, Answers, World}
+use Rattle.pickle_loader.specs.Environment.{PyType, PyTuple, PyList, PyDict, PySet, PyFrozenSet, PyByteArray, PyMemoryView, Value, Plain, Own, Foreign, Act, Make, View, Reply, Raises, Answers, World}
 use Rattle.pickle_loader.specs.Unpickler.{Step, Ran, Stopped, Raised, item, append, answered, has_memory}
 use Rattle.pickle_loader.specs.Listed.{listed_of, making, acts_listed}
-use Rattle.pickle_loader.specs.Values.{Origin, AsLiteral, AsMade, AsAnswer, AsView, origin, IsViewOf, IsFrom, Knows}
+use Rattle.pickle_loader.specs.Values.{Origin, AsLiteral, AsMade, AsAnswer, AsView, origin, WasReadOnly, IsViewOf, IsFrom, Knows}
 use Rattle.pickle_loader.specs.Laws.{IsResult}
 use Rattle.pickle_loader.proofs.Images.{image, listed-append}
 
@@ -46,10 +46,14 @@ StandsAs w acts class.Set v = (n : ℕ) × (v ≡ Own PySet n)
 StandsAs w acts class.ReadOnly v = IsRead w acts v
 StandsAs w acts class.ByteArray v = (n : ℕ) × (v ≡ Own PyByteArray n)
 
+-- what could only be read when READONLY_BUFFER looked at it stays so
+stays_read : (w : World) (acts : List Act) (v : Value) → WasReadOnly w acts v → w.readonly acts v ≡ true
+stays_read w acts v (before, more, split, only) = subst (λ (l : List Act). w.readonly l v ≡ true) (sym split) (w.stays_readonly before more v only)
+
 -- a view can only be read
 pub view_reads : (w : World) (acts : List Act) (seen v : Value) → IsViewOf w acts seen v → IsRead w acts v
 view_reads w acts seen v (inl own) = inr (inl own)
-view_reads w acts seen v (inr (t, n, is, of, memory, only)) = inr (inr (t, n, is, memory, only))
+view_reads w acts seen v (inr (t, n, is, of, memory, was)) = inr (inr (t, n, is, memory, stays_read w acts (Foreign t n) was))
 
 -- an origin says the class
 pub stands_as : (w : World) (acts : List Act) (k : Kind) (vs : List Value) (v : Value) → IsFrom w acts k v (origin k vs) → StandsAs w acts (class_of k) v
@@ -82,12 +86,15 @@ stands_as w acts k vs v from = inl (k, from)
 get_more : (acts more : List Act) (n : ℕ) (a : Act) → slice_get acts n ≡ Some a → slice_get (acts ++ more) n ≡ Some a
 get_more acts more n a e = get-within acts more n (slice_get_within acts n a e) ∙ e
 
+was_more : (w : World) (acts more : List Act) (v : Value) → WasReadOnly w acts v → WasReadOnly w (acts ++ more) v
+was_more w acts more v (before, after, split, only) = (before, after ++ more, ap (λ (l : List Act). l ++ more) split ∙ append_assoc before (View v ∷ after) more, only)
+
 from_more : (w : World) (acts more : List Act) (k : Kind) (v : Value) (from : Origin) → IsFrom w acts k v from → IsFrom w (acts ++ more) k v from
 from_more w acts more k v AsLiteral is = is
 from_more w acts more k v (AsMade t items) (n, is, at) = (n, is, get_more acts more n (Make t items) at)
 from_more w acts more k v (AsAnswer act) (t, n, proto, is, at) = (t, n, proto, is, get_more acts more n (act proto) at)
 from_more w acts more k v (AsView seen) (inl is) = inl is
-from_more w acts more k v (AsView seen) (inr (t, n, is, of, memory, only)) = inr (t, n, is, of, memory, w.stays_readonly acts more (Foreign t n) only)
+from_more w acts more k v (AsView seen) (inr (t, n, is, of, memory, was)) = inr (t, n, is, of, memory, was_more w acts more (Foreign t n) was)
 
 pub knows_more : (w : World) (V : ℕ → Value) (acts more : List Act) (heap : List Object) → Knows w V acts heap → Knows w V (acts ++ more) heap
 knows_more w V acts more heap knows id o e = from_more w acts more o.kind (V id) (origin o.kind (map V o.parts)) (knows id o e)

@@ -100,7 +100,7 @@ by_reading : (h : Here) (t : PyType) (n : ℕ) (b : Bool) → h.w.readonly h.act
 unfolding ViewGood
 by_reading h t n b only memory is top Raises = raised_good h.V h.w h.s.heap h.acts (viewed_state h false) _ h.proto (h.acts ++ View (Foreign t n) ∷ []) (quiet h.acts (View (Foreign t n)) refl)
 by_reading h t n true only memory is top (Answers x) =
-    exchanged h (Foreign t n) (View (Foreign t n) ∷ []) (quiet h.acts (View (Foreign t n)) refl) (inr (t, n, refl, is, memory, h.w.stays_readonly h.acts (View (Foreign t n) ∷ []) (Foreign t n) only)) top (map h.V h.s.top)
+    exchanged h (Foreign t n) (View (Foreign t n) ∷ []) (quiet h.acts (View (Foreign t n)) refl) (inr (t, n, refl, is, memory, (h.acts, [], refl, only))) top (map h.V h.s.top)
     (split_top h.V h.s.top top ∙ ap (λ (v : Value). map h.V (take (length h.s.top - 1) h.s.top) ++ v ∷ []) is)
 by_reading h t n false only memory is top (Answers x) = new_view h (View (Foreign t n) ∷ []) (length h.acts) (quiet h.acts (View (Foreign t n)) refl) top
 

@@ -22,7 +22,8 @@ use Rattle.pickle_show.specs.Line.{kept_line}
 use Rattle.pickle_show.specs.Manner.{Manner, closing_in, ending_in}
 use Rattle.pickle_show.specs.Output.{Output}
 use Rattle.pickle_show.specs.CallsLine.{totals_line, unsure_line, ending_lines, calls_end_text}
-use Rattle.pickle_show.specs.Calls.{CallsEnd, entry_at, entries, calls, calls_end}
+use Rattle.pickle_show.specs.Telling.{for_people}
+use Rattle.pickle_show.specs.Calls.{CallsEnd, entry_at, entries, calls, calls_end, entries_in}
 use Rattle.pickle_show.specs.ObjectText.{id_text}
 use Rattle.pickle_show.specs.LineLaws.{before_first, cut_lines, if_any, item_lines, last_pieces}
 use Rattle.pickle_show.proofs.Walking.{text-suc}
@@ -32,10 +33,11 @@ use Rattle.pickle_further.specs.declared.seek.Sought.TheVariants as sought
 use Rattle.pickle_further.specs.declared.way.Pickles.{Pickles}
 use Rattle.pickle_further.specs.declared.way.Pickles.TheVariants as pickles
 use Rattle.pickle_further.specs.declared.way.Way.{Way}
-use Rattle.pickle_further.specs.Going.{Standing, Going, going, stands_after, Tale, tale_over, tale, tale_of, search_from}
-use Rattle.pickle_further.specs.Parts.{stop_words, stop_line, ends_line, part_end, ignored_words, buffered_words, held_words, header, tale_text, part_text, text_from, ignoring, buffering, holding, standing_at, standing_first, behind_at, found_text, loss_at, lost_by, first_mixed, mixed_words, mixed_line, mixed_text, lost_text, is_open, parts}
+use Rattle.pickle_further.specs.Going.{Standing, Going, going, stands_after, Tale, tale_over, tale, tale_of, search_from, tale_in}
+use Rattle.pickle_further.specs.Parts.{stop_words, stop_line, ends_line, part_end, ignored_words, buffered_words, held_words, header, part_text, text_from, ignoring, buffering, holding, standing_at, standing_first, behind_at, found_text, loss_at, lost_by, first_mixed, mixed_words, mixed_line, mixed_text, lost_text, is_open, parts, loss_words, loss_line, tale_text_in, text_from_in, parts_in}
 use Rattle.pickle_further.specs.Leads.{warning_words, leads_words, warning_line, warning_text}
-use Rattle.pickle_further.specs.CallsText.{document_leads, document_calls, loss_words, loss_line, first_loss, loss_text, kept_behind, kept_calls}
+use Rattle.pickle_further.specs.Deep.{deep_words, deep_line, warnings_text}
+use Rattle.pickle_further.specs.CallsText.{document_leads, document_deep, document_warnings, document_calls, first_loss, losses_text, kept_behind, kept_calls, loss_text_in, kept_calls_in}
 use Rattle.pickle_loader.specs.Onward.{stands_behind, stands}
 use Rattle.pickle_loader.specs.Text.{line_gone, line_on, lines_before, part_lines, lines_from, lines_if, behind_lines, lost_lines, mixed_lines, parts_lines, document_lines, kept_first, kept_closing, kept_parts, kept_lines, WholeTextIsItsLines}
 use Rattle.pickle_loader.proofs.Losses.{shifted, over}
@@ -121,7 +123,7 @@ lines_front holes w p (suc n) (Some r) e =
 
 tale_suc : (holes : List Hole) (n : ℕ) (w : Way) (p : Standing) (c : Option Closing) → (going w p).gone.closing ≡ c
     → (tale holes (suc n) w p).lines.text ≡ line_gone holes p (going w p) ++ (option_map_or tale_over c (tale holes n w (stands_after p (going w p)))).lines.text
-unfolding tale ◌⧺◌
+unfolding tale_in ◌⧺◌
 tale_suc holes n w p c e = ap (λ (x : Option Closing). line_gone holes p (going w p) ++ (option_map_or tale_over x (tale holes n w (stands_after p (going w p)))).lines.text) e
 
 cut_suc : (holes : List Hole) (n : ℕ) (w : Way) (p : Standing) (c : Option Closing) → (going w p).gone.closing ≡ c
@@ -137,7 +139,7 @@ cut_suc holes n w p (Some c) e ind =
     ∙ sym (lines_front holes w p n None (ap (λ (x : Option Closing). if is_some x then None else Some (stands_after p (going w p))) e))
 
 cut_tale : (holes : List Hole) (n : ℕ) (w : Way) (p : Standing) → cut_lines (tale holes n w p).lines.text ≡ lines_before holes w p n
-unfolding tale lines_before cut_lines
+unfolding tale_in lines_before cut_lines
 cut_tale holes zero w p = refl
 cut_tale holes (suc n) w p = cut_suc holes n w p (going w p).gone.closing refl (cut_tale holes n w (stands_after p (going w p)))
 
@@ -149,7 +151,7 @@ suc_ends holes n w p (Some c) e ind =
     subst EndsLine (sym (tale_suc holes n w p (Some c) e)) (both_end (line_gone holes p (going w p)) [] (has_ends (line_gone holes p (going w p)) (item_has holes p (going w p))) (inl refl))
 
 tale_ends : (holes : List Hole) (n : ℕ) (w : Way) (p : Standing) → EndsLine (tale holes n w p).lines.text
-unfolding tale
+unfolding tale_in
 tale_ends holes zero w p = inl refl
 tale_ends holes (suc n) w p = suc_ends holes n w p (going w p).gone.closing refl (tale_ends holes n w (stands_after p (going w p)))
 
@@ -185,6 +187,17 @@ warning_has : (leads : Option ℕ) → HasLine (warning_text leads)
 warning_has None = inl refl
 warning_has (Some id) = inr (warning_is_line id)
 
+deep_is_line : (id : ℕ) → IsLine (deep_line id)
+unfolding deep_line warning_words deep_words
+deep_is_line id =
+    line_of_body (codes "warning: " ⧺ id_text id ⧺ codes " is a tuple nested deeper than 100")
+    (then_stays (codes "warning: " ⧺ id_text id) (codes " is a tuple nested deeper than 100") (then_stays (codes "warning: ") (id_text id) refl (id_stays id)) refl)
+
+warnings_has : (leads deep : Option ℕ) → HasLine (warnings_text leads deep)
+warnings_has (Some id) deep = inr (warning_is_line id)
+warnings_has None None = inl refl
+warnings_has None (Some id) = inr (deep_is_line id)
+
 cut_part_end : (imports calls : ℕ) (c : Closing) (leads : Option ℕ) → cut_lines (part_end imports calls c leads) ≡ totals_line imports calls ∷ (ends_line c ∷ if_any (warning_text leads))
 unfolding part_end ◌⧺◌
 cut_part_end imports calls c leads =
@@ -199,7 +212,7 @@ part_ends imports calls c leads =
     (both_end (ends_line c) (warning_text leads) (line_ends (ends_line c) (ends_is_line c)) (has_ends (warning_text leads) (warning_has leads)))
 
 cut_part : (holes : List Hole) (w : Way) (x : Option Standing) → cut_lines (part_text holes w x) ≡ part_lines holes w x
-unfolding tale_text ◌⧺◌
+unfolding tale_text_in ◌⧺◌
 cut_part holes w None = cut_nothing
 cut_part holes w (Some p) =
     let t : Tale = tale_of holes w p in
@@ -210,7 +223,7 @@ cut_part holes w (Some p) =
     ∙ ap₂ (λ (a b : List (List ℕ)). a ++ b) (cut_tale holes (suc (length p.rest)) w p) (cut_part_end t.lines.imports t.lines.calls (closing_in holes t.closing) t.leads))
 
 part_ends_line : (holes : List Hole) (w : Way) (x : Option Standing) → EndsLine (part_text holes w x)
-unfolding tale_text ◌⧺◌
+unfolding tale_text_in ◌⧺◌
 part_ends_line holes w None = inl refl
 part_ends_line holes w (Some p) =
     let t : Tale = tale_of holes w p in
@@ -219,11 +232,11 @@ part_ends_line holes w (Some p) =
     (both_end t.lines.text end (tale_ends holes (suc (length p.rest)) w p) (part_ends t.lines.imports t.lines.calls (closing_in holes t.closing) t.leads))
 
 cut_from : (holes : List Hole) (w : Way) (p : Standing) → cut_lines (text_from holes w p) ≡ lines_from holes w p
-unfolding text_from
+unfolding text_from_in
 cut_from holes w p = cut_part holes w (search_from sought.Event w p)
 
 from_ends : (holes : List Hole) (w : Way) (p : Standing) → EndsLine (text_from holes w p)
-unfolding text_from
+unfolding text_from_in
 from_ends holes w p = part_ends_line holes w (search_from sought.Event w p)
 
 cut_found : (holes : List Hole) (w : Way) (x : Option Standing) → cut_lines (found_text holes w x) ≡ lines_if holes w x
@@ -258,7 +271,7 @@ cut_lossy how p bytes =
     ∙ ap₂ (λ (a b : List (List ℕ)). a ++ b) (cut_found how.holes (buffering p) (loss_at how.detail (buffering p) bytes)) (cut_last mixed (mixed_has how.holes (first_mixed how.detail p bytes)))
 
 cut_parts : (how : Manner) (p : Pickles) (d : Contents) → cut_lines (parts how p d) ≡ parts_lines how p d (calls_end d)
-unfolding parts ◌⧺◌
+unfolding parts_in ◌⧺◌
 cut_parts how p d = go (is_open (calls_end d).ending)
   where
     e : CallsEnd
@@ -282,10 +295,10 @@ cut_parts how p d = go (is_open (calls_end d).ending)
 -- ---- the text of a document
 
 entries_end : (how : Manner) (d : Contents) (n : ℕ) → EndsLine (entries how d n).text
-unfolding entries
+unfolding entries_in
 entries_end how d zero = inl refl
 entries_end how d (suc k) =
-    subst EndsLine (sym (text-suc how d k)) (both_end (entries how d k).text (entry_at how d k).text (entries_end how d k) (has_ends (entry_at how d k).text (entry_has how d k)))
+    subst EndsLine (sym (text-suc for_people how d k)) (both_end (entries how d k).text (entry_at how d k).text (entries_end how d k) (has_ends (entry_at how d k).text (entry_has how d k)))
 
 ending_end : (e : Ending) → EndsLine (ending_lines e)
 unfolding ending_lines ◌⧺◌
@@ -309,12 +322,13 @@ cut_document : (how : Manner) (p : Pickles) (d : Contents) → cut_lines (docume
 unfolding ◌⧺◌
 cut_document how p d =
     let first : List ℕ = (calls how d).text in
-    let warning : List ℕ = warning_text (document_leads d) in
-    let ends : EndsLine warning = has_ends warning (warning_has (document_leads d)) in
+    let warning : List ℕ = document_warnings d in
+    let has : HasLine warning = warnings_has (document_leads d) (document_deep d) in
+    let ends : EndsLine warning = has_ends warning has in
     let items : List (List ℕ) = item_lines how d (calls_end d).place in
     cut_join (first ++ warning) (parts how p d) (both_end first warning (calls_ends how d) ends)
     ∙ ap₂ (λ (a b : List (List ℕ)). a ++ b)
-    (cut_join first warning (calls_ends how d) ∙ ap₂ (λ (a b : List (List ℕ)). a ++ b) (text_is_its_lines how d) (cut_last warning (warning_has (document_leads d)))
+    (cut_join first warning (calls_ends how d) ∙ ap₂ (λ (a b : List (List ℕ)). a ++ b) (text_is_its_lines how d) (cut_last warning has)
     ∙ append_assoc items (last_pieces how d (calls_end d)) (if_any warning))
     (cut_parts how p d)
 
@@ -324,8 +338,8 @@ loss_is_line : (offset : ℕ) → IsLine (loss_line offset)
 unfolding loss_line loss_words
 loss_is_line offset = line_of_body (loss_words ⧺ decimal offset) (then_stays loss_words (decimal offset) refl (decimal_stays offset))
 
-cut_loss : (how : Manner) (bytes : List ℕ) (x : Option ℕ) → cut_lines (kept_behind how bytes x) ≡ kept_parts how bytes x
-unfolding loss_text ◌⧺◌
+cut_loss : (how : Manner) (bytes : List ℕ) (x : Option ℕ) → cut_lines (losses_text how bytes x) ≡ kept_parts how bytes x
+unfolding loss_text_in ◌⧺◌
 cut_loss how bytes None = cut_nothing
 cut_loss how bytes (Some offset) =
     let line : List ℕ = loss_line (in_file how.holes offset) in
@@ -336,8 +350,23 @@ cut_loss how bytes (Some offset) =
     (cut_join a b (found_ends how.holes (buffering pickles.OneMemo) (loss_at how.detail (buffering pickles.OneMemo) bytes))
     ∙ ap₂ (λ (x y : List (List ℕ)). x ++ y) (cut_found how.holes (buffering pickles.OneMemo) (loss_at how.detail (buffering pickles.OneMemo) bytes)) (cut_found how.holes (holding pickles.OneMemo) (loss_at how.detail (holding pickles.OneMemo) bytes)))
 
+loss_ends : (how : Manner) (bytes : List ℕ) (x : Option ℕ) → EndsLine (losses_text how bytes x)
+unfolding loss_text_in ◌⧺◌
+loss_ends how bytes None = inl refl
+loss_ends how bytes (Some offset) =
+    let line : List ℕ = loss_line (in_file how.holes offset) in
+    let a : List ℕ = lost_by how (buffering pickles.OneMemo) bytes in
+    let b : List ℕ = lost_by how (holding pickles.OneMemo) bytes in
+    both_end line (a ++ b) (has_ends line (inr (loss_is_line (in_file how.holes offset))))
+    (both_end a b (found_ends how.holes (buffering pickles.OneMemo) (loss_at how.detail (buffering pickles.OneMemo) bytes)) (found_ends how.holes (holding pickles.OneMemo) (loss_at how.detail (holding pickles.OneMemo) bytes)))
+
+cut_kept_behind : (how : Manner) (bytes : List ℕ) (loss mixed : Option ℕ) → cut_lines (kept_behind how bytes loss mixed) ≡ kept_parts how bytes loss ++ if_any (mixed_text how.holes mixed)
+unfolding ◌⧺◌
+cut_kept_behind how bytes loss mixed =
+    cut_join (losses_text how bytes loss) (mixed_text how.holes mixed) (loss_ends how bytes loss) ∙ ap₂ (λ (a b : List (List ℕ)). a ++ b) (cut_loss how bytes loss) (cut_last (mixed_text how.holes mixed) (mixed_has how.holes mixed))
+
 cut_kept : (how : Manner) (bytes : List ℕ) → cut_lines (kept_calls how bytes).text ≡ kept_lines how bytes
-unfolding kept_calls ◌⧺◌
+unfolding kept_calls_in ◌⧺◌
 cut_kept how bytes =
     let p : Standing = standing_first how.detail pickles.OneMemo bytes in
     let w : Way = ignoring pickles.OneMemo in
@@ -347,14 +376,16 @@ cut_kept how bytes =
     let n : ℕ = suc (length p.rest) in
     let warning : List ℕ = warning_text t.leads in
     let lines : EndsLine (t.lines.text ++ end) = both_end t.lines.text end (tale_ends how.holes n w p) (end_ends bytes t.lines.imports t.lines.calls e) in
-    cut_join ((t.lines.text ++ end) ++ warning) (kept_behind how bytes (first_loss how.detail bytes)) (both_end (t.lines.text ++ end) warning lines (has_ends warning (warning_has t.leads)))
+    let loss : Option ℕ = first_loss how.detail bytes in
+    let mixed : Option ℕ = first_mixed how.detail pickles.OneMemo bytes in
+    cut_join ((t.lines.text ++ end) ++ warning) (kept_behind how bytes loss mixed) (both_end (t.lines.text ++ end) warning lines (has_ends warning (warning_has t.leads)))
     ∙ ap₂ (λ (a b : List (List ℕ)). a ++ b)
     (cut_join (t.lines.text ++ end) warning lines
     ∙ ap₂ (λ (a b : List (List ℕ)). a ++ b)
     (cut_join t.lines.text end (tale_ends how.holes n w p) ∙ ap₂ (λ (a b : List (List ℕ)). a ++ b) (cut_tale how.holes n w p) (cut_end bytes t.lines.imports t.lines.calls e))
     (cut_last warning (warning_has t.leads))
     ∙ append_assoc (kept_first how p) (kept_closing how bytes t) (if_any warning))
-    (cut_loss how bytes (first_loss how.detail bytes))
+    (cut_kept_behind how bytes loss mixed)
 
 pub whole_text_is_its_lines : WholeTextIsItsLines
 whole_text_is_its_lines how pickles.OneMemo bytes o e = ap (λ (x : Output). cut_lines x.text) e ∙ cut_kept how bytes

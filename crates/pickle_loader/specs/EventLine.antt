@@ -25,9 +25,10 @@ use Rattle.pickle_show.specs.LineLaws.{cut_lines}
 use Rattle.pickle_further.specs.declared.way.Pickles.{Pickles}
 use Rattle.pickle_further.specs.declared.way.Way.{Way}
 use Rattle.pickle_further.specs.Going.{Standing, going}
-use Rattle.pickle_further.specs.Parts.{ends_line, header, mixed_text, are_many, standing_at, standing_first}
+use Rattle.pickle_further.specs.Parts.{ends_line, header, mixed_text, are_many, standing_at, standing_first, loss_line}
 use Rattle.pickle_further.specs.Leads.{warning_text}
-use Rattle.pickle_further.specs.CallsText.{loss_line, IsCallsText}
+use Rattle.pickle_further.specs.Deep.{warnings_text}
+use Rattle.pickle_further.specs.CallsText.{IsCallsText}
 use Rattle.pickle_loader.specs.Onward.{stands}
 use Rattle.pickle_loader.specs.Text.{line_gone, IsAmong, is_in_text}
 
@@ -71,6 +72,7 @@ pub record EventLinesApart : Type 0 where
   pub unsure : (offset : ℕ) → LacksOffset (unsure_line offset)
   pub loss : (offset : ℕ) → LacksOffset (loss_line offset)
   pub warning : (leads : Option ℕ) → LacksOffset (warning_text leads)
+  pub warnings : (leads deep : Option ℕ) → LacksOffset (warnings_text leads deep)
   pub mixed : (holes : List Hole) (mixed : Option ℕ) → LacksOffset (mixed_text holes mixed)
   pub heading : (f : Frames) → LacksOffset (header f)
   pub ends : (c : Closing) → LacksOffset (ends_line c)

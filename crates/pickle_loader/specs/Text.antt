@@ -23,9 +23,9 @@ use Rattle.pickle_further.specs.declared.way.Pickles.{Pickles}
 use Rattle.pickle_further.specs.declared.way.Pickles.TheVariants as pickles
 use Rattle.pickle_further.specs.declared.way.Way.{Way}
 use Rattle.pickle_further.specs.Going.{Standing, Going, going, Tale, tale_of, search_from}
-use Rattle.pickle_further.specs.Parts.{ends_line, header, ignoring, buffering, holding, is_open, standing_at, standing_first, loss_at, first_mixed, mixed_text}
+use Rattle.pickle_further.specs.Parts.{ends_line, header, ignoring, buffering, holding, is_open, standing_at, standing_first, loss_at, first_mixed, mixed_text, loss_line}
 use Rattle.pickle_further.specs.Leads.{warning_text}
-use Rattle.pickle_further.specs.CallsText.{document_leads, loss_line, first_loss, IsCallsText}
+use Rattle.pickle_further.specs.CallsText.{document_warnings, first_loss, IsCallsText}
 use Rattle.pickle_loader.specs.Environment.{Value}
 use Rattle.pickle_loader.specs.Onward.{stands, acts_gone, acts_before}
 
@@ -86,9 +86,10 @@ parts_lines how p d e =
 
 -- ---- the lines of a text
 
--- of a document: the lines of its items, those that close them, a line where an import leads to the unpickler, and what is behind the end
+-- of a document: the lines of its items, those that close them, a line where an import leads to the unpickler or a tuple is nested too deep, and
+-- what is behind the end
 abbrev pub document_last : Manner → Contents → List (List ℕ)
-document_last how d = last_pieces how d (calls_end d) ++ if_any (warning_text (document_leads d))
+document_last how d = last_pieces how d (calls_end d) ++ if_any (document_warnings d)
 
 abbrev pub document_lines : Manner → Pickles → Contents → List (List ℕ)
 document_lines how p d = (item_lines how d (calls_end d).place ++ document_last how d) ++ parts_lines how p d (calls_end d)
@@ -113,7 +114,7 @@ abbrev pub kept_lines : Manner → List ℕ → List (List ℕ)
 kept_lines how bytes =
     (kept_first how (standing_first how.detail pickles.OneMemo bytes)
     ++ kept_last how bytes (tale_of how.holes (ignoring pickles.OneMemo) (standing_first how.detail pickles.OneMemo bytes)))
-    ++ kept_parts how bytes (first_loss how.detail bytes)
+    ++ (kept_parts how bytes (first_loss how.detail bytes) ++ mixed_lines how pickles.OneMemo bytes)
 
 -- these are the lines of the text of these bytes
 abbrev pub AreCallsLines : Manner → Pickles → List ℕ → List (List ℕ) → Type 0

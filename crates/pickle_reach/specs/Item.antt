@@ -6,16 +6,16 @@ use Rattle.std.specs.Prelude.{ℕ, not, Bool, true, false, List}
 use Rattle.pickle_ops.specs.declared.opcode.Opcode.{Opcode}
 use Rattle.pickle_ops.specs.declared.opcode.Opcode.TheVariants as op
 use Rattle.pickle_ops.specs.declared.form.Form.TheVariants as form
-use Rattle.pickle_ops.specs.Argument.{payload, first_text}
+use Rattle.pickle_ops.specs.Argument.{payload, first_text, second_text}
 use Rattle.pickle_ops.specs.Spelling.{Operation}
 use Rattle.pickle_reach.specs.declared.granted.Granted.{Granted}
-use Rattle.pickle_reach.specs.Names.{line_names, text_names}
+use Rattle.pickle_reach.specs.Names.{lines_import, text_names}
 use Rattle.pickle_reach.specs.Numbers.{begins_integer, begins_float}
 
--- something is reached. A loader that holds no text which names a module imports nothing by texts
+-- something is reached. A loader that holds no text which names something imports nothing by texts
 abbrev pub opcode_reaches : Granted → Bool → Opcode → List ℕ → Bool
-opcode_reaches g named op.Global arg = line_names (first_text arg)
-opcode_reaches g named op.Inst arg = line_names (first_text arg)
+opcode_reaches g named op.Global arg = lines_import (first_text arg) (second_text arg)
+opcode_reaches g named op.Inst arg = lines_import (first_text arg) (second_text arg)
 opcode_reaches g named op.StackGlobal arg = named
 opcode_reaches g named op.Ext1 arg = g.extensions
 opcode_reaches g named op.Ext2 arg = g.extensions
@@ -49,7 +49,7 @@ opcode_ends op.NewObjEx arg = true
 opcode_ends op.Obj arg = true
 opcode_ends o arg = is_unread o arg
 
--- a text is made that may name a module
+-- a text is made that may name a module, or what is in one
 abbrev pub opcode_names : Opcode → List ℕ → Bool
 opcode_names op.String arg = true
 opcode_names op.BinString arg = text_names (payload form.Bs4 arg)

@@ -1,21 +1,33 @@
 //! What an opcode may do to a loader that holds nothing from elsewhere.
 
 ghost use Rattle.std.specs.Prelude.{◌≡◌};
+ghost use Rattle.pickle_ops.specs.Table.{form_of};
+ghost use Rattle.pickle_ops.specs.Argument.{first_text, second_text};
+ghost use Rattle.pickle_reach.specs.Names.{lines_import};
 ghost use Rattle.pickle_reach.specs.Item.{reaches, ends, names, is_unread};
 
 use crate::granted::Granted;
-use crate::name::{line_names, text_names};
+use crate::name::{lines_import, text_names};
 use crate::number::{begins_float, begins_integer};
-use pickle_ops::{OpRef, Opcode};
+use pickle_ops::{Form, OpRef, Opcode};
 
-/// Whether something is reached, by a loader that holds a text which may name a module, or that does not.
+/// Whether the two lines of an operation may import something.
+fn lines_reach(op: &OpRef<'_>) -> bool
+    requires { form_of op.now.opcode ≡ Form.Two }
+    ensures { result ≡ lines_import (first_text op.now.arg) (second_text op.now.arg) }
+{
+    let (module_line, member_line) = op.texts();
+    lines_import(module_line, member_line)
+}
+
+/// Whether something is reached, by a loader that holds a text which may name something, or that does not.
 #[tactic(auto, unfolding(crate::specs::Item::reaches))]
 pub(crate) fn reaches(granted: Granted, named: bool, op: &OpRef<'_>) -> bool
     ensures { result ≡ reaches granted named op.now }
 {
     match op.opcode() {
-        Opcode::Global => line_names(op.texts().0),
-        Opcode::Inst => line_names(op.texts().0),
+        Opcode::Global => lines_reach(op),
+        Opcode::Inst => lines_reach(op),
         Opcode::StackGlobal => named,
         Opcode::Ext1 => granted.extensions,
         Opcode::Ext2 => granted.extensions,
@@ -62,7 +74,7 @@ pub(crate) fn ends(op: &OpRef<'_>) -> bool
     }
 }
 
-/// Whether a text is made that may name a module.
+/// Whether a text is made that may name a module, or what is in one.
 #[tactic(auto, unfolding(crate::specs::Item::names))]
 pub(crate) fn names(op: &OpRef<'_>) -> bool
     ensures { result ≡ names op.now }

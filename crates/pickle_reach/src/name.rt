@@ -1,10 +1,13 @@
-//! Which lines and texts may name a module.
+//! Which lines and texts may import something.
 
 ghost use Rattle.std.specs.Prelude.{◌≡◌, length};
 ghost use Rattle.std.specs.List.{list_all};
-ghost use Rattle.pickle_reach.specs.Names.{is_sign, is_bracket, is_fine, is_no_backslash, ends_head, head_is_fine, line_names, text_names};
+ghost use Rattle.pickle_reach.specs.Names.{is_sign, is_bracket, is_fine, is_no_backslash, ends_head, head_is_fine, holds_storage, line_names, text_names, lines_import};
 
 use pickle_names::{Coding, read};
+
+/// What is in the names of torch's storages.
+const STORAGE: &[u8] = b"Storage";
 
 /// Whether this is one of the signs `"`, `&` to `*` and `,`.
 fn is_sign(byte: u8) -> bool
@@ -69,7 +72,22 @@ fn lack_backslash(bytes: &[u8]) -> bool
     true
 }
 
-/// Whether a text may be the name of a module, or begin with one.
+/// Whether `Storage` stands somewhere in a name: a loader may have an answer for it, whatever its module is called.
+#[tactic(auto, unfolding(crate::specs::Names::holds_storage))]
+fn holds_storage(name: &[u8]) -> bool
+    ensures { result ≡ holds_storage name.now }
+{
+    let mut left = name;
+    while let Some((_, rest)) = left.split_first() {
+        if left.starts_with(STORAGE) {
+            return true;
+        }
+        left = rest;
+    }
+    false
+}
+
+/// Whether a text may be the name of a module, or begin with one, or be a name that has an answer anyhow.
 pub(crate) fn text_names(text: &[u8]) -> bool
     ensures { result ≡ text_names text.now }
 {
@@ -79,11 +97,11 @@ pub(crate) fn text_names(text: &[u8]) -> bool
     if !lack_backslash(text) {
         return true;
     }
-    head_is_fine(text)
+    head_is_fine(text) || holds_storage(text)
 }
 
 /// Whether a line may be the name of a module, or begin with one.
-pub(crate) fn line_names(line: &[u8]) -> bool
+fn line_names(line: &[u8]) -> bool
     ensures { result ≡ line_names line.now }
 {
     if line.is_empty() {
@@ -93,4 +111,11 @@ pub(crate) fn line_names(line: &[u8]) -> bool
         return false;
     }
     read(Coding::Utf8, line.len(), line).good
+}
+
+/// Whether two lines may import something: the first names a module, or the second what a loader has an answer for anyhow.
+pub(crate) fn lines_import(module_line: &[u8], member_line: &[u8]) -> bool
+    ensures { result ≡ lines_import module_line.now member_line.now }
+{
+    line_names(module_line) || holds_storage(member_line)
 }

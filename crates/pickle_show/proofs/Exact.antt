@@ -30,6 +30,7 @@ use Rattle.pickle_show.specs.Event.{before_of, event_of, made_event, made_as, is
 use Rattle.pickle_io.specs.Holes.{in_file}
 use Rattle.pickle_show.specs.Manner.{Manner}
 use Rattle.pickle_show.specs.CallsLine.{event_line, line_of}
+use Rattle.pickle_show.specs.Telling.{for_people}
 use Rattle.pickle_show.specs.Calls.{CountedText, naming_at, entry_at}
 use Rattle.pickle_show.specs.CallsLaws.{IsStep, Makes, Changes, IsShown, LineExactly, row_adds}
 use Rattle.pickle_show.proofs.Steps.{some_same, get_pushed, Same, Grown, after_changes}
@@ -115,7 +116,7 @@ item_of_step d k s t step =
 
 a_line : (how : Manner) (d : Contents) (k : ℕ) (o : Operation) (s t : State) (e : Event) → item_at d k ≡ Some o → IsStep d k s t → item_event o s t ≡ Some e → (entry_at how d k).text ≢ []
 a_line how d k o s t e there step is = λ none.
-    let text : (entry_at how d k).text ≡ line_of (in_file how.holes (offset_of d k)) (naming_at how.detail d k) t.heap (item_event o s t) = ap (λ (x : CountedText). x.text) (entry_is how d k o s t there step.before step.after) in
+    let text : (entry_at how d k).text ≡ line_of (in_file how.holes (offset_of d k)) (naming_at how.detail d k) t.heap (item_event o s t) = ap (λ (x : CountedText). x.text) (entry_is for_people how d k o s t there step.before step.after) in
     let here : event_line (in_file how.holes (offset_of d k)) (naming_at how.detail d k) t.heap e ≡ [] = ap (line_of (in_file how.holes (offset_of d k)) (naming_at how.detail d k) t.heap) (sym is) ∙ sym text ∙ none in
     absurd (omega (arith, long (in_file how.holes (offset_of d k)) (naming_at how.detail d k) t.heap e, ap length here))
 

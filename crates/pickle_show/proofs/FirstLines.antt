@@ -37,7 +37,8 @@ use Rattle.pickle_show.specs.declared.naming.Naming.{Naming}
 use Rattle.pickle_show.specs.Naming.{naming_after}
 use Rattle.pickle_show.specs.Event.{before_of, event_of}
 use Rattle.pickle_show.specs.Listing.{reached}
-use Rattle.pickle_show.specs.Calls.{CountedText, counted_text, naming_on, naming_at, entry_at, entries, is_inside, or_here, first_inside, left_at, end_from, calls_end}
+use Rattle.pickle_show.specs.Telling.{for_people}
+use Rattle.pickle_show.specs.Calls.{CountedText, counted_text, naming_on, naming_at, entry_at, entries, is_inside, or_here, first_inside, left_at, end_from, calls_end, entries_in}
 use Rattle.pickle_show.specs.CallsLaws.{FirstLinesComeFirst}
 use Rattle.pickle_show.proofs.Runs.{run_nothing, run_after}
 use Rattle.pickle_show.proofs.Places.{is_reached}
@@ -254,7 +255,7 @@ record SameTo (how : Manner) (d e : Contents) (k : ℕ) : Type 0 where
   text : (entries how e k).text ≡ (entries how d k).text
 
 entries-none : (how : Manner) (d e : Contents) → (entries how e 0).text ≡ (entries how d 0).text
-unfolding entries
+unfolding entries_in
 entries-none how d e = refl
 
 same_to : (how : Manner) (d e : Contents) (k : ℕ) (t : State) → Begins d e → k ≤ length (ops_of d) → run (start d.many) (ops_of d) k ≡ Some t → SameTo how d e k
@@ -276,8 +277,8 @@ same_to how d e (suc k) t b less r =
     let offset : offset_of e k ≡ offset_of d k = size_first (items_of d) (items_of e) b.first.more k b.first.whole (omega (arith, less, length-map (items_of d) (λ (i : Item). i.op))) in
     let event : event_of (row_of o) (before_of (fresh (as_many false s))) (as_many stop t) ≡ event_of (row_of o) (before_of (fresh s)) t =
     event_many (row_of o) (before_of s) stop t ∙ ap (λ (u : State). event_of (row_of o) (before_of u) t) (sym alone) in
-    let mine = entry_is how d k o s t step.item before r in
-    let its = entry_is how e k o (as_many false s) (as_many stop t) there at behind in
+    let mine = entry_is for_people how d k o s t step.item before r in
+    let its = entry_is for_people how e k o (as_many false s) (as_many stop t) there at behind in
     let same : entry_at how e k ≡ entry_at how d k =
     its ∙ ap₂ (λ (n : ℕ) (m : Naming). counted_text (in_file how.holes n) m t.heap (event_of (row_of o) (before_of (fresh (as_many false s))) (as_many stop t))) offset ind.naming
     ∙ ap (counted_text (in_file how.holes (offset_of d k)) (naming_at how.detail d k) t.heap) event ∙ sym mine in
@@ -286,7 +287,7 @@ same_to how d e (suc k) t b less r =
           ap₂ (λ (x : Option Operation) (y : Option State). naming_on x y (naming_at how.detail e k)) there behind
           ∙ ap (naming_after (row_of o) (length t.heap)) ind.naming
           ∙ sym (ap₂ (λ (x : Option Operation) (y : Option State). naming_on x y (naming_at how.detail d k)) step.item r);
-      text = text-suc how e k ∙ ap₂ (λ (x y : List ℕ). x ++ y) ind.text (ap (λ (c : CountedText). c.text) same) ∙ sym (text-suc how d k);
+      text = text-suc for_people how e k ∙ ap₂ (λ (x y : List ℕ). x ++ y) ind.text (ap (λ (c : CountedText). c.text) same) ∙ sym (text-suc for_people how d k);
     }
 
 -- ---- where the lines of the first pickle end
@@ -351,5 +352,5 @@ first_lines_come_first how bytes d e small h k =
     let all : length (ops_of e) ≡ length (ops_of d) + length first.more = ap (λ (l : List Operation). length l) first.whole ∙ length-append (ops_of d) first.more in
     let before : last ≤ (calls_end e).place =
     reaches e last _ there (omega (arith, far.within, all)) (λ n j q. let stop = inside_stops e n j q in omega (arith, far.within, first.last j stop.0 stop.1 stop.2)) in
-    let more = entries_first how e last (calls_end e).place before in
+    let more = entries_first for_people how e last (calls_end e).place before in
     (more.0, more.1 ∙ ap (λ (t : List ℕ). t ++ more.0) (same.text ∙ ap (λ (n : ℕ). (entries how d n).text) (sym ends)))

@@ -25,6 +25,7 @@ use Rattle.pickle_show.specs.Event.{made_event, is_view}
 use Rattle.pickle_show.specs.Naming.{Spelled, Pair, NewPair, member_text, said_text, pair_text, pair_renamed, import_text, import_for, names_by, names_text}
 use Rattle.pickle_show.specs.CallsLine.{inst_text, made_words, made_text, event_text, event_line, line_of}
 use Rattle.pickle_show.specs.Brief.{briefs_text}
+use Rattle.pickle_show.specs.Telling.{for_people}
 use Rattle.pickle_show.specs.Calls.{CountedText, naming_at, entry_at}
 use Rattle.pickle_show.specs.CallsLaws.{IsStep}
 use Rattle.pickle_show.specs.LineLaws.{names_by_kind, inst_names, IsRead, two_quoted, member_of, import_said, inst_said, LineOfImport, LineOfInst}
@@ -43,7 +44,7 @@ line_of_made how d k s t o step there opaque =
     let made = pushed_by (row_of i.0) (fresh s) t (length s.heap) o i.2 there none in
     let here : item_event i.0 s t ≡ Some (event.Made (length s.heap)) =
     made.1 ∙ ap (made_event t.heap) size ∙ made_here t.heap (length s.heap) o there (or_true (is_opaque o.kind) (is_view t.heap o) (inl opaque)) in
-    ap (λ (c : CountedText). c.text) (entry_is how d k i.0 s t i.1 step.before step.after) ∙ ap (line_of (in_file how.holes (offset_of d k)) (naming_at how.detail d k) t.heap) here
+    ap (λ (c : CountedText). c.text) (entry_is for_people how d k i.0 s t i.1 step.before step.after) ∙ ap (line_of (in_file how.holes (offset_of d k)) (naming_at how.detail d k) t.heap) here
 
 made_line : (offset : ℕ) (m : Naming) (heap : List Object) (id : ℕ) (o : Object) → slice_get heap id ≡ Some o
     → event_line offset m heap (event.Made id) ≡ right_aligned 5 (decimal offset) ⧺ codes ": " ⧺ (made_words m heap o.kind o.parts ⧺ codes " as " ⧺ id_text id) ⧺ newline

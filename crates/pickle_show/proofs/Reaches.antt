@@ -38,6 +38,7 @@ use Rattle.pickle_io.specs.Holes.{in_file}
 use Rattle.pickle_show.specs.Manner.{Manner}
 use Rattle.pickle_show.specs.CallsLine.{event_text, event_line, line_of}
 use Rattle.pickle_show.specs.declared.naming.Naming.{Naming}
+use Rattle.pickle_show.specs.Telling.{for_people}
 use Rattle.pickle_show.specs.Calls.{naming_at, CountedText, entry_at, calls}
 use Rattle.pickle_show.specs.CallsLaws.{OneText, IsStep, NoLineNoReach, Makes, Changes, IsShown, row_adds, adds}
 use Rattle.pickle_show.proofs.Walking.{entry_is}
@@ -299,7 +300,7 @@ pub no_line_no_reach : NoLineNoReach
 no_line_no_reach how d k s t step none id o there opaque =
     let m = moves_at d k s t step in
     let from : State = fresh s in
-    let here : (entry_at how d k).text ≡ line_of (in_file how.holes (offset_of d k)) (naming_at how.detail d k) t.heap (event_of (row_of m.item) (before_of from) t) = ap (λ (e : CountedText). e.text) (entry_is how d k m.item s t m.there step.before step.after) in
+    let here : (entry_at how d k).text ≡ line_of (in_file how.holes (offset_of d k)) (naming_at how.detail d k) t.heap (event_of (row_of m.item) (before_of from) t) = ap (λ (e : CountedText). e.text) (entry_is for_people how d k m.item s t m.there step.before step.after) in
     let nothing : event_of (row_of m.item) (before_of from) t ≡ None = no_line _ _ _ _ (sym here ∙ none) in
     let at : event_of (row_of m.item) (before_of from) (next m.item k s) ≡ None = ap (λ (u : State). event_of (row_of m.item) (before_of from) u) m.leads ∙ nothing in
     ap (λ (h : List Object). slice_get h id) (sym (fresh_heap s))
@@ -309,7 +310,7 @@ pub only_shown : (how : Manner) (d : Contents) (k : ℕ) (s t : State) → IsSte
 only_shown how d k s t step some =
     let m = moves_at d k s t step in
     let from : State = fresh s in
-    let here : (entry_at how d k).text ≡ line_of (in_file how.holes (offset_of d k)) (naming_at how.detail d k) t.heap (event_of (row_of m.item) (before_of from) t) = ap (λ (e : CountedText). e.text) (entry_is how d k m.item s t m.there step.before step.after) in
+    let here : (entry_at how d k).text ≡ line_of (in_file how.holes (offset_of d k)) (naming_at how.detail d k) t.heap (event_of (row_of m.item) (before_of from) t) = ap (λ (e : CountedText). e.text) (entry_is for_people how d k m.item s t m.there step.before step.after) in
     let event = a_line (in_file how.holes (offset_of d k)) (naming_at how.detail d k) t.heap (event_of (row_of m.item) (before_of from) t) (λ e. some (here ∙ e)) in
     let at : event_of (row_of m.item) (before_of from) (next m.item k s) ≡ Some event.0 = ap (λ (u : State). event_of (row_of m.item) (before_of from) u) m.leads ∙ event.1 in
     let all : RowShown (row_of m.item) from t = subst (λ (u : State). RowShown (row_of m.item) from u) m.leads (row_shown (row_of m.item) (kind_of m.item) k from event.0 m.accepted at) in

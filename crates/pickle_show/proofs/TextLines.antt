@@ -33,7 +33,8 @@ use Rattle.pickle_show.specs.ReportLine.{refusal_words, refusal_number, refusal_
 use Rattle.pickle_show.specs.Report.{refused_item_line, closing_line}
 use Rattle.pickle_show.specs.Line.{kept_words, kept_text, kept_line}
 use Rattle.pickle_show.specs.CallsLine.{event_text, event_line, line_of, totals_line, unsure_words, unsure_line, ending_lines, calls_end_text}
-use Rattle.pickle_show.specs.Calls.{CallsEnd, naming_at, entry_on, entry_at, entries, calls, calls_end}
+use Rattle.pickle_show.specs.Telling.{for_people}
+use Rattle.pickle_show.specs.Calls.{CallsEnd, naming_at, entry_on, entry_at, entries, calls, calls_end, entry_in, entries_in, calls_in}
 use Rattle.pickle_show.specs.LineLaws.{is_within_line, before_first, cut_lines, if_any, item_lines, ending_pieces, TextIsItsLines}
 use Rattle.pickle_show.proofs.LinesApart.{first_of, rest_of}
 use Rattle.pickle_show.proofs.Walking.{text-suc}
@@ -100,24 +101,24 @@ line_has offset m heap None = inl refl
 line_has offset m heap (Some e) = inr (event_is_line offset m heap e)
 
 pub entry_has : (how : Manner) (d : Contents) (k : ℕ) → HasLine (entry_at how d k).text
-unfolding entry_at
+unfolding entry_in
 entry_has how d k = go (item_at d k) (run (start d.many) (ops_of d) k) (run (start d.many) (ops_of d) (suc k))
   where
-    go : (x : Option Operation) (y z : Option State) → HasLine (entry_on (in_file how.holes (offset_of d k)) (naming_at how.detail d k) x y z).text
+    go : (x : Option Operation) (y z : Option State) → HasLine (entry_on for_people (in_file how.holes (offset_of d k)) (naming_at how.detail d k) x y z).text
     go (Some o) (Some s) (Some t) = line_has (in_file how.holes (offset_of d k)) (naming_at how.detail d k) t.heap (event_of (row_of o) (before_of (fresh s)) t)
     go (Some o) (Some s) None = inl refl
     go (Some o) None z = inl refl
     go None y z = inl refl
 
 entries-none : (how : Manner) (d : Contents) → (entries how d 0).text ≡ []
-unfolding entries
+unfolding entries_in
 entries-none how d = refl
 
 cut_entries : (how : Manner) (d : Contents) (n : ℕ) (rest : List ℕ) → cut_lines ((entries how d n).text ++ rest) ≡ item_lines how d n ++ cut_lines rest
 cut_entries how d zero rest = ap (λ (t : List ℕ). cut_lines (t ++ rest)) (entries-none how d)
 cut_entries how d (suc k) rest =
     let e : List ℕ = (entry_at how d k).text in
-    ap (λ (t : List ℕ). cut_lines (t ++ rest)) (text-suc how d k) ∙ ap cut_lines (append_assoc (entries how d k).text e rest) ∙ cut_entries how d k (e ++ rest)
+    ap (λ (t : List ℕ). cut_lines (t ++ rest)) (text-suc for_people how d k) ∙ ap cut_lines (append_assoc (entries how d k).text e rest) ∙ cut_entries how d k (e ++ rest)
     ∙ ap (λ (ls : List (List ℕ)). item_lines how d k ++ ls) (cut_any e rest (entry_has how d k)) ∙ sym (append_assoc (item_lines how d k) (if_any e) (cut_lines rest))
 
 -- ---- the last lines
@@ -252,7 +253,7 @@ cut_end bytes imports calls e =
     (cut_line (totals_line imports calls) (ending_lines e) (totals_is_line imports calls) ∙ ap (λ (ls : List (List ℕ)). totals_line imports calls ∷ ls) (cut_ending e))
 
 pub calls_text : (how : Manner) (d : Contents) → (calls how d).text ≡ (entries how d (calls_end d).place).text ++ calls_end_text (document_bytes d) (entries how d (calls_end d).place).imports (entries how d (calls_end d).place).calls (ending_in how.holes (calls_end d).ending)
-unfolding calls ◌⧺◌
+unfolding calls_in ◌⧺◌
 calls_text how d = refl
 
 pub text_is_its_lines : TextIsItsLines

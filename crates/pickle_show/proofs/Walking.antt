@@ -45,12 +45,13 @@ use Rattle.pickle_show.specs.declared.event.Event.{Event}
 use Rattle.pickle_show.specs.declared.event.Event.TheVariants as event
 use Rattle.pickle_show.specs.declared.course.Course.{Course}
 use Rattle.pickle_show.specs.Event.{before_of, event_of, object_is}
-use Rattle.pickle_show.specs.CallsLine.{line_of, imports_of, calls_of, calls_end_text, ending_status, one_if, is_import, is_call}
+use Rattle.pickle_show.specs.CallsLine.{imports_of, calls_of, ending_status, one_if, is_import, is_call}
+use Rattle.pickle_show.specs.Telling.{Telling}
 use Rattle.pickle_io.specs.Holes.{in_file}
 use Rattle.pickle_show.specs.Manner.{Manner, ending_in}
 use Rattle.pickle_show.specs.declared.naming.Naming.{Naming}
 use Rattle.pickle_show.specs.Naming.{begin, naming_after}
-use Rattle.pickle_show.specs.Calls.{naming_at, left_at, is_inside, or_here, first_inside, CallsEnd, end_from, end_by, calls_end, CountedText, no_entry, counted_text, entry_at, entries, closing_of, closed, calls, calls_to}
+use Rattle.pickle_show.specs.Calls.{naming_at, left_at, is_inside, or_here, first_inside, CallsEnd, end_from, end_by, calls_end, CountedText, no_entry, counted_in, entry_in, entries_in, closing_of, closed, calls_in, calls_to}
 use Rattle.pickle_show.specs.declared.calls.Ran.{Ran}
 use Rattle.pickle_show.specs.Ran.{IsRun}
 use Rattle.pickle_show.specs.Inside.Walked.{Progress, Walked}
@@ -58,27 +59,27 @@ use Rattle.pickle_show.specs.CallsWritten.{BreaksCalls, BeginsCalls, CutsCalls}
 
 -- ---- what items come to
 
-pub entries-zero : (how : Manner) (d : Contents) → entries how d 0 ≡ no_entry
-unfolding entries
-entries-zero how d = refl
+pub entries-zero : (say : Telling) (how : Manner) (d : Contents) → entries_in say how d 0 ≡ no_entry
+unfolding entries_in
+entries-zero say how d = refl
 
-pub text-suc : (how : Manner) (d : Contents) (k : ℕ) → (entries how d (suc k)).text ≡ (entries how d k).text ++ (entry_at how d k).text
-unfolding entries ◌⧺◌
-text-suc how d k = refl
+pub text-suc : (say : Telling) (how : Manner) (d : Contents) (k : ℕ) → (entries_in say how d (suc k)).text ≡ (entries_in say how d k).text ++ (entry_in say how d k).text
+unfolding entries_in ◌⧺◌
+text-suc say how d k = refl
 
-imports-suc : (how : Manner) (d : Contents) (k : ℕ) → (entries how d (suc k)).imports ≡ (entries how d k).imports + (entry_at how d k).imports
-unfolding entries
-imports-suc how d k = refl
+imports-suc : (say : Telling) (how : Manner) (d : Contents) (k : ℕ) → (entries_in say how d (suc k)).imports ≡ (entries_in say how d k).imports + (entry_in say how d k).imports
+unfolding entries_in
+imports-suc say how d k = refl
 
-calls-suc : (how : Manner) (d : Contents) (k : ℕ) → (entries how d (suc k)).calls ≡ (entries how d k).calls + (entry_at how d k).calls
-unfolding entries
-calls-suc how d k = refl
+calls-suc : (say : Telling) (how : Manner) (d : Contents) (k : ℕ) → (entries_in say how d (suc k)).calls ≡ (entries_in say how d k).calls + (entry_in say how d k).calls
+unfolding entries_in
+calls-suc say how d k = refl
 
 -- item k, where it has a move
-pub entry_is : (how : Manner) (d : Contents) (k : ℕ) (o : Operation) (s t : State) → item_at d k ≡ Some o → run (start d.many) (ops_of d) k ≡ Some s → run (start d.many) (ops_of d) (suc k) ≡ Some t
-    → entry_at how d k ≡ counted_text (in_file how.holes (offset_of d k)) (naming_at how.detail d k) t.heap (event_of (row_of o) (before_of (fresh s)) t)
-unfolding entry_at
-entry_is how d k o s t e r f = rw (e, r, f) refl
+pub entry_is : (say : Telling) (how : Manner) (d : Contents) (k : ℕ) (o : Operation) (s t : State) → item_at d k ≡ Some o → run (start d.many) (ops_of d) k ≡ Some s → run (start d.many) (ops_of d) (suc k) ≡ Some t
+    → entry_in say how d k ≡ counted_in say (in_file how.holes (offset_of d k)) (naming_at how.detail d k) t.heap (event_of (row_of o) (before_of (fresh s)) t)
+unfolding entry_in
+entry_is say how d k o s t e r f = rw (e, r, f) refl
 
 -- the first step of a further pickle fills nothing, so that its event is the same from the state of the pickle before
 event_begun : (r : Row) (s t : State) → refusal_of r (begun s) ≡ None → event_of r (before_of s) t ≡ event_of r (before_of (begun s)) t
@@ -102,13 +103,13 @@ event_is : (o : Operation) (k : ℕ) (s t : State) → move o k s ≡ Ok t → e
 event_is o k s t e = event_by s.stopped (row_of o) s t (accepted (refusal_at o s) (next o k s) t e)
 
 -- what is written for it
-entry_here : (how : Manner) (d : Contents) (k offset : ℕ) (m : Naming) (o : Operation) (s t : State) → item_at d k ≡ Some o → run (start d.many) (ops_of d) k ≡ Some s → move o k s ≡ Ok t → offset ≡ offset_of d k
-    → m ≡ naming_at how.detail d k → entry_at how d k ≡ counted_text (in_file how.holes offset) m t.heap (event_of (row_of o) (before_of s) t)
-entry_here how d k offset m o s t e r i f g =
+entry_here : (say : Telling) (how : Manner) (d : Contents) (k offset : ℕ) (m : Naming) (o : Operation) (s t : State) → item_at d k ≡ Some o → run (start d.many) (ops_of d) k ≡ Some s → move o k s ≡ Ok t → offset ≡ offset_of d k
+    → m ≡ naming_at how.detail d k → entry_in say how d k ≡ counted_in say (in_file how.holes offset) m t.heap (event_of (row_of o) (before_of s) t)
+entry_here say how d k offset m o s t e r i f g =
     let next : run (start d.many) (ops_of d) (suc k) ≡ Some t = rw (run-suc (start d.many) (ops_of d) k o s e r, i) refl in
-    entry_is how d k o s t e r next ∙ ap (λ (x : Option Event). counted_text (in_file how.holes (offset_of d k)) (naming_at how.detail d k) t.heap x) (sym (event_is o k s t i))
-    ∙ ap (λ (n : ℕ). counted_text (in_file how.holes n) (naming_at how.detail d k) t.heap (event_of (row_of o) (before_of s) t)) (sym f)
-    ∙ ap (λ (n : Naming). counted_text (in_file how.holes offset) n t.heap (event_of (row_of o) (before_of s) t)) (sym g)
+    entry_is say how d k o s t e r next ∙ ap (λ (x : Option Event). counted_in say (in_file how.holes (offset_of d k)) (naming_at how.detail d k) t.heap x) (sym (event_is o k s t i))
+    ∙ ap (λ (n : ℕ). counted_in say (in_file how.holes n) (naming_at how.detail d k) t.heap (event_of (row_of o) (before_of s) t)) (sym f)
+    ∙ ap (λ (n : Naming). counted_in say (in_file how.holes offset) n t.heap (event_of (row_of o) (before_of s) t)) (sym g)
 
 one_or_none : (b : _) → one_if b ≤ 1
 one_or_none true = omega arith
@@ -126,20 +127,20 @@ few_calls heap (Some (event.Made id)) = one_or_none (object_is is_call heap id)
 few_calls heap (Some (event.State value target)) = omega arith
 few_calls heap (Some (event.Filled f count target)) = omega arith
 
-entries_more : (how : Manner) (d : Contents) (k n : ℕ) → (rest : List ℕ) × ((entries how d (k + n)).text ≡ (entries how d k).text ++ rest)
-entries_more how d k zero = let e : k + 0 ≡ k = omega arith in ([], rw e (sym (append-nil (entries how d k).text)))
-entries_more how d k (suc n) =
+entries_more : (say : Telling) (how : Manner) (d : Contents) (k n : ℕ) → (rest : List ℕ) × ((entries_in say how d (k + n)).text ≡ (entries_in say how d k).text ++ rest)
+entries_more say how d k zero = let e : k + 0 ≡ k = omega arith in ([], rw e (sym (append-nil (entries_in say how d k).text)))
+entries_more say how d k (suc n) =
     let e : k + suc n ≡ suc (k + n) = omega arith in
-    let before = entries_more how d k n in
-    let last : List ℕ = (entry_at how d (k + n)).text in
-    (before.0 ++ last, rw e (text-suc how d (k + n) ∙ ap (λ (t : List ℕ). t ++ last) before.1 ∙ append_assoc (entries how d k).text before.0 last))
+    let before = entries_more say how d k n in
+    let last : List ℕ = (entry_in say how d (k + n)).text in
+    (before.0 ++ last, rw e (text-suc say how d (k + n) ∙ ap (λ (t : List ℕ). t ++ last) before.1 ∙ append_assoc (entries_in say how d k).text before.0 last))
 
 -- the first lines come first
-pub entries_first : (how : Manner) (d : Contents) (k n : ℕ) → k ≤ n → (rest : List ℕ) × ((entries how d n).text ≡ (entries how d k).text ++ rest)
-entries_first how d k n h =
+pub entries_first : (say : Telling) (how : Manner) (d : Contents) (k n : ℕ) → k ≤ n → (rest : List ℕ) × ((entries_in say how d n).text ≡ (entries_in say how d k).text ++ rest)
+entries_first say how d k n h =
     let e : k + (n - k) ≡ n = omega arith in
-    let more = entries_more how d k (n - k) in
-    (more.0, subst (λ (m : ℕ). (entries how d m).text ≡ (entries how d k).text ++ more.0) e more.1)
+    let more = entries_more say how d k (n - k) in
+    (more.0, subst (λ (m : ℕ). (entries_in say how d m).text ≡ (entries_in say how d k).text ++ more.0) e more.1)
 
 -- ---- the first STOP behind which a frame goes on
 
@@ -190,36 +191,36 @@ reaches d k s r h b =
     end_later d k last far.state (first_inside d last) (far.most k s h r) far.is (b last)
 
 -- then the text begins with the lines before it
-begins : (how : Manner) (d : Contents) (k : ℕ) (s : State) → run (start d.many) (ops_of d) k ≡ Some s → k ≤ length (ops_of d) → ((n j : ℕ) → first_inside d n ≡ Some j → k ≤ suc j)
-    → (rest : List ℕ) × ((calls how d).text ≡ (entries how d k).text ++ rest)
-unfolding calls ◌⧺◌
-begins how d k s r h b =
+begins : (say : Telling) (how : Manner) (d : Contents) (k : ℕ) (s : State) → run (start d.many) (ops_of d) k ≡ Some s → k ≤ length (ops_of d) → ((n j : ℕ) → first_inside d n ≡ Some j → k ≤ suc j)
+    → (rest : List ℕ) × ((calls_in say how d).text ≡ (entries_in say how d k).text ++ rest)
+unfolding calls_in ◌⧺◌
+begins say how d k s r h b =
     let e : CallsEnd = calls_end d in
-    let first = entries_first how d k e.place (reaches d k s r h b) in
-    let last : List ℕ = calls_end_text (document_bytes d) (entries how d e.place).imports (entries how d e.place).calls (ending_in how.holes e.ending) in
-    (first.0 ++ last, ap (λ (t : List ℕ). t ++ last) first.1 ∙ append_assoc (entries how d k).text first.0 last)
+    let first = entries_first say how d k e.place (reaches d k s r h b) in
+    let last : List ℕ = say.last (document_bytes d) (entries_in say how d e.place).imports (entries_in say how d e.place).calls (ending_in how.holes e.ending) in
+    (first.0 ++ last, ap (λ (t : List ℕ). t ++ last) first.1 ∙ append_assoc (entries_in say how d k).text first.0 last)
 
 -- ---- the items that were stepped
 
-pub walked_none : (how : Manner) (many : Bool) (bytes : List ℕ) (a : Told) → (some : (d : Contents) × ReadsAs many bytes d) → length bytes ≤ size_limit
-    → Walked how many bytes a a bytes 0 0 0 (start many) (record { imports = 0; calls = 0; naming = begin how.detail 0; left = 0 }) false
+pub walked_none : (say : Telling) (how : Manner) (many : Bool) (bytes : List ℕ) (a : Told) → (some : (d : Contents) × ReadsAs many bytes d) → length bytes ≤ size_limit
+    → Walked say how many bytes a a bytes 0 0 0 (start many) (record { imports = 0; calls = 0; naming = begin how.detail 0; left = 0 }) false
 unfolding first_inside
-walked_none how many bytes a some small = record {
+walked_none say how many bytes a some small = record {
   d = some.0;
   reads = some.1;
   stands = stands_first many false bytes some.0 (omega (arith, small)) some.1;
   progress = record {
     reached = run_nothing (start some.0.many) (ops_of some.0) ∙ ap (λ (b : Bool). Some (start b)) some.1.mode;
     stands = refl;
-    imports = sym (ap (λ (e : CountedText). e.imports) (entries-zero how some.0));
-    calls = sym (ap (λ (e : CountedText). e.calls) (entries-zero how some.0));
+    imports = sym (ap (λ (e : CountedText). e.imports) (entries-zero say how some.0));
+    calls = sym (ap (λ (e : CountedText). e.calls) (entries-zero say how some.0));
     heap = omega arith;
     few_imports = omega arith;
     few_calls = omega arith;
     naming = refl;
     left = refl;
   };
-  written = rw (entries-zero how some.0) (Wrote-none a);
+  written = rw (entries-zero say how some.0) (Wrote-none a);
   ends = refl;
   outside = refl;
 }
@@ -230,7 +231,7 @@ walked_none how many bytes a some small = record {
 abbrev EndsSo : Contents → ℕ → Ending → Type 0
 EndsSo d k e = calls_end d ≡ record { place = k; ending = e }
 
-refused : {how : Manner} (d : Contents) (k offset : ℕ) (o : Operation) (s : State) (course : Course) (r : Refusal) → Progress how d k offset s course → item_at d k ≡ Some o → refusal_at o s ≡ Some r
+refused : {say : Telling} {how : Manner} (d : Contents) (k offset : ℕ) (o : Operation) (s : State) (course : Course) (r : Refusal) → Progress say how d k offset s course → item_at d k ≡ Some o → refusal_at o s ≡ Some r
     → first_inside d k ≡ None → EndsSo d k (ending.Closed 0 (closing.Refused k r))
 unfolding calls_end
 refused d k offset o s course r p e f out =
@@ -239,7 +240,7 @@ refused d k offset o s course r p e f out =
     let last : reached (start d.many) (ops_of d) (length (ops_of d)) ≡ k = reached_last (start d.many) (ops_of d) k (length (ops_of d)) s p.reached none (omega arith) in
     rw (last, out, p.reached, e, f) refl
 
-ended : {how : Manner} (d : Contents) (k offset : ℕ) (s : State) (course : Course) (c : Closing) → Progress how d k offset s course → length (ops_of d) ≡ k → closing_of d (finish_of d) ≡ c
+ended : {say : Telling} {how : Manner} (d : Contents) (k offset : ℕ) (s : State) (course : Course) (c : Closing) → Progress say how d k offset s course → length (ops_of d) ≡ k → closing_of d (finish_of d) ≡ c
     → first_inside d k ≡ None → EndsSo d k (closed d c)
 unfolding calls_end
 ended d k offset s course c p all is out =
@@ -255,9 +256,9 @@ few_here : {many : Bool} (bytes : List ℕ) (d : Contents) (k : ℕ) → ReadsAs
 few_here bytes d k r le = omega (arith, le, length-bytes_of (ops_of d), ops_within d, ap length r.whole)
 
 -- the run ends here
-runs : {how : Manner} {many : Bool} (bytes : List ℕ) (a b : Told) (d : Contents) (k offset : ℕ) (s : State) (course : Course) (e : Ending) → ReadsAs many bytes d → Progress how d k offset s course
-    → Wrote a b (entries how d k).text → k ≤ length (ops_of d) → EndsSo d k e → IsRun how many bytes a b s (record { course = course; ending = e; offset = offset; place = k })
-runs {how = how} bytes a b d k offset s course e r p w le is = record {
+runs : {say : Telling} {how : Manner} {many : Bool} (bytes : List ℕ) (a b : Told) (d : Contents) (k offset : ℕ) (s : State) (course : Course) (e : Ending) → ReadsAs many bytes d → Progress say how d k offset s course
+    → Wrote a b (entries_in say how d k).text → k ≤ length (ops_of d) → EndsSo d k e → IsRun say how many bytes a b s (record { course = course; ending = e; offset = offset; place = k })
+runs {say = say} {how = how} bytes a b d k offset s course e r p w le is = record {
   d = d;
   reads = r;
   ends = is;
@@ -273,32 +274,32 @@ runs {how = how} bytes a b d k offset s course e r p w le is = record {
 }
 
 -- what is left of the text are the last lines
-pub run_whole : {how : Manner} {many : Bool} (bytes : List ℕ) (a b : Told) (s : State) (r : Ran) → (w : IsRun how many bytes a b s r)
-    → (calls how w.d).text ≡ (entries how w.d r.place).text ++ calls_end_text bytes r.course.imports r.course.calls (ending_in how.holes r.ending)
-unfolding calls ◌⧺◌
-run_whole {how = how} bytes a b s r w =
-    let whole : (calls how w.d).text ≡ (entries how w.d r.place).text ++ calls_end_text (document_bytes w.d) (entries how w.d r.place).imports (entries how w.d r.place).calls (ending_in how.holes r.ending) =
-    ap (λ (e : CallsEnd). (calls_to how w.d e).text) w.ends in
-    rw (w.imports, w.calls) (whole ∙ ap (λ (x : List ℕ). (entries how w.d r.place).text ++ calls_end_text x (entries how w.d r.place).imports (entries how w.d r.place).calls (ending_in how.holes r.ending)) w.reads.whole)
+pub run_whole : {say : Telling} {how : Manner} {many : Bool} (bytes : List ℕ) (a b : Told) (s : State) (r : Ran) → (w : IsRun say how many bytes a b s r)
+    → (calls_in say how w.d).text ≡ (entries_in say how w.d r.place).text ++ say.last bytes r.course.imports r.course.calls (ending_in how.holes r.ending)
+unfolding calls_in ◌⧺◌
+run_whole {say = say} {how = how} bytes a b s r w =
+    let whole : (calls_in say how w.d).text ≡ (entries_in say how w.d r.place).text ++ say.last (document_bytes w.d) (entries_in say how w.d r.place).imports (entries_in say how w.d r.place).calls (ending_in how.holes r.ending) =
+    ap (λ (e : CallsEnd). (calls_to say how w.d e).text) w.ends in
+    rw (w.imports, w.calls) (whole ∙ ap (λ (x : List ℕ). (entries_in say how w.d r.place).text ++ say.last x (entries_in say how w.d r.place).imports (entries_in say how w.d r.place).calls (ending_in how.holes r.ending)) w.reads.whole)
 
-pub run_answers : {how : Manner} {many : Bool} (bytes : List ℕ) (a b : Told) (s : State) (r : Ran) → (w : IsRun how many bytes a b s r) → (calls how w.d).status ≡ ending_status r.ending
-unfolding calls
-run_answers {how = how} bytes a b s r w = ap (λ (e : CallsEnd). (calls_to how w.d e).status) w.ends
+pub run_answers : {say : Telling} {how : Manner} {many : Bool} (bytes : List ℕ) (a b : Told) (s : State) (r : Ran) → (w : IsRun say how many bytes a b s r) → (calls_in say how w.d).status ≡ ending_status r.ending
+unfolding calls_in
+run_answers {say = say} {how = how} bytes a b s r w = ap (λ (e : CallsEnd). (calls_to say how w.d e).status) w.ends
 
-pub refused_runs : {how : Manner} {many : Bool} {last : Bool} (bytes : List ℕ) (a b : Told) (rest : List ℕ) (left k offset : ℕ) (o : Operation) (s : State) (course : Course) (r : Refusal)
-    → Walked how many bytes a b rest left k offset s course last → IsNextItem false left rest o (size_of o) → refusal_at o s ≡ Some r
-    → IsRun how many bytes a b s (record { course = course; ending = ending.Closed 0 (closing.Refused k r); offset = offset; place = k })
+pub refused_runs : {say : Telling} {how : Manner} {many : Bool} {last : Bool} (bytes : List ℕ) (a b : Told) (rest : List ℕ) (left k offset : ℕ) (o : Operation) (s : State) (course : Course) (r : Refusal)
+    → Walked say how many bytes a b rest left k offset s course last → IsNextItem false left rest o (size_of o) → refusal_at o s ≡ Some r
+    → IsRun say how many bytes a b s (record { course = course; ending = ending.Closed 0 (closing.Refused k r); offset = offset; place = k })
 refused_runs bytes a b rest left k offset o s course r w n f =
     let g = item_in false w.d k left rest o (size_of o) w.reads.framing w.stands n in
     runs bytes a b w.d k offset s course (ending.Closed 0 (closing.Refused k r)) w.reads w.progress w.written (omega (arith, within (ops_of w.d) k o g.there))
     (refused w.d k offset o s course r w.progress g.there f w.outside)
 
-sizes_all : {how : Manner} (d : Contents) (k offset : ℕ) (s : State) (course : Course) → Progress how d k offset s course → length (ops_of d) ≡ k → tail_offset d ≡ offset
+sizes_all : {say : Telling} {how : Manner} (d : Contents) (k offset : ℕ) (s : State) (course : Course) → Progress say how d k offset s course → length (ops_of d) ≡ k → tail_offset d ≡ offset
 sizes_all d k offset s course p all = ap sizes (sym (take_all k (items_of d) (omega (arith, all, length-map (items_of d) (λ (i : Item). i.op))))) ∙ sym p.stands
 
 -- how the document ends whose tail has this fault, where its last item is STOP or not
-finish_there : {how : Manner} {many : Bool} {last : Bool} (bytes : List ℕ) (a b : Told) (rest : List ℕ) (left k offset : ℕ) (s : State) (course : Course) (f : TailFault) (x : Bool)
-    → (w : Walked how many bytes a b rest left k offset s course last) → IsDone w.d k rest (Some f) → (length rest == 0 && last) ≡ x → finish_of w.d ≡ finish_by x (Some f)
+finish_there : {say : Telling} {how : Manner} {many : Bool} {last : Bool} (bytes : List ℕ) (a b : Told) (rest : List ℕ) (left k offset : ℕ) (s : State) (course : Course) (f : TailFault) (x : Bool)
+    → (w : Walked say how many bytes a b rest left k offset s course last) → IsDone w.d k rest (Some f) → (length rest == 0 && last) ≡ x → finish_of w.d ≡ finish_by x (Some f)
 finish_there bytes a b rest left k offset s course f x w done is =
     let all : take k (items_of w.d) ≡ items_of w.d = take_all k (items_of w.d) (omega (arith, done.all, length-map (items_of w.d) (λ (i : Item). i.op))) in
     let last_is = ap ends_with_stop (sym all) ∙ w.ends in
@@ -311,9 +312,9 @@ first_holds : (a b : Bool) → (a && b) ≡ true → a ≡ true
 first_holds true b e = refl
 first_holds false b e = absurd cc
 
-tail_runs_by : {how : Manner} {many : Bool} {last : Bool} (bytes : List ℕ) (a b : Told) (rest : List ℕ) (left k offset : ℕ) (s : State) (course : Course) (f : TailFault) (x : Bool)
-    → (w : Walked how many bytes a b rest left k offset s course last) → IsDone w.d k rest (Some f) → (length rest == 0 && last) ≡ x
-    → IsRun how many bytes a b s (record { course = course; ending = ending.Closed 0 (closing_at x f offset); offset = offset; place = k })
+tail_runs_by : {say : Telling} {how : Manner} {many : Bool} {last : Bool} (bytes : List ℕ) (a b : Told) (rest : List ℕ) (left k offset : ℕ) (s : State) (course : Course) (f : TailFault) (x : Bool)
+    → (w : Walked say how many bytes a b rest left k offset s course last) → IsDone w.d k rest (Some f) → (length rest == 0 && last) ≡ x
+    → IsRun say how many bytes a b s (record { course = course; ending = ending.Closed 0 (closing_at x f offset); offset = offset; place = k })
 tail_runs_by {last = last} bytes a b rest left k offset s course f true w done is =
     let ends = ended w.d k offset s course closing.Stopped w.progress done.all (ap (closing_of w.d) (finish_there bytes a b rest left k offset s course f true w done is)) w.outside in
     let none : length w.d.tail ≡ 0 = ap length done.tail ∙ is_zero (length rest) (first_holds (length rest == 0) last is) in
@@ -326,49 +327,49 @@ tail_runs_by bytes a b rest left k offset s course f false w done is =
     (ended w.d k offset s course (closing.Fault f offset) w.progress done.all fault w.outside)
 
 -- after all items of the bytes, n of which are left
-pub tail_runs : {how : Manner} {many : Bool} {last : Bool} (bytes : List ℕ) (a b : Told) (rest : List ℕ) (left k offset : ℕ) (s : State) (course : Course) (f : TailFault) (n : ℕ) (c : Closing)
-    → Walked how many bytes a b rest left k offset s course last → HasTailFault false left rest f → n ≡ length rest → c ≡ closing_at (n == 0 && last) f offset
-    → IsRun how many bytes a b s (record { course = course; ending = ending.Closed 0 c; offset = offset; place = k })
-tail_runs {how = how} {many = many} {last = last} bytes a b rest left k offset s course f n c w h same is =
+pub tail_runs : {say : Telling} {how : Manner} {many : Bool} {last : Bool} (bytes : List ℕ) (a b : Told) (rest : List ℕ) (left k offset : ℕ) (s : State) (course : Course) (f : TailFault) (n : ℕ) (c : Closing)
+    → Walked say how many bytes a b rest left k offset s course last → HasTailFault false left rest f → n ≡ length rest → c ≡ closing_at (n == 0 && last) f offset
+    → IsRun say how many bytes a b s (record { course = course; ending = ending.Closed 0 c; offset = offset; place = k })
+tail_runs {say = say} {how = how} {many = many} {last = last} bytes a b rest left k offset s course f n c w h same is =
     let by : (length rest == 0 && last) ≡ (n == 0 && last) = ap (λ (m : ℕ). m == 0 && last) (sym same) in
-    subst (λ (y : Closing). IsRun how many bytes a b s (record { course = course; ending = ending.Closed 0 y; offset = offset; place = k })) (sym is)
+    subst (λ (y : Closing). IsRun say how many bytes a b s (record { course = course; ending = ending.Closed 0 y; offset = offset; place = k })) (sym is)
     (tail_runs_by bytes a b rest left k offset s course f (n == 0 && last) w (fault_in false w.d k left rest f w.reads.framing w.stands h) by)
 
 -- ---- item k
 
 -- the line is cut short
-pub line_breaks : {how : Manner} {many : Bool} {last : Bool} (bytes : List ℕ) (a b c : Told) (rest : List ℕ) (left k offset : ℕ) (o : Operation) (s t : State) (course : Course)
-    → Walked how many bytes a b rest left k offset s course last → IsNextItem false left rest o (size_of o) → move o k s ≡ Ok t → Broke b c (line_of (in_file how.holes offset) course.naming t.heap (event_of (row_of o) (before_of s) t))
-    → BreaksCalls how many bytes a c
-line_breaks {how = how} bytes a b c rest left k offset o s t course w n m q =
+pub line_breaks : {say : Telling} {how : Manner} {many : Bool} {last : Bool} (bytes : List ℕ) (a b c : Told) (rest : List ℕ) (left k offset : ℕ) (o : Operation) (s t : State) (course : Course)
+    → Walked say how many bytes a b rest left k offset s course last → IsNextItem false left rest o (size_of o) → move o k s ≡ Ok t → Broke b c (say.line (in_file how.holes offset) course.naming t.heap (event_of (row_of o) (before_of s) t))
+    → BreaksCalls say how many bytes a c
+line_breaks {say = say} {how = how} bytes a b c rest left k offset o s t course w n m q =
     let g = item_in false w.d k left rest o (size_of o) w.reads.framing w.stands n in
     let next : run (start w.d.many) (ops_of w.d) (suc k) ≡ Some t = rw (run-suc (start w.d.many) (ops_of w.d) k o s g.there w.progress.reached, m) refl in
-    let here : (entry_at how w.d k).text ≡ line_of (in_file how.holes offset) course.naming t.heap (event_of (row_of o) (before_of s) t) =
-    ap (λ (e : CountedText). e.text) (entry_here how w.d k offset course.naming o s t g.there w.progress.reached m w.progress.stands w.progress.naming) in
-    let line : (entries how w.d (suc k)).text ≡ (entries how w.d k).text ++ line_of (in_file how.holes offset) course.naming t.heap (event_of (row_of o) (before_of s) t) =
-    text-suc how w.d k ∙ ap (λ (l : List ℕ). (entries how w.d k).text ++ l) here in
-    let front : Broke a c (entries how w.d (suc k)).text = rw line (Broke-after a b c (entries how w.d k).text (line_of (in_file how.holes offset) course.naming t.heap (event_of (row_of o) (before_of s) t)) w.written q) in
-    let text = begins how w.d (suc k) t next (omega (arith, within (ops_of w.d) k o g.there)) (λ n j e. omega (arith, inside_after w.d k n j w.outside e)) in
-    let all : Broke a c (calls how w.d).text = rw text.1 (Broke-more a c (entries how w.d (suc k)).text text.0 front) in
+    let here : (entry_in say how w.d k).text ≡ say.line (in_file how.holes offset) course.naming t.heap (event_of (row_of o) (before_of s) t) =
+    ap (λ (e : CountedText). e.text) (entry_here say how w.d k offset course.naming o s t g.there w.progress.reached m w.progress.stands w.progress.naming) in
+    let line : (entries_in say how w.d (suc k)).text ≡ (entries_in say how w.d k).text ++ say.line (in_file how.holes offset) course.naming t.heap (event_of (row_of o) (before_of s) t) =
+    text-suc say how w.d k ∙ ap (λ (l : List ℕ). (entries_in say how w.d k).text ++ l) here in
+    let front : Broke a c (entries_in say how w.d (suc k)).text = rw line (Broke-after a b c (entries_in say how w.d k).text (say.line (in_file how.holes offset) course.naming t.heap (event_of (row_of o) (before_of s) t)) w.written q) in
+    let text = begins say how w.d (suc k) t next (omega (arith, within (ops_of w.d) k o g.there)) (λ n j e. omega (arith, inside_after w.d k n j w.outside e)) in
+    let all : Broke a c (calls_in say how w.d).text = rw text.1 (Broke-more a c (entries_in say how w.d (suc k)).text text.0 front) in
     (w.d, w.reads, all)
 
 -- memory runs out
-pub memory_stops : {how : Manner} {many : Bool} {last : Bool} (bytes : List ℕ) (a b : Told) (rest : List ℕ) (left k offset : ℕ) (o : Operation) (s : State) (course : Course)
-    → Walked how many bytes a b rest left k offset s course last → IsNextItem false left rest o (size_of o) → BeginsCalls how many bytes a b
-memory_stops {how = how} bytes a b rest left k offset o s course w n =
+pub memory_stops : {say : Telling} {how : Manner} {many : Bool} {last : Bool} (bytes : List ℕ) (a b : Told) (rest : List ℕ) (left k offset : ℕ) (o : Operation) (s : State) (course : Course)
+    → Walked say how many bytes a b rest left k offset s course last → IsNextItem false left rest o (size_of o) → BeginsCalls say how many bytes a b
+memory_stops {say = say} {how = how} bytes a b rest left k offset o s course w n =
     let g = item_in false w.d k left rest o (size_of o) w.reads.framing w.stands n in
-    let text = begins how w.d k s w.progress.reached (omega (arith, within (ops_of w.d) k o g.there)) (λ n j e. omega (arith, inside_after w.d k n j w.outside e)) in
-    let front : WroteAllBut a b (calls how w.d).text text.0 = record { front = (entries how w.d k).text; parts = text.1; wrote = w.written } in
+    let text = begins say how w.d k s w.progress.reached (omega (arith, within (ops_of w.d) k o g.there)) (λ n j e. omega (arith, inside_after w.d k n j w.outside e)) in
+    let front : WroteAllBut a b (calls_in say how w.d).text text.0 = record { front = (entries_in say how w.d k).text; parts = text.1; wrote = w.written } in
     (w.d, w.reads, (text.0, front))
 
 -- item k was stepped and its line written: what is read now stands after it
-pub record Moved (how : Manner) (many : Bool) (bytes : List ℕ) (old new : Told) (rest : List ℕ) (left k offset : ℕ) (o : Operation) (s : State) (course : Course) : Type 0 where
+pub record Moved (say : Telling) (how : Manner) (many : Bool) (bytes : List ℕ) (old new : Told) (rest : List ℕ) (left k offset : ℕ) (o : Operation) (s : State) (course : Course) : Type 0 where
   pub d : Contents
   pub reads : ReadsAs many bytes d
   pub there : item_at d k ≡ Some o
   pub goes : MatchBool (ends_reading many o.opcode) (IsDone d (k + 1) rest None) (HasRead d (k + 1) rest left)
-  pub progress : Progress how d (k + 1) offset s course
-  pub written : Wrote old new (entries how d (k + 1)).text
+  pub progress : Progress say how d (k + 1) offset s course
+  pub written : Wrote old new (entries_in say how d (k + 1)).text
   pub outside : first_inside d k ≡ None
   pub inside : first_inside d (k + 1) ≡ or_here None (many && (is_stop o.opcode && nat_lt 0 course.left)) k
 
@@ -377,24 +378,24 @@ inside_next : (d : Contents) (k : ℕ) (o : Operation) → item_at d k ≡ Some 
 unfolding first_inside
 inside_next d k o e none = ap (λ (x : Option ℕ). or_here x (is_inside d.many (item_at d k) (left_at d k)) k) none ∙ ap (λ (x : Option Operation). or_here None (is_inside d.many x (left_at d k)) k) e
 
-pub moved : {how : Manner} {many : Bool} {last : Bool} (bytes : List ℕ) (a b c : Told) (rest : List ℕ) (left k offset : ℕ) (o : Operation) (s t : State) (course next : Course)
-    → Walked how many bytes a b rest left k offset s course last → IsNextItem false left rest o (size_of o) → move o k s ≡ Ok t
-    → Wrote b c (line_of (in_file how.holes offset) course.naming t.heap (event_of (row_of o) (before_of s) t))
+pub moved : {say : Telling} {how : Manner} {many : Bool} {last : Bool} (bytes : List ℕ) (a b c : Told) (rest : List ℕ) (left k offset : ℕ) (o : Operation) (s t : State) (course next : Course)
+    → Walked say how many bytes a b rest left k offset s course last → IsNextItem false left rest o (size_of o) → move o k s ≡ Ok t
+    → Wrote b c (say.line (in_file how.holes offset) course.naming t.heap (event_of (row_of o) (before_of s) t))
     → next.imports ≡ course.imports + imports_of t.heap (event_of (row_of o) (before_of s) t)
     → next.calls ≡ course.calls + calls_of t.heap (event_of (row_of o) (before_of s) t)
     → next.naming ≡ naming_after (row_of o) (length t.heap) course.naming → next.left ≡ left_behind false course.left o
-    → Moved how many bytes a c (drop (size_of o) rest) (left_behind false left o) k (offset + size_of o) o t next
-moved {how = how} {many = many} bytes a b c rest left k offset o s t course next w n m q i j u v =
+    → Moved say how many bytes a c (drop (size_of o) rest) (left_behind false left o) k (offset + size_of o) o t next
+moved {say = say} {how = how} {many = many} bytes a b c rest left k offset o s t course next w n m q i j u v =
     let g = item_in false w.d k left rest o (size_of o) w.reads.framing w.stands n in
     let r : Option Event = event_of (row_of o) (before_of s) t in
     let after : run (start w.d.many) (ops_of w.d) (suc k) ≡ Some t = rw (run-suc (start w.d.many) (ops_of w.d) k o s g.there w.progress.reached, m) refl in
-    let here : entry_at how w.d k ≡ counted_text (in_file how.holes offset) course.naming t.heap r = entry_here how w.d k offset course.naming o s t g.there w.progress.reached m w.progress.stands w.progress.naming in
-    let line : (entries how w.d (suc k)).text ≡ (entries how w.d k).text ++ line_of (in_file how.holes offset) course.naming t.heap r =
-    text-suc how w.d k ∙ ap (λ (e : CountedText). (entries how w.d k).text ++ e.text) here in
-    let imports : (entries how w.d (suc k)).imports ≡ (entries how w.d k).imports + imports_of t.heap r =
-    imports-suc how w.d k ∙ ap (λ (e : CountedText). (entries how w.d k).imports + e.imports) here in
-    let calls : (entries how w.d (suc k)).calls ≡ (entries how w.d k).calls + calls_of t.heap r =
-    calls-suc how w.d k ∙ ap (λ (e : CountedText). (entries how w.d k).calls + e.calls) here in
+    let here : entry_in say how w.d k ≡ counted_in say (in_file how.holes offset) course.naming t.heap r = entry_here say how w.d k offset course.naming o s t g.there w.progress.reached m w.progress.stands w.progress.naming in
+    let line : (entries_in say how w.d (suc k)).text ≡ (entries_in say how w.d k).text ++ say.line (in_file how.holes offset) course.naming t.heap r =
+    text-suc say how w.d k ∙ ap (λ (e : CountedText). (entries_in say how w.d k).text ++ e.text) here in
+    let imports : (entries_in say how w.d (suc k)).imports ≡ (entries_in say how w.d k).imports + imports_of t.heap r =
+    imports-suc say how w.d k ∙ ap (λ (e : CountedText). (entries_in say how w.d k).imports + e.imports) here in
+    let calls : (entries_in say how w.d (suc k)).calls ≡ (entries_in say how w.d k).calls + calls_of t.heap r =
+    calls-suc say how w.d k ∙ ap (λ (e : CountedText). (entries_in say how w.d k).calls + e.calls) here in
     let named : naming_at how.detail w.d (suc k) ≡ naming_after (row_of o) (length t.heap) (naming_at how.detail w.d k) = rw (g.there, after) refl in
     let left_is : left_at w.d (suc k) ≡ left_behind false (left_at w.d k) o = rw g.there refl in
     let here_left : next.left ≡ left_behind false (left_at w.d k) o = v ∙ ap (λ (x : ℕ). left_behind false x o) w.progress.left in
@@ -417,16 +418,16 @@ moved {how = how} {many = many} bytes a b c rest left k offset o s t course next
         naming = rw (add-one k) (u ∙ ap (λ (x : Naming). naming_after (row_of o) (length t.heap) x) w.progress.naming ∙ sym named);
         left = rw (add-one k) (here_left ∙ sym left_is);
       };
-      written = rw (add-one k, line) (Wrote-trans a b c (entries how w.d k).text (line_of (in_file how.holes offset) course.naming t.heap r) w.written q);
+      written = rw (add-one k, line) (Wrote-trans a b c (entries_in say how w.d k).text (say.line (in_file how.holes offset) course.naming t.heap r) w.written q);
     }
 
 none_inside : (many stop left : Bool) (k : ℕ) → (stop && left) ≡ false → or_here None (many && (stop && left)) k ≡ None
 none_inside true stop left k e = ap (λ (b : Bool). or_here None b k) e
 none_inside false stop left k e = refl
 
-pub goes_on : {how : Manner} {many : Bool} (bytes : List ℕ) (a b : Told) (rest : List ℕ) (left k offset : ℕ) (o : Operation) (s : State) (course : Course)
-    → Moved how many bytes a b rest left k offset o s course → ends_reading many o.opcode ≡ false → (is_stop o.opcode && nat_lt 0 course.left) ≡ false
-    → Walked how many bytes a b rest left (k + 1) offset s course (is_stop o.opcode)
+pub goes_on : {say : Telling} {how : Manner} {many : Bool} (bytes : List ℕ) (a b : Told) (rest : List ℕ) (left k offset : ℕ) (o : Operation) (s : State) (course : Course)
+    → Moved say how many bytes a b rest left k offset o s course → ends_reading many o.opcode ≡ false → (is_stop o.opcode && nat_lt 0 course.left) ≡ false
+    → Walked say how many bytes a b rest left (k + 1) offset s course (is_stop o.opcode)
 goes_on {many = many} bytes a b rest left k offset o s course w miss out =
     let stands : HasRead w.d (k + 1) rest left = rw miss at w.goes in
     record {
@@ -444,9 +445,9 @@ one_pickle_outside true true left k e = absurd cc
 one_pickle_outside true false left k e = absurd cc
 one_pickle_outside false stop left k e = refl
 
-pub stop_runs : {how : Manner} {many : Bool} (bytes : List ℕ) (a b : Told) (rest : List ℕ) (left k offset : ℕ) (o : Operation) (s : State) (course : Course) (n : ℕ)
-    → Moved how many bytes a b rest left k offset o s course → ends_reading many o.opcode ≡ true → n ≡ length rest
-    → IsRun how many bytes a b s (record { course = course; ending = ending.Closed n closing.Stopped; offset = offset; place = k + 1 })
+pub stop_runs : {say : Telling} {how : Manner} {many : Bool} (bytes : List ℕ) (a b : Told) (rest : List ℕ) (left k offset : ℕ) (o : Operation) (s : State) (course : Course) (n : ℕ)
+    → Moved say how many bytes a b rest left k offset o s course → ends_reading many o.opcode ≡ true → n ≡ length rest
+    → IsRun say how many bytes a b s (record { course = course; ending = ending.Closed n closing.Stopped; offset = offset; place = k + 1 })
 stop_runs {many = many} bytes a b rest left k offset o s course n w hit same =
     let done : IsDone w.d (k + 1) rest None = rw hit at w.goes in
     let outside : first_inside w.d (k + 1) ≡ None = w.inside ∙ one_pickle_outside many (is_stop o.opcode) (nat_lt 0 course.left) k hit in
@@ -465,9 +466,9 @@ unfolding calls_end
 unsure_end d k last e f = ap (end_by d) e ∙ ap (end_from d last) f
 
 -- where a frame goes on behind STOP, the lines end
-pub unsure_runs : {how : Manner} {many : Bool} (bytes : List ℕ) (a b : Told) (rest : List ℕ) (left k offset : ℕ) (o : Operation) (s : State) (course : Course) (at : ℕ)
-    → Moved how many bytes a b rest left k offset o s course → ends_reading many o.opcode ≡ false → (is_stop o.opcode && nat_lt 0 course.left) ≡ true → offset ≡ at + size_of o
-    → IsRun how many bytes a b s (record { course = course; ending = ending.Unsure at; offset = offset; place = k + 1 })
+pub unsure_runs : {say : Telling} {how : Manner} {many : Bool} (bytes : List ℕ) (a b : Told) (rest : List ℕ) (left k offset : ℕ) (o : Operation) (s : State) (course : Course) (at : ℕ)
+    → Moved say how many bytes a b rest left k offset o s course → ends_reading many o.opcode ≡ false → (is_stop o.opcode && nat_lt 0 course.left) ≡ true → offset ≡ at + size_of o
+    → IsRun say how many bytes a b s (record { course = course; ending = ending.Unsure at; offset = offset; place = k + 1 })
 unsure_runs {many = many} bytes a b rest left k offset o s course at w miss out is =
     let here : first_inside w.d (k + 1) ≡ Some k = w.inside ∙ is_many many (is_stop o.opcode) (nat_lt 0 course.left) k miss out in
     let far = is_reached (start w.d.many) (ops_of w.d) (length (ops_of w.d)) in
@@ -482,9 +483,9 @@ unsure_runs {many = many} bytes a b rest left k offset o s course at w miss out 
 
 -- ---- errors
 
-pub cut_failed : {A : Type 0} (how : Manner) {many : Bool} (bytes : List ℕ) (a b : Told) (r : Result A TextStop) → IsErrAnd r (λ e. e ≡ stop.Failed) → BreaksCalls how many bytes a b → IfErr r (CutsCalls how many bytes a b)
-cut_failed how bytes a b (Ok x) h w = absurd h
-cut_failed how bytes a b (Err e) h w = rw h w
+pub cut_failed : {A : Type 0} (say : Telling) (how : Manner) {many : Bool} (bytes : List ℕ) (a b : Told) (r : Result A TextStop) → IsErrAnd r (λ e. e ≡ stop.Failed) → BreaksCalls say how many bytes a b → IfErr r (CutsCalls say how many bytes a b)
+cut_failed say how bytes a b (Ok x) h w = absurd h
+cut_failed say how bytes a b (Err e) h w = rw h w
 
 -- ---- bounds
 
@@ -495,8 +496,8 @@ pub record Bounds (bytes : List ℕ) (k offset : ℕ) (o : Operation) (s : State
   pub imports : course.imports ≤ k
   pub calls : course.calls ≤ k
 
-pub bounds : {how : Manner} {many : Bool} {last : Bool} (bytes : List ℕ) (a b : Told) (rest : List ℕ) (left k offset : ℕ) (o : Operation) (s : State) (course : Course)
-    → Walked how many bytes a b rest left k offset s course last → IsNextItem false left rest o (size_of o) → Bounds bytes k offset o s course
+pub bounds : {say : Telling} {how : Manner} {many : Bool} {last : Bool} (bytes : List ℕ) (a b : Told) (rest : List ℕ) (left k offset : ℕ) (o : Operation) (s : State) (course : Course)
+    → Walked say how many bytes a b rest left k offset s course last → IsNextItem false left rest o (size_of o) → Bounds bytes k offset o s course
 bounds bytes a b rest left k offset o s course w n =
     let g = item_in false w.d k left rest o (size_of o) w.reads.framing w.stands n in
     let size : length (document_bytes w.d) ≡ length bytes = ap length w.reads.whole in
@@ -509,8 +510,8 @@ bounds bytes a b rest left k offset o s course w n =
     }
 
 -- no more items were read than there are bytes
-pub place_small : {how : Manner} {many : Bool} {last : Bool} (bytes : List ℕ) (a b : Told) (rest : List ℕ) (left k offset : ℕ) (s : State) (course : Course)
-    → Walked how many bytes a b rest left k offset s course last → k ≤ length bytes
+pub place_small : {say : Telling} {how : Manner} {many : Bool} {last : Bool} (bytes : List ℕ) (a b : Told) (rest : List ℕ) (left k offset : ℕ) (s : State) (course : Course)
+    → Walked say how many bytes a b rest left k offset s course last → k ≤ length bytes
 place_small bytes a b rest left k offset s course w =
     let parts : length (ops_of w.d) ≡ length w.stands.done + length w.stands.to_come = ap length w.stands.parts ∙ length-append w.stands.done w.stands.to_come in
     omega (arith, parts, w.stands.count, length-bytes_of (ops_of w.d), ops_within w.d, ap length w.reads.whole)

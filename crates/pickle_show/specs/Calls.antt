@@ -26,7 +26,8 @@ use Rattle.pickle_show.specs.Report.{refused_on}
 use Rattle.pickle_show.specs.Listing.{reached}
 use Rattle.pickle_show.specs.declared.event.Event.{Event}
 use Rattle.pickle_show.specs.Event.{before_of, event_of}
-use Rattle.pickle_show.specs.CallsLine.{line_of, imports_of, calls_of, calls_end_text, ending_status}
+use Rattle.pickle_show.specs.CallsLine.{imports_of, calls_of, ending_status}
+use Rattle.pickle_show.specs.Telling.{Telling, for_people}
 use Rattle.pickle_io.specs.Holes.{in_file}
 use Rattle.pickle_show.specs.declared.naming.Detail.{Detail}
 use Rattle.pickle_show.specs.Manner.{Manner, ending_in}
@@ -41,8 +42,11 @@ pub record CountedText : Type 0 where
   pub imports : ℕ
   pub calls : ℕ
 
+abbrev pub counted_in : Telling → ℕ → Naming → List Object → Option Event → CountedText
+counted_in f offset m heap e = record { text = f.line offset m heap e; imports = imports_of heap e; calls = calls_of heap e }
+
 abbrev pub counted_text : ℕ → Naming → List Object → Option Event → CountedText
-counted_text offset m heap e = record { text = line_of offset m heap e; imports = imports_of heap e; calls = calls_of heap e }
+counted_text offset m heap e = counted_in for_people offset m heap e
 
 abbrev pub no_entry : CountedText
 no_entry = record { text = []; imports = 0; calls = 0 }
@@ -58,27 +62,33 @@ naming_at how d zero = begin how 0
 naming_at how d (suc k) = naming_on (item_at d k) (run (start d.many) (ops_of d) (suc k)) (naming_at how d k)
 
 -- from the state before the item, as its move is taken on it, to the one after it
-abbrev pub entry_on : ℕ → Naming → Option Operation → Option State → Option State → CountedText
-entry_on offset m (Some o) (Some s) (Some t) = counted_text offset m t.heap (event_of (row_of o) (before_of (fresh s)) t)
-entry_on offset m (Some o) (Some s) None = no_entry
-entry_on offset m (Some o) None t = no_entry
-entry_on offset m None s t = no_entry
+abbrev pub entry_on : Telling → ℕ → Naming → Option Operation → Option State → Option State → CountedText
+entry_on f offset m (Some o) (Some s) (Some t) = counted_in f offset m t.heap (event_of (row_of o) (before_of (fresh s)) t)
+entry_on f offset m (Some o) (Some s) None = no_entry
+entry_on f offset m (Some o) None t = no_entry
+entry_on f offset m None s t = no_entry
 
 -- what item k comes to
-unfoldable pub entry_at : Manner → Contents → ℕ → CountedText
-entry_at how d k =
-    entry_on (in_file how.holes (offset_of d k)) (naming_at how.detail d k) (item_at d k) (run (start d.many) (ops_of d) k)
+unfoldable pub entry_in : Telling → Manner → Contents → ℕ → CountedText
+entry_in f how d k =
+    entry_on f (in_file how.holes (offset_of d k)) (naming_at how.detail d k) (item_at d k) (run (start d.many) (ops_of d) k)
     (run (start d.many) (ops_of d) (suc k))
 
+abbrev pub entry_at : Manner → Contents → ℕ → CountedText
+entry_at how d k = entry_in for_people how d k
+
 -- what the first n items come to
-unfoldable pub entries : Manner → Contents → ℕ → CountedText
-entries how d zero = no_entry
-entries how d (suc k) =
+unfoldable pub entries_in : Telling → Manner → Contents → ℕ → CountedText
+entries_in f how d zero = no_entry
+entries_in f how d (suc k) =
     record {
-      text = (entries how d k).text ⧺ (entry_at how d k).text;
-      imports = (entries how d k).imports + (entry_at how d k).imports;
-      calls = (entries how d k).calls + (entry_at how d k).calls;
+      text = (entries_in f how d k).text ⧺ (entry_in f how d k).text;
+      imports = (entries_in f how d k).imports + (entry_in f how d k).imports;
+      calls = (entries_in f how d k).calls + (entry_in f how d k).calls;
     }
+
+abbrev pub entries : Manner → Contents → ℕ → CountedText
+entries how d k = entries_in for_people how d k
 
 -- ---- a frame that goes on behind STOP
 
@@ -151,11 +161,14 @@ calls_end d = end_by d (reached (start d.many) (ops_of d) (length (ops_of d)))
 -- ---- the text of a document
 
 -- what the items come to, and the last lines
-abbrev pub with_end : Manner → Contents → CountedText → Ending → Output
-with_end how d e x = record { text = e.text ⧺ calls_end_text (document_bytes d) e.imports e.calls (ending_in how.holes x); status = ending_status x }
+abbrev pub with_end : Telling → Manner → Contents → CountedText → Ending → Output
+with_end f how d e x = record { text = e.text ⧺ f.last (document_bytes d) e.imports e.calls (ending_in how.holes x); status = ending_status x }
 
-abbrev pub calls_to : Manner → Contents → CallsEnd → Output
-calls_to how d e = with_end how d (entries how d e.place) e.ending
+abbrev pub calls_to : Telling → Manner → Contents → CallsEnd → Output
+calls_to f how d e = with_end f how d (entries_in f how d e.place) e.ending
 
-unfoldable pub calls : Manner → Contents → Output
-calls how d = calls_to how d (calls_end d)
+unfoldable pub calls_in : Telling → Manner → Contents → Output
+calls_in f how d = calls_to f how d (calls_end d)
+
+abbrev pub calls : Manner → Contents → Output
+calls how d = calls_in for_people how d

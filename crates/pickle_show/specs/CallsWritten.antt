@@ -6,13 +6,14 @@ use Rattle.pickle_io.specs.Device.{Told}
 use Rattle.pickle_show.specs.declared.stop.TextStop.{TextStop}
 use Rattle.pickle_show.specs.Manner.{Manner}
 use Rattle.pickle_show.specs.Output.{Breaks, Begins, Cuts}
-use Rattle.pickle_show.specs.Calls.{calls}
+use Rattle.pickle_show.specs.Telling.{Telling}
+use Rattle.pickle_show.specs.Calls.{calls_in}
 
-abbrev pub BreaksCalls : Manner → Bool → List ℕ → Told → Told → Type 0
-BreaksCalls how many bytes old new = Breaks (calls how) many false bytes old new
+abbrev pub BreaksCalls : Telling → Manner → Bool → List ℕ → Told → Told → Type 0
+BreaksCalls f how many bytes old new = Breaks (calls_in f how) many false bytes old new
 
-abbrev pub BeginsCalls : Manner → Bool → List ℕ → Told → Told → Type 0
-BeginsCalls how many bytes old new = Begins (calls how) many false bytes old new
+abbrev pub BeginsCalls : Telling → Manner → Bool → List ℕ → Told → Told → Type 0
+BeginsCalls f how many bytes old new = Begins (calls_in f how) many false bytes old new
 
-abbrev pub CutsCalls : Manner → Bool → List ℕ → Told → Told → TextStop → Type 0
-CutsCalls how many bytes old new e = Cuts (calls how) many false bytes old new e
+abbrev pub CutsCalls : Telling → Manner → Bool → List ℕ → Told → Told → TextStop → Type 0
+CutsCalls f how many bytes old new e = Cuts (calls_in f how) many false bytes old new e

@@ -4,6 +4,7 @@ pub mod Naming
 pub mod Brief
 pub mod Begins
 pub mod CallsLine
+pub mod Telling
 pub mod Manner
 pub mod Calls
 pub mod Ran

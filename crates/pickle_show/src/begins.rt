@@ -56,7 +56,7 @@ fn begins_by(rows: &[(usize, &'static [u8], &'static str)], bytes: &[u8]) -> Opt
 
 /// What the bytes begin like, if they begin like a file that holds pickles inside.
 #[tactic(auto, unfolding(crate::specs::Begins::begins_like))]
-fn begins_like(bytes: &[u8]) -> Option<&'static str>
+pub fn begins_like(bytes: &[u8]) -> Option<&'static str>
     ensures { option_map (λ s. s.now) result ≡ begins_like bytes.now }
 {
     begins_by(&CONTAINERS, bytes)

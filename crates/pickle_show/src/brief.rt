@@ -7,7 +7,7 @@ ghost use Rattle.pickle_names.specs.Reading.{IsReading};
 ghost use Rattle.pickle_io.specs.Device.{Writes, each};
 ghost use Rattle.pickle_show.specs.Brief.{over_text, cut_quoted, cut_after, cut_decoded, cut_text, cut_long, shown_quoted, payload_after, shown_text, text_after, shown_long, long_after, kind_brief, brief_text, next_brief, comma_list, more_text, cut_list, shown_list, briefs_text, kind_value, value_text};
 
-use crate::front::front;
+use crate::beginning::front;
 use crate::name::{inner, write_global_after, write_stack_after};
 use crate::naming::{Detail, Naming};
 use crate::words::{write_id, write_with_float, write_with_number, write_with_signed};

@@ -9,7 +9,6 @@ ghost use Rattle.pickle_show.specs.Ran.{IsRun, GoesAlong};
 ghost use Rattle.pickle_show.specs.Inside.Part.{IsPart};
 ghost use Rattle.pickle_show.specs.Inside.Walked.{Begun, HasWalked};
 
-use crate::calls_line::write_line;
 use crate::course::Course;
 use crate::end::Ending;
 use crate::event::{Before, event_of};
@@ -17,6 +16,7 @@ use crate::naming::{Detail, leaves_frame};
 use crate::part::{ITEMS_OF_A_PART, Part};
 use crate::report::{Closing, closing_at};
 use crate::stop::TextStop;
+use crate::teller::Teller;
 use pickle_doc::{ItemSource, NextRef, ends_reading, is_stop};
 use pickle_io::{Holes, Page};
 use pickle_machine::{Refusal, Slim};
@@ -49,7 +49,7 @@ struct SoFar<I> {
 
 /// Runs the items of one part, from how far they were run on, and writes their lines.
 #[inline(never)]
-fn run_part<'a, I: ItemSource<'a>, S: Page>(
+fn run_part<'a, T: Teller, I: ItemSource<'a>, S: Page>(
     alloc: Global,
     holes: &Holes,
     many: bool,
@@ -57,13 +57,13 @@ fn run_part<'a, I: ItemSource<'a>, S: Page>(
     machine: &mut Slim<'_>,
     page: &mut S,
 ) -> Result<Part<SoFar<I>, Ran>, TextStop>
-    requires walked { (begun : Begun) × HasWalked holes.now many begun I.unread (S.told page.old) machine.old.state from }
+    requires walked { (begun : Begun) × HasWalked T.telling holes.now many begun I.unread (S.told page.old) machine.old.state from }
     requires along { GoesAlong machine.old (I.unread from.reader) from.place }
-    ensures ok { (begun : Begun) → HasWalked holes.now many begun I.unread (S.told page.old) machine.old.state from
-        → IfOk result (IsPart (HasWalked holes.now many begun I.unread (S.told page.new) machine.new.state)
-        (IsRun (manner begun.detail holes.now) many begun.rest begun.told (S.told page.new) machine.new.state)) }
-    ensures err { (begun : Begun) → HasWalked holes.now many begun I.unread (S.told page.old) machine.old.state from
-        → IfErr result (CutsCalls (manner begun.detail holes.now) many begun.rest begun.told (S.told page.new)) }
+    ensures ok { (begun : Begun) → HasWalked T.telling holes.now many begun I.unread (S.told page.old) machine.old.state from
+        → IfOk result (IsPart (HasWalked T.telling holes.now many begun I.unread (S.told page.new) machine.new.state)
+        (IsRun T.telling (manner begun.detail holes.now) many begun.rest begun.told (S.told page.new) machine.new.state)) }
+    ensures err { (begun : Begun) → HasWalked T.telling holes.now many begun I.unread (S.told page.old) machine.old.state from
+        → IfErr result (CutsCalls T.telling (manner begun.detail holes.now) many begun.rest begun.told (S.told page.new)) }
     ensures along { IfOk result (IsPart (λ far. GoesAlong machine.new (I.unread far.reader) far.place) (λ _. ⊤)) }
     ensures less { IfOk result (IsPart (λ far. length (I.unread far.reader).rest < length (I.unread from.reader).rest) (λ _. ⊤)) }
 {
@@ -102,7 +102,7 @@ fn run_part<'a, I: ItemSource<'a>, S: Page>(
                     }));
                 }
                 let event = event_of(row, before, machine);
-                write_line(holes, offset, course.naming, machine, event, page)?;
+                T::write_step(holes, offset, course.naming, machine, event, page)?;
                 course = course.over(&op, row, machine, event);
                 let at = offset;
                 offset += op.size() as u64;
@@ -144,7 +144,7 @@ fn run_part<'a, I: ItemSource<'a>, S: Page>(
 /// that is not too large, with its frames. It is what is left of a file without these holes, and the lines have the offsets of the file.
 ///
 /// `Memory` (M) where memory runs out, `Failed` where the sink fails; what was written then is a beginning of the text.
-pub fn run_items<'a, I: ItemSource<'a>, S: Page>(
+pub fn run_items<'a, T: Teller, I: ItemSource<'a>, S: Page>(
     alloc: Global,
     detail: Detail,
     holes: &Holes,
@@ -157,8 +157,8 @@ pub fn run_items<'a, I: ItemSource<'a>, S: Page>(
     requires framed { (I.unread source).loose ≡ false }
     requires fresh { machine.old.state ≡ start many }
     requires along { GoesAlong machine.old (I.unread source) 0 }
-    ensures ok { IfOk result (IsRun (manner detail holes.now) many (I.unread source).rest (S.told page.old) (S.told page.new) machine.new.state) }
-    ensures err { IfErr result (CutsCalls (manner detail holes.now) many (I.unread source).rest (S.told page.old) (S.told page.new)) }
+    ensures ok { IfOk result (IsRun T.telling (manner detail holes.now) many (I.unread source).rest (S.told page.old) (S.told page.new) machine.new.state) }
+    ensures err { IfErr result (CutsCalls T.telling (manner detail holes.now) many (I.unread source).rest (S.told page.old) (S.told page.new)) }
 {
     let mut far = SoFar {
         reader: source,
@@ -168,7 +168,7 @@ pub fn run_items<'a, I: ItemSource<'a>, S: Page>(
         stop: false,
     };
     'parts: loop {
-        match run_part(alloc, holes, many, far, machine, page)? {
+        match run_part::<T, I, S>(alloc, holes, many, far, machine, page)? {
             Part::More(next) => far = next,
             Part::End(ran) => return Ok(ran),
         }

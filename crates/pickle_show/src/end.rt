@@ -13,6 +13,7 @@ use crate::course::Course;
 use crate::line::write_kept_line;
 use crate::report::{Closing, status_of, write_closing};
 use crate::stop::TextStop;
+use crate::teller::Teller;
 use pickle_io::{Failed, Holes, Page, write_all, write_decimal};
 
 /// How the lines of a document end.
@@ -87,7 +88,7 @@ fn ending_status(ending: Ending) -> u8
 
 /// Writes the last lines.
 #[tactic(auto, using(pickle_io::proofs::Devices::text_steps), unfolding(crate::specs::CallsLine::calls_end_text))]
-fn write_last_lines<S: Page>(
+pub(crate) fn write_last_lines<S: Page>(
     bytes: &[u8],
     course: Course,
     ending: Ending,
@@ -126,17 +127,17 @@ fn ending_in(holes: &Holes, ending: Ending) -> Ending
 /// Answers the status: 0 where nothing is said of how it ended, else 1.
 ///
 /// `Failed` where the sink fails; a beginning of the lines was written then.
-pub fn write_end<S: Page>(
+pub fn write_end<T: Teller, S: Page>(
     holes: &Holes,
     bytes: &[u8],
     course: Course,
     ending: Ending,
     page: &mut S,
 ) -> Result<u8, TextStop>
-    ensures text { Writes (S.told page.old) (S.told page.new) result (calls_end_text bytes.now course.imports course.calls (ending_in holes.now ending)) }
+    ensures text { Writes (S.told page.old) (S.told page.new) result (T.telling.last bytes.now course.imports course.calls (ending_in holes.now ending)) }
     ensures status { IfOk result (λ status. status ≡ ending_status ending) }
     ensures failed { IfErr result (λ e. e ≡ TextStop.Failed) }
 {
-    write_last_lines(bytes, course, ending_in(holes, ending), page)?;
+    T::write_last(bytes, course, ending_in(holes, ending), page)?;
     Ok(ending_status(ending))
 }

@@ -62,7 +62,7 @@ impl Before {
 
 /// The part of this number, or object 0 where there is none. An object has all the parts that are asked for: a call two or three, a
 /// persistent object or a view one, a global of the stack two.
-pub(crate) fn part(number: usize, parts: &[ObjId]) -> ObjId
+pub fn part(number: usize, parts: &[ObjId]) -> ObjId
     ensures { result ≡ part number parts.now }
 {
     match parts.get(number) {

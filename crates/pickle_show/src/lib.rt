@@ -9,6 +9,7 @@
 //! The texts are this project's own; in them `#n` is object n, by its place in the heap.
 #![tactic(auto)]
 
+mod beginning;
 mod begins;
 mod blanks;
 mod brief;
@@ -20,7 +21,6 @@ mod content;
 mod course;
 mod end;
 mod event;
-mod front;
 mod highest;
 mod kind;
 mod laws;
@@ -40,8 +40,11 @@ mod report_line;
 mod show;
 mod stack;
 mod stop;
+mod teller;
 mod words;
 
+pub use beginning::front;
+pub use begins::begins_like;
 pub use calls::{Ran, run_items};
 pub use calls_laws::{
     first_lines_come_first, line_exactly, line_of_import, line_of_inst, no_line_no_reach,
@@ -50,10 +53,14 @@ pub use calls_laws::{
 pub use calls_line::write_line;
 pub use course::Course;
 pub use end::{Ending, closing_in, write_end, write_totals};
-pub use event::{Before, Event, event_of};
+pub use event::{Before, Event, event_of, part as part_at};
 pub use laws::one_report;
 pub use list::{list_bytes, list_items, write_listing};
 pub use memo::write_memo;
+pub use name::{
+    Imported, NamePair, SpelledText, by_both, by_module, global_pair, inner, inst_pair,
+    may_be_name, short_of, stack_pair,
+};
 pub use naming::{Detail, Naming};
 pub use number::write_right;
 pub use object::{write_all_next, write_objects};
@@ -62,4 +69,5 @@ pub use report_line::{write_fault_at, write_fault_text, write_item_refusal, writ
 pub use show::write_show;
 pub use stack::write_stack;
 pub use stop::TextStop;
+pub use teller::{ForPeople, Teller};
 pub use words::write_id;

@@ -52,7 +52,7 @@ pub struct Imported<'a> {
 }
 
 /// What is between the quotes of a line.
-pub(crate) fn inner(line: &[u8]) -> &[u8]
+pub fn inner(line: &[u8]) -> &[u8]
     ensures { result.now ≡ inner line.now }
 {
     match line.split_first() {
@@ -200,7 +200,7 @@ fn write_said_names<S: Page>(
 }
 
 /// The value of a name, if it is a short text.
-fn short_of(spelled: Option<SpelledText<'_>>) -> Option<ArrayVec<u8, 32>>
+pub fn short_of(spelled: Option<SpelledText<'_>>) -> Option<ArrayVec<u8, 32>>
     ensures { option_map (λ v. v.items) result ≡ short_of (option_map spelled_view spelled.entry) }
 {
     match spelled {
@@ -226,7 +226,7 @@ fn plain_of<'a>(spelled: Option<SpelledText<'a>>) -> Option<&'a [u8]>
 }
 
 /// Whether a name is a text that can be read, or no text, which is a name by the time that it is looked up.
-fn may_be_name(spelled: Option<SpelledText<'_>>) -> bool
+pub fn may_be_name(spelled: Option<SpelledText<'_>>) -> bool
     ensures { result ≡ may_be_name (option_map spelled_view spelled.entry) }
 {
     match spelled {
@@ -236,7 +236,7 @@ fn may_be_name(spelled: Option<SpelledText<'_>>) -> bool
 }
 
 /// What is imported where both names have a row.
-fn by_both<'a>(new: Option<NewNames<'a>>) -> Option<Imported<'a>>
+pub fn by_both<'a>(new: Option<NewNames<'a>>) -> Option<Imported<'a>>
     ensures { option_map new_view result ≡ option_map by_both (option_map import_of new.entry) }
 {
     match new {
@@ -249,7 +249,7 @@ fn by_both<'a>(new: Option<NewNames<'a>>) -> Option<Imported<'a>>
 }
 
 /// What is imported where only the module may have a row.
-fn by_module(from: &[u8], named: bool) -> Option<Imported<'static>>
+pub fn by_module(from: &[u8], named: bool) -> Option<Imported<'static>>
     ensures { option_map new_view result ≡ renamed_by (Some from.now) None named }
 {
     if !named {

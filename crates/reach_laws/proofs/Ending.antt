@@ -1,6 +1,6 @@
 -- What each opcode does at which loaders end that reached nothing: it raises, and no act reaches something.
 use Rattle.std.proofs.Common.{◌≡◌, ℕ, ◌+◌, ◌-◌, Bool, true, false, List, [], ◌∷◌, take, drop, Some, None, refl, sym, ap, subst, ◌∙◌}
-use Rattle.std.specs.Prelude.{All, ◌&&◌, not, if◌then◌else◌, nat_le, length}
+use Rattle.std.specs.Prelude.{All, ◌&&◌, ◌||◌, not, if◌then◌else◌, nat_le, length}
 use Rattle.std.proofs.lemmas.List.Elements.{All-head, All-take, All-drop}
 use Rattle.pickle_ops.specs.declared.opcode.Opcode.{Opcode}
 use Rattle.pickle_ops.specs.declared.opcode.Opcode.TheVariants as op
@@ -10,9 +10,9 @@ use Rattle.pickle_loader.specs.Environment.{Value, is_elsewhere, Line, Given, Ac
 use Rattle.pickle_loader.specs.Unpickler.{Step, Ran, Stopped, Raised, answered, ask, get, item, pop, to_mark, pop_mark, iterates, has_keys, can_call, can_call_with, if_able, instantiated, is_str, append, load_stack_global, load_reduce, load_newobj, load_newobj_ex, load_binpersid}
 use Rattle.pickle_loader.specs.Dispatch.{dispatch}
 use Rattle.pickle_reach.specs.declared.granted.Granted.{Granted}
-use Rattle.pickle_reach.specs.Names.{line_names}
+use Rattle.pickle_reach.specs.Names.{lines_import}
 use Rattle.pickle_reach.specs.Item.{opcode_reaches, opcode_ends, is_unread}
-use Rattle.reach_laws.specs.Reached.{is_refused, act_reaches, NoneReaches, IsGranted}
+use Rattle.reach_laws.specs.Reached.{value_names, is_refused, act_reaches, NoneReaches, IsGranted}
 use Rattle.reach_laws.proofs.Tame.{Tame, AreBelow, own_only, no_name, item_tame, IsTame, act_more}
 
 -- it raised, and no act reaches something
@@ -81,7 +81,7 @@ instance_ends w g named (cls ∷ args) u all t = unable w g named (is_elsewhere 
 
 -- ---- each opcode
 
-global_ends : (w : World) (g : Granted) (named : Bool) (arg : List ℕ) (u : Unpickler) (go : Value → Unpickler → Step) → IsGranted g w → line_names (first_text arg) ≡ false → IsTame g named u → Ends g (ask w (Find u.proto (Line (first_text arg)) (Line (second_text arg))) u go)
+global_ends : (w : World) (g : Granted) (named : Bool) (arg : List ℕ) (u : Unpickler) (go : Value → Unpickler → Step) → IsGranted g w → lines_import (first_text arg) (second_text arg) ≡ false → IsTame g named u → Ends g (ask w (Find u.proto (Line (first_text arg)) (Line (second_text arg))) u go)
 global_ends w g named arg u go keeps none t = refused w g named (Find u.proto (Line (first_text arg)) (Line (second_text arg))) u go keeps (ap not none) t
 
 -- what is found goes onto the stack
@@ -92,12 +92,16 @@ found_in_texts : World → List Value → Unpickler → Step
 found_in_texts w vs q =
     if is_str w (item 1 vs) then (if is_str w (item 0 vs) then get w (Find q.proto (Given (item 0 vs)) (Given (item 1 vs))) q else Raised q.acts) else Raised q.acts
 
+-- of two values that are no such names none is imported
+neither : (v m : Value) → Tame false v → Tame false m → (value_names v || value_names m) ≡ false
+neither v m one other = ap (λ (b : Bool). b || value_names m) (no_name v one) ∙ no_name m other
+
 texts_end : (w : World) (g : Granted) (vs : List Value) (q : Unpickler) → IsGranted g w → All (Tame false) vs → IsTame g false q → Ends g (found_in_texts w vs q)
 unfolding found_in_texts
 texts_end w g vs q keeps all h =
     let a : Act = Find q.proto (Given (item 0 vs)) (Given (item 1 vs)) in
     either_ends g (is_str w (item 1 vs)) (if is_str w (item 0 vs) then get w a q else Raised q.acts) (Raised q.acts)
-    (either_ends g (is_str w (item 0 vs)) (get w a q) (Raised q.acts) (refused w g false a q pushes keeps (ap not (no_name (item 0 vs) (item_tame false 0 vs all))) h) h.acts) h.acts
+    (either_ends g (is_str w (item 0 vs)) (get w a q) (Raised q.acts) (refused w g false a q pushes keeps (ap not (neither (item 0 vs) (item 1 vs) (item_tame false 0 vs all) (item_tame false 1 vs all))) h) h.acts) h.acts
 
 stack_global_ends : (w : World) (g : Granted) (u : Unpickler) → IsGranted g w → IsTame g false u → Ends g (load_stack_global w u)
 unfolding found_in_texts

@@ -18,12 +18,12 @@ use Rattle.pickle_lenient.specs.Stream as stream
 use Rattle.pickle_lenient.specs.Stream.{arg_read, code_read, first_read, ends_in, settled, taken_as, within, across, taken}
 use Rattle.pickle_further.specs.declared.way.Pickles.{Pickles}
 use Rattle.pickle_further.specs.declared.way.Pickles.TheVariants as pickles
+use Rattle.pickle_further.specs.Parts.{file_frames}
 use Rattle.pickle_loader.specs.Environment.{World}
 use Rattle.pickle_loader.specs.CUnpickler.{CUnpickler, CRaised, dispatch}
 use Rattle.pickle_loader.specs.ShownFile as input
 use Rattle.pickle_loader.specs.ShownFile.{Input, Chunk, read, behind, CFetched, CFetch, CNoFetch, fetched, with_arg, with_code, with_key, fetch}
 use Rattle.pickle_loader.proofs.Plain.{whole_front, cut_ends}
-use Rattle.reach_laws.specs.Filed.{file_frames}
 use Rattle.reach_laws.proofs.Split.{Split, all, Got, reads, reads_arg}
 use Rattle.reach_laws.proofs.Standing.{IsAt, Sees, sees_read, sees_arg}
 use Rattle.reach_laws.proofs.Wholes.{Side, Inside, Outside, at_side, piece, gives, gives_arg, gives_below, outside_only, none_arg, none_fixed}

@@ -15,6 +15,7 @@ use Rattle.pickle_lenient.specs.Lenient.{Lenient, lenient}
 use Rattle.pickle_lenient.specs.Stream.{joined, refilled, settled, taken_as, across, taken}
 use Rattle.pickle_further.specs.declared.way.Pickles.{Pickles}
 use Rattle.pickle_further.specs.declared.way.Pickles.TheVariants as pickles
+use Rattle.pickle_further.specs.Parts.{file_frames}
 use Rattle.pickle_loader.specs.Environment.{Act, World}
 use Rattle.pickle_loader.specs.Dispatch.{acts_of}
 use Rattle.pickle_loader.specs.Onward.{reads_on}
@@ -27,7 +28,7 @@ use Rattle.pickle_reach.specs.declared.granted.Granted.{Granted}
 use Rattle.pickle_reach.specs.Item.{is_unread}
 use Rattle.reach_laws.specs.Mixed.{c_opened, c_as_shown, c_load_turn, c_load_mixed}
 use Rattle.reach_laws.specs.Reached.{NoneReaches, IsGranted}
-use Rattle.reach_laws.specs.Filed.{file_frames, file_turn, file_mix, frames_pass, IsWith, loses, turn_loses, mix_loses, FilesAreMixes, NothingReachedInAFile, NothingReachedOfAPipe}
+use Rattle.reach_laws.specs.Filed.{file_turn, file_mix, frames_pass, IsWith, loses, turn_loses, mix_loses, FilesAreMixes, NothingReachedInAFile, NothingReachedOfAPipe}
 use Rattle.reach_laws.proofs.InC.{nothing_reached_in_c}
 use Rattle.reach_laws.proofs.Framed.{nothing_reached_by_frames}
 use Rattle.reach_laws.proofs.Split.{Split, all}

@@ -11,7 +11,7 @@ use Rattle.pickle_lenient.specs.Stream.{taken}
 use Rattle.pickle_further.specs.declared.way.Pickles.{Pickles}
 use Rattle.pickle_further.specs.declared.way.Pickles.TheVariants as pickles
 use Rattle.pickle_further.specs.declared.way.Way.{Way}
-use Rattle.pickle_further.specs.Parts.{ignoring}
+use Rattle.pickle_further.specs.Parts.{ignoring, file_frames}
 use Rattle.pickle_loader.specs.Environment.{Act, World}
 use Rattle.pickle_loader.specs.Dispatch.{acts_of}
 use Rattle.pickle_loader.specs.Listed.{listed_of}
@@ -23,7 +23,7 @@ use Rattle.pickle_loader.specs.Text.{way_of}
 use Rattle.pickle_loader.proofs.Buffers.{plain_item, none_of, buffered_same}
 use Rattle.pickle_loader.proofs.ActLines.{each_act_in_c_has_its_line}
 use Rattle.reach_laws.specs.Mixed.{c_opened, c_as_shown, c_load_turn, c_load_mixed}
-use Rattle.reach_laws.specs.Filed.{file_frames, file_turn, file_mix, frames_pass, loses, turn_loses, mix_loses, IsReadSo, FilesThatShowAllAreBytes, EachActOfAFileHasItsLine}
+use Rattle.reach_laws.specs.Filed.{file_turn, file_mix, frames_pass, loses, turn_loses, mix_loses, IsReadSo, FilesThatShowAllAreBytes, EachActOfAFileHasItsLine}
 use Rattle.reach_laws.proofs.Filed.{files_are_mixes, mix_of, same_acts, turn_is}
 
 -- ---- what is shown stays

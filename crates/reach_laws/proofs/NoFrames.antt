@@ -17,11 +17,10 @@ use Rattle.pickle_lenient.specs.declared.taken.Taken.{Taken}
 use Rattle.pickle_lenient.specs.Lenient.{Lenient, mended, tells_line, odd_line, odd_so, taken_so, mended_so, cut_line, lenient_at, lenient}
 use Rattle.pickle_lenient.specs.Stream.{joined, refilled, framed, settled, taken_as, across, taken}
 use Rattle.pickle_further.specs.declared.way.Pickles.{Pickles}
-use Rattle.pickle_further.specs.Parts.{is_frame_code}
+use Rattle.pickle_further.specs.Parts.{is_frame_code, file_frames}
 use Rattle.pickle_loader.proofs.Buffering.{nothing_framed}
 use Rattle.pickle_loader.proofs.Buffers.{none_of}
 use Rattle.pickle_loader.proofs.Items.{none_taken}
-use Rattle.reach_laws.specs.Filed.{file_frames}
 use Rattle.reach_laws.proofs.Fetched.{ends_loads, taken_by}
 
 abbrev pub NoFrame : List ℕ → Type 0

@@ -15,7 +15,7 @@ use Rattle.pickle_show.specs.declared.naming.Detail.TheVariants as detail
 use Rattle.pickle_further.specs.declared.way.Pickles.{Pickles}
 use Rattle.pickle_further.specs.Splits.{leaves_by, are_apart, splits}
 use Rattle.pickle_further.specs.Going.{Standing, Going, going, stands_after}
-use Rattle.pickle_further.specs.Parts.{ignoring, standing_first, is_frame_code, split_at, mixed_from}
+use Rattle.pickle_further.specs.Parts.{ignoring, standing_first, is_frame_code, split_at, mixed_from, file_frames}
 use Rattle.pickle_loader.specs.Environment.{Act, World}
 use Rattle.pickle_loader.specs.Dispatch.{acts_of}
 use Rattle.pickle_loader.specs.Onward.{reads_on, stands_behind, stands_on, stands}
@@ -26,7 +26,7 @@ use Rattle.pickle_loader.proofs.Items.{none_taken}
 use Rattle.pickle_loader.proofs.Reaches.{few}
 use Rattle.pickle_loader.proofs.Ways.{behind_is}
 use Rattle.reach_laws.specs.Mixed.{c_opened, c_as_shown, c_load_turn, c_load_mixed}
-use Rattle.reach_laws.specs.Filed.{file_frames, file_turn, file_mix}
+use Rattle.reach_laws.specs.Filed.{file_turn, file_mix}
 use Rattle.reach_laws.proofs.Filed.{kept_empty, no_more, turn_is}
 use Rattle.reach_laws.proofs.Lossless.{plain_more, shown_now, shown_rest, off_turn, failed_stays, way_next, reading, DidSo}
 use Rattle.reach_laws.proofs.NoFrames.{NoFrame, none_dropped, stays_empty}

@@ -17,7 +17,7 @@ use Rattle.pickle_further.specs.declared.way.Way.{Way}
 use Rattle.pickle_further.specs.declared.way.Spot.{Spot}
 use Rattle.pickle_further.specs.Splits.{leaves_by, are_apart, splits}
 use Rattle.pickle_further.specs.Going.{Standing, Going, going, stands_after, search}
-use Rattle.pickle_further.specs.Parts.{standing_first}
+use Rattle.pickle_further.specs.Parts.{standing_first, file_frames}
 use Rattle.pickle_loader.specs.Environment.{World}
 use Rattle.pickle_loader.specs.Onward.{Onward, stands_behind, stands, reads_on, load_way}
 use Rattle.pickle_loader.specs.CLoad.{CLoaded, seen_loaded, COnward, c_load_more, c_load_read, c_load_on, c_load_way, as_in_c}
@@ -28,7 +28,7 @@ use Rattle.pickle_loader.proofs.CLoads.{one_load}
 use Rattle.pickle_loader.proofs.Details.{stands_named}
 use Rattle.pickle_loader.proofs.Buffers.{plain_item, none_of, buffered_same}
 use Rattle.reach_laws.specs.Mixed.{c_opened, c_as_shown, c_load_turn, c_load_mixed}
-use Rattle.reach_laws.specs.Filed.{file_frames, file_turn, file_mix}
+use Rattle.reach_laws.specs.Filed.{file_turn, file_mix}
 use Rattle.reach_laws.proofs.Filed.{kept_empty}
 use Rattle.reach_laws.proofs.Lossless.{plain_more, shown_now, shown_rest, reading}
 

@@ -21,14 +21,14 @@ use Rattle.pickle_show.specs.Calls.{calls_end}
 use Rattle.pickle_further.specs.declared.way.Pickles.{Pickles}
 use Rattle.pickle_further.specs.declared.way.Pickles.TheVariants as pickles
 use Rattle.pickle_further.specs.declared.way.Way.{Way}
-use Rattle.pickle_further.specs.Going.{Standing}
-use Rattle.pickle_further.specs.Parts.{ignoring, buffering, are_many, is_open, standing_first, split_at, mixed_from, first_mixed, mixed_words, mixed_line, mixed_text}
-use Rattle.pickle_further.specs.CallsText.{IsCallsText}
+use Rattle.pickle_further.specs.Going.{Standing, tale_of}
+use Rattle.pickle_further.specs.Parts.{ignoring, buffering, are_many, is_open, standing_first, first_mixed, mixed_words, mixed_line, mixed_text, file_frames}
+use Rattle.pickle_further.specs.CallsText.{first_loss, IsCallsText}
 use Rattle.pickle_loader.specs.Environment.{Value, Act, World}
 use Rattle.pickle_loader.specs.Dispatch.{acts_of}
 use Rattle.pickle_loader.specs.Listed.{listed_of}
 use Rattle.pickle_loader.specs.Onward.{Onward, stands, reads_on, load_way, begins_anew}
-use Rattle.pickle_loader.specs.Text.{document_lines, lost_lines, mixed_lines, IsAmong, way_of, is_in_text}
+use Rattle.pickle_loader.specs.Text.{document_lines, lost_lines, mixed_lines, kept_first, kept_last, kept_parts, kept_lines, IsAmong, way_of, is_in_text}
 use Rattle.pickle_loader.specs.ByFrames.{IsAct}
 use Rattle.pickle_loader.specs.CLoad.{CLoaded, seen_loaded, COnward, c_load_way, as_in_c}
 use Rattle.pickle_loader.specs.ShownFile.{CLoading, fetch, c_load_found, c_load_file}
@@ -45,10 +45,9 @@ use Rattle.pickle_loader.proofs.Streams.{quiet_item}
 use Rattle.pickle_loader.proofs.Ways.{by_items}
 use Rattle.pickle_loader.proofs.WholeText.{whole_text_is_its_lines}
 use Rattle.reach_laws.specs.Mixed.{c_opened, c_load_mixed}
-use Rattle.reach_laws.specs.Filed.{file_frames, file_mix, frames_pass}
+use Rattle.reach_laws.specs.Filed.{file_mix, frames_pass}
 use Rattle.reach_laws.specs.Told.{SaysMixed, HaveLines, EachActOfAFileIsTold}
 use Rattle.reach_laws.proofs.Filed.{files_are_mixes, same_acts}
-use Rattle.reach_laws.proofs.Lossless.{reading}
 use Rattle.reach_laws.proofs.Partings.{each_did}
 
 -- ---- where loaders go on behind the end
@@ -71,17 +70,17 @@ abbrev pub Told : Manner → World → (ℕ → ℕ) → Pickles → List ℕ �
 Told how w shows p bytes o = (V : ℕ → Value) × (U : ℕ → Value)
     × ((n : ℕ)
     → HaveLines how V p frames.Ignored bytes o (listed_of (acts_of (seen_loaded (c_load_file w shows p bytes n).now)))
-    ⊎ HaveLines how U p frames.Buffered bytes o (listed_of (acts_of (seen_loaded (c_load_file w shows p bytes n).now))))
+    ⊎ HaveLines how U p (file_frames p) bytes o (listed_of (acts_of (seen_loaded (c_load_file w shows p bytes n).now))))
 
 -- at each point it did what a load in one of these ways did at some point
 abbrev DidAs : World → World → (ℕ → ℕ) → Pickles → List ℕ → Frames → ℕ → Type 0
 DidAs w v shows p bytes f n = (m : ℕ) × (acts_of (seen_loaded (c_load_file w shows p bytes n).now) ≡ acts_of (seen_loaded (c_load_way v (way_of p f) bytes m).now))
 
-told_by : (how : Manner) (w v : World) (shows : ℕ → ℕ) (p : Pickles) (bytes : List ℕ) (o : Output) → IsCallsText how p bytes o → length bytes < 2 ^ 64 → is_in_text p frames.Ignored ≡ true → is_in_text p frames.Buffered ≡ true
-    → ((n : ℕ) → DidAs w v shows p bytes frames.Ignored n ⊎ DidAs w v shows p bytes frames.Buffered n) → Told how w shows p bytes o
+told_by : (how : Manner) (w v : World) (shows : ℕ → ℕ) (p : Pickles) (bytes : List ℕ) (o : Output) → IsCallsText how p bytes o → length bytes < 2 ^ 64 → is_in_text p frames.Ignored ≡ true → is_in_text p (file_frames p) ≡ true
+    → ((n : ℕ) → DidAs w v shows p bytes frames.Ignored n ⊎ DidAs w v shows p bytes (file_frames p) n) → Told how w shows p bytes o
 told_by how w v shows p bytes o text small plainly kept does =
     let first = each_act_in_c_has_its_line how v p frames.Ignored bytes o text small plainly in
-    let second = each_act_in_c_has_its_line how v p frames.Buffered bytes o text small kept in (
+    let second = each_act_in_c_has_its_line how v p (file_frames p) bytes o text small kept in (
       first.0,
       second.0,
       λ n. elim (does n) [
@@ -90,17 +89,14 @@ told_by how w v shows p bytes o text small plainly kept does =
       ],
     )
 
-did_open : (how : Manner) (w : World) (shows : ℕ → ℕ) (p : Pickles) (bytes : List ℕ) → length bytes < 2 ^ 31 → file_frames p ≡ frames.Buffered → first_mixed how.detail p bytes ≡ None → (n : ℕ)
-    → DidAs w (frames_pass w) shows p bytes frames.Ignored n ⊎ DidAs w (frames_pass w) shows p bytes frames.Buffered n
-did_open how w shows p bytes small kept none n =
+did_open : (how : Manner) (w : World) (shows : ℕ → ℕ) (p : Pickles) (bytes : List ℕ) → length bytes < 2 ^ 31 → first_mixed how.detail p bytes ≡ None → (n : ℕ)
+    → DidAs w (frames_pass w) shows p bytes frames.Ignored n ⊎ DidAs w (frames_pass w) shows p bytes (file_frames p) n
+did_open how w shows p bytes small none n =
     let mix = files_are_mixes w shows p bytes n small in
     let y : COnward = c_load_mixed (frames_pass w) (file_mix p mix.0) (c_opened bytes) in
     let same = same_acts (c_load_file w shows p bytes n).now y.now mix.1 in
-    let way : buffering p ≡ reading p = ap (λ (f : Frames). record { pickles = p; frames = f }) (sym kept) in
-    let none_so : mixed_from (reading p) (split_at how.detail (reading p) bytes) ≡ None = ap (λ (v : Way). mixed_from v (split_at how.detail v bytes)) (sym way) ∙ none in
-    elim (each_did how.detail (frames_pass w) p bytes mix.0 none_so) [
-      | inl did ↦
-          inr (did.0, same ∙ did.1 ∙ ap (λ (f : Frames). acts_of (seen_loaded (c_load_way (frames_pass w) (way_of p f) bytes did.0).now)) kept)
+    elim (each_did how.detail (frames_pass w) p bytes mix.0 none) [
+      | inl did ↦ inr (did.0, same ∙ did.1)
       | inr did ↦ inl (did.0, same ∙ did.1)
     ]
 
@@ -208,22 +204,36 @@ did_closed w shows p bytes d whole r closed n =
 -- ---- the law
 
 of_document : (how : Manner) (w : World) (shows : ℕ → ℕ) (p : Pickles) (bytes : List ℕ) (o : Output) (d : Contents) (b : Bool) → IsCallsText how p bytes o → length bytes < 2 ^ 31 → begins_anew p ≡ true → ReadsAs (are_many p) bytes d → cut_lines o.text ≡ document_lines how p d
-    → is_in_text p frames.Ignored ≡ true → is_in_text p frames.Buffered ≡ true → file_frames p ≡ frames.Buffered → is_open (calls_end d).ending ≡ b → SaysMixed o ⊎ Told how w shows p bytes o
-of_document how w shows p bytes o d false text small anew reads lines plainly kept way closed =
+    → is_in_text p frames.Ignored ≡ true → is_in_text p (file_frames p) ≡ true → is_open (calls_end d).ending ≡ b → SaysMixed o ⊎ Told how w shows p bytes o
+of_document how w shows p bytes o d false text small anew reads lines plainly kept closed =
     inr (told_by how w w shows p bytes o text (omega (arith, small)) plainly kept (λ n. inl (did_closed w shows p bytes d reads.whole (read_so p bytes d reads (omega (arith, small)) anew) closed n)))
-of_document how w shows p bytes o d true text small anew reads lines plainly kept way goes = by (first_mixed how.detail p (document_bytes d)) refl
+of_document how w shows p bytes o d true text small anew reads lines plainly kept goes = by (first_mixed how.detail p (document_bytes d)) refl
   where
     by : (x : Option ℕ) → first_mixed how.detail p (document_bytes d) ≡ x → SaysMixed o ⊎ Told how w shows p bytes o
     by (Some n) is = inl (says_mixed how p d o n lines goes is)
     by None is =
         let none : first_mixed how.detail p bytes ≡ None = ap (first_mixed how.detail p) (sym reads.whole) ∙ is in
-        inr (told_by how w (frames_pass w) shows p bytes o text (omega (arith, small)) plainly kept (did_open how w shows p bytes small way none))
+        inr (told_by how w (frames_pass w) shows p bytes o text (omega (arith, small)) plainly kept (did_open how w shows p bytes small none))
+
+-- of one unpickler that loads again the line stands behind all others, whatever ends them
+of_kept : (how : Manner) (w : World) (shows : ℕ → ℕ) (bytes : List ℕ) (o : Output) (x : Option ℕ) → IsCallsText how pickles.OneMemo bytes o → length bytes < 2 ^ 31 → first_mixed how.detail pickles.OneMemo bytes ≡ x
+    → SaysMixed o ⊎ Told how w shows pickles.OneMemo bytes o
+of_kept how w shows bytes o None text small is = inr (told_by how w (frames_pass w) shows pickles.OneMemo bytes o text (omega (arith, small)) refl refl (did_open how w shows pickles.OneMemo bytes small is))
+of_kept how w shows bytes o (Some n) text small is =
+    let p : Standing = standing_first how.detail pickles.OneMemo bytes in
+    let line : List ℕ = mixed_line (in_file how.holes n) in
+    let first : List (List ℕ) = kept_first how p ++ kept_last how bytes (tale_of how.holes (ignoring pickles.OneMemo) p) in
+    let lossy : List (List ℕ) = kept_parts how bytes (first_loss how.detail bytes) in
+    let mixed : List (List ℕ) = mixed_lines how pickles.OneMemo bytes in
+    let here : IsAmong line mixed = subst (λ (x : Option ℕ). IsAmong line (if_any (mixed_text how.holes x))) (sym is) (among_any line (mixed_some (in_file how.holes n))) in
+    let there : IsAmong line (kept_lines how bytes) = among_right line first (lossy ++ mixed) (among_right line lossy mixed here) in
+    inl (in_file how.holes n, subst (IsAmong line) (sym (whole_text_is_its_lines how pickles.OneMemo bytes o text)) there)
 
 pub each_act_of_a_file_is_told : EachActOfAFileIsTold
-each_act_of_a_file_is_told how w shows pickles.First bytes o text small anew =
+each_act_of_a_file_is_told how w shows pickles.First bytes o text small =
     let x = whole_text_is_its_lines how pickles.First bytes o text in
-    of_document how w shows pickles.First bytes o x.0 (is_open (calls_end x.0).ending) text small anew x.1 x.2 refl refl refl refl
-each_act_of_a_file_is_told how w shows pickles.All bytes o text small anew =
+    of_document how w shows pickles.First bytes o x.0 (is_open (calls_end x.0).ending) text small refl x.1 x.2 refl refl refl
+each_act_of_a_file_is_told how w shows pickles.All bytes o text small =
     let x = whole_text_is_its_lines how pickles.All bytes o text in
-    of_document how w shows pickles.All bytes o x.0 (is_open (calls_end x.0).ending) text small anew x.1 x.2 refl refl refl refl
-each_act_of_a_file_is_told how w shows pickles.OneMemo bytes o text small anew = let wrong : false ≡ true = anew in absurd cc
+    of_document how w shows pickles.All bytes o x.0 (is_open (calls_end x.0).ending) text small refl x.1 x.2 refl refl refl
+each_act_of_a_file_is_told how w shows pickles.OneMemo bytes o text small = of_kept how w shows bytes o (first_mixed how.detail pickles.OneMemo bytes) text small refl

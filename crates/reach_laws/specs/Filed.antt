@@ -12,7 +12,7 @@ use Rattle.pickle_show.specs.Manner.{Manner}
 use Rattle.pickle_show.specs.Output.{Output}
 use Rattle.pickle_further.specs.declared.way.Pickles.{Pickles}
 use Rattle.pickle_further.specs.declared.way.Pickles.TheVariants as pickles
-use Rattle.pickle_further.specs.Parts.{ignoring}
+use Rattle.pickle_further.specs.Parts.{ignoring, file_frames, of_file}
 use Rattle.pickle_further.specs.CallsText.{IsCallsText}
 use Rattle.pickle_loader.specs.Environment.{Value, Act, Unpickler, World}
 use Rattle.pickle_loader.specs.Dispatch.{acts_of}
@@ -30,14 +30,9 @@ use Rattle.reach_laws.specs.Reached.{NoneReaches, IsGranted}
 
 -- ---- the mix of a file
 
--- the way in which each item is read: a buffer, which the end of a load ends where each load has an unpickler of its own
-abbrev pub file_frames : Pickles → Frames
-file_frames pickles.OneMemo = frames.Held
-file_frames p = frames.Buffered
-
 -- all that differs from file to file is which frames are shown, and so are not lost
 abbrev pub file_turn : Pickles → Bool → Turn
-file_turn p shown = record { way = record { pickles = p; frames = file_frames p }; shown = shown }
+file_turn p shown = record { way = of_file p; shown = shown }
 
 abbrev pub file_mix : Pickles → List Bool → List Turn
 file_mix p shown = map (file_turn p) shown

@@ -1,6 +1,6 @@
 -- Which acts reach something, for a loader that was given this besides the bytes; and that none does where `first_reach` answers nothing.
 -- Source: own.
-use Rattle.std.specs.Prelude.{◌≡◌, ℕ, ◌&&◌, not, Bool, true, false, List, replicate, All}
+use Rattle.std.specs.Prelude.{◌≡◌, ℕ, ◌&&◌, ◌||◌, not, Bool, true, false, List, replicate, All}
 use Rattle.pickle_ops.specs.declared.kind.Kind.{Kind}
 use Rattle.pickle_ops.specs.declared.kind.Kind.TheVariants as kind
 use Rattle.pickle_ops.specs.Spelling.{Operation}
@@ -13,14 +13,14 @@ use Rattle.pickle_further.specs.declared.way.Pickles.{Pickles}
 use Rattle.pickle_loader.specs.ByFrames.{load_framed}
 use Rattle.pickle_loader.specs.CLoad.{seen_loaded}
 use Rattle.pickle_reach.specs.declared.granted.Granted.{Granted}
-use Rattle.pickle_reach.specs.Names.{line_names, text_names}
+use Rattle.pickle_reach.specs.Names.{lines_import, text_names}
 use Rattle.pickle_reach.specs.Item.{is_unread}
 use Rattle.pickle_reach.specs.Reach.{first_spot, NothingFrom}
 use Rattle.reach_laws.specs.Mixed.{Turn, opened, load_mixed, c_opened, c_load_mixed}
 
 -- ---- names
 
--- a literal that may be the name of a module; of a quoted line nothing is asked
+-- a literal that may be the name of a module, or of what a loader has an answer for anyhow; of a quoted line nothing is asked
 abbrev pub kind_names : Kind → Bool
 kind_names (kind.Text bytes) = text_names bytes
 kind_names (kind.TextLine bytes) = text_names bytes
@@ -33,15 +33,17 @@ value_names (Plain k) = kind_names k
 value_names (Own t n) = false
 value_names (Foreign t n) = true
 
-abbrev pub module_names : Name → Bool
-module_names (Line bytes) = line_names bytes
-module_names (Given v) = value_names v
+-- an import by two lines, or by two values, either of which may be such a name
+abbrev pub may_import : Name → Name → Bool
+may_import (Line module_line) (Line member_line) = lines_import module_line member_line
+may_import (Given module_name) (Given member_name) = value_names module_name || value_names member_name
+may_import _ _ = true
 
 -- ---- acts
 
--- what raises: an import from what can be no module, and what the loader was not given
+-- what raises: an import from what can be no module, of what no loader has an answer for anyhow; and what the loader was not given
 abbrev pub is_refused : Granted → Act → Bool
-is_refused g (Find proto module_name member_name) = not (module_names module_name)
+is_refused g (Find proto module_name member_name) = not (may_import module_name member_name)
 is_refused g (Extension code) = not g.extensions
 is_refused g (Persist identity) = not g.persistent
 is_refused g (NextBuffer number) = not g.buffers
@@ -59,7 +61,8 @@ NoneReaches g acts = All (λ (a : Act). act_reaches g a ≡ false) acts
 
 -- what is refused raises, and so does a number that is none
 -- Source: Lib/pickle.py and Modules/_pickle.c: `persistent_load`, `get_extension`, `load_next_buffer`, `load_int`, `load_long`, `load_float`;
--- `find_class`: `__import__` of a name that no module has.
+-- `find_class`: `__import__` of a name that no module has. torch/serialization.py: `find_class` in `_load` and `_legacy_load`: what has an answer
+-- before it is imported.
 pub record IsGranted (g : Granted) (w : World) : Type 0 where
   pub refuses : (acts : List Act) (a : Act) → is_refused g a ≡ true → w.reply acts a ≡ Raises
   pub unread : (u : Unpickler) (o : Operation) → is_unread o.opcode o.arg ≡ true → w.fails u o ≡ true

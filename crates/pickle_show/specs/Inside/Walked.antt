@@ -12,14 +12,15 @@ use Rattle.pickle_show.specs.declared.calls.SoFar.{SoFar}
 use Rattle.pickle_show.specs.declared.course.Course.{Course}
 use Rattle.pickle_show.specs.declared.naming.Detail.{Detail}
 use Rattle.pickle_show.specs.Manner.{Manner, manner}
-use Rattle.pickle_show.specs.Calls.{naming_at, left_at, first_inside, entries}
+use Rattle.pickle_show.specs.Telling.{Telling}
+use Rattle.pickle_show.specs.Calls.{naming_at, left_at, first_inside, entries_in}
 
 -- the first k items have moves; this is the state that they reach, and these are the counts of their lines
-pub record Progress (how : Manner) (d : Contents) (k offset : ℕ) (s : State) (course : Course) : Type 0 where
+pub record Progress (f : Telling) (how : Manner) (d : Contents) (k offset : ℕ) (s : State) (course : Course) : Type 0 where
   pub reached : run (start d.many) (ops_of d) k ≡ Some s
   pub stands : offset ≡ offset_of d k
-  pub imports : course.imports ≡ (entries how d k).imports
-  pub calls : course.calls ≡ (entries how d k).calls
+  pub imports : course.imports ≡ (entries_in f how d k).imports
+  pub calls : course.calls ≡ (entries_in f how d k).calls
   pub heap : length s.heap ≤ k
   pub few_imports : course.imports ≤ k
   pub few_calls : course.calls ≤ k
@@ -27,13 +28,13 @@ pub record Progress (how : Manner) (d : Contents) (k offset : ℕ) (s : State) (
   pub left : course.left ≡ left_at d k
 
 -- of the document that the bytes are, k items were read and stepped, their lines were written, and the last of them is STOP or not
-pub record Walked (how : Manner) (many : Bool) (bytes : List ℕ) (old new : Told) (rest : List ℕ) (left k offset : ℕ)
+pub record Walked (f : Telling) (how : Manner) (many : Bool) (bytes : List ℕ) (old new : Told) (rest : List ℕ) (left k offset : ℕ)
     (s : State) (course : Course) (last : Bool) : Type 0 where
   pub d : Contents
   pub reads : ReadsAs many bytes d
   pub stands : HasRead d k rest left
-  pub progress : Progress how d k offset s course
-  pub written : Wrote old new (entries how d k).text
+  pub progress : Progress f how d k offset s course
+  pub written : Wrote old new (entries_in f how d k).text
   pub ends : ends_with_stop (take k (items_of d)) ≡ last
   pub outside : first_inside d k ≡ None
 
@@ -44,9 +45,9 @@ pub record Begun : Type 0 where
   pub told : Told
 
 -- so far it was run, where the bytes are not too many
-abbrev pub HasWalked : {I : Type 0} → List Hole → Bool → Begun → (I → Unread) → Told → State → SoFar I → Type 0
-HasWalked holes many begun unread told s far =
+abbrev pub HasWalked : {I : Type 0} → Telling → List Hole → Bool → Begun → (I → Unread) → Told → State → SoFar I → Type 0
+HasWalked f holes many begun unread told s far =
     ((unread far.reader).loose ≡ false)
-    × Walked (manner begun.detail holes) many begun.rest begun.told told (unread far.reader).rest (unread far.reader).left
+    × Walked f (manner begun.detail holes) many begun.rest begun.told told (unread far.reader).rest (unread far.reader).left
     far.place far.offset s far.course far.stop
     × (length begun.rest ≤ size_limit)

@@ -5,7 +5,7 @@ use Rattle.pickle_show.proofs.calls.run_items.Given as goal
 
 abbrev pub invariant-parts : goal.invariant-parts
 invariant-parts g l =
-    HasWalked l.holes l.many (record { detail = l.fn.detail; rest = (g.I.ItemSource.unread l.fn.source).rest; told = g.S.Sink.told l.initial.page }) g.I.ItemSource.unread (g.S.Sink.told l.page) l.machine.state l.far
+    HasWalked g.T.Teller.telling l.holes l.many (record { detail = l.fn.detail; rest = (g.I.ItemSource.unread l.fn.source).rest; told = g.S.Sink.told l.initial.page }) g.I.ItemSource.unread (g.S.Sink.told l.page) l.machine.state l.far
     × GoesAlong l.machine (g.I.ItemSource.unread l.far.reader) l.far.place
 
 abbrev pub decreases-parts : goal.decreases-parts

@@ -64,14 +64,14 @@ returns-in-Err-clause-ok g c b h =
     let same = ap (λ (r : Reading). r.state) (c.in-Err.ensures.same (search rules)) in
     rw same (refused_runs _ _ _ _ _ _ _ c.in-Item.op _ _ c.in-Err.refusal v.1 (rw v.0 at n.0) (c.in-Err.ensures.refused (search rules)))
 
-pub returns-in_err-write_line-in-Item-clause-err : goal.returns-in_err-write_line-in-Item-clause-err
-returns-in_err-write_line-in-Item-clause-err g c b h =
+pub returns-in_err-write_step-in-Item-clause-err : goal.returns-in_err-write_step-in-Item-clause-err
+returns-in_err-write_step-in-Item-clause-err g c b h =
     let v = c.items.invariant.0 b h in
     let n : IsNextItem (g.I.ItemSource.unread c.items.reader).loose (g.I.ItemSource.unread c.items.reader).left (g.I.ItemSource.unread c.items.reader).rest c.in-Item.op (size_of c.in-Item.op)
     × (g.I.ItemSource.unread c.next.new.self ≡ record { loose = (g.I.ItemSource.unread c.items.reader).loose; rest = drop (size_of c.in-Item.op) (g.I.ItemSource.unread c.items.reader).rest; left = left_behind (g.I.ItemSource.unread c.items.reader).loose (g.I.ItemSource.unread c.items.reader).left c.in-Item.op }) = rw c.in-Item.is at c.next.ensures in
     let moves : move c.in-Item.op c.items.place c.items.machine.state ≡ Ok c.step.new.self.state = rw c.items.invariant.2.1 at c.in_default.ensures.ok in
-    let line = rw (c.event_of-event.ensures, c.of_ref-row.ensures, c.of-before.ensures) at c.in_err-write_line-in-Item.ensures in
-    cut_failed _ _ _ _ _ c.from_residual.ensures.1 (line_breaks _ _ _ _ _ _ _ _ c.in-Item.op _ _ _ v.1 (rw v.0 at n.0) moves line)
+    let line = rw (c.event_of-event.ensures, c.of_ref-row.ensures, c.of-before.ensures) at c.in_err-write_step-in-Item.ensures in
+    cut_failed _ _ _ _ _ _ c.from_residual.ensures.1 (line_breaks _ _ _ _ _ _ _ _ c.in-Item.op _ _ _ v.1 (rw v.0 at n.0) moves line)
 
 pub over-course-requires-clause-imports : goal.over-course-requires-clause-imports
 over-course-requires-clause-imports g c =
@@ -106,7 +106,7 @@ returns-then-ends_reading-clause-ok g c b h =
     let n : IsNextItem (g.I.ItemSource.unread c.items.reader).loose (g.I.ItemSource.unread c.items.reader).left (g.I.ItemSource.unread c.items.reader).rest c.in-Item.op (size_of c.in-Item.op)
     × (g.I.ItemSource.unread c.next.new.self ≡ record { loose = (g.I.ItemSource.unread c.items.reader).loose; rest = drop (size_of c.in-Item.op) (g.I.ItemSource.unread c.items.reader).rest; left = left_behind (g.I.ItemSource.unread c.items.reader).loose (g.I.ItemSource.unread c.items.reader).left c.in-Item.op }) = rw c.in-Item.is at c.next.ensures in
     let moves : move c.in-Item.op c.items.place c.items.machine.state ≡ Ok c.step.new.self.state = rw c.items.invariant.2.1 at c.in_default.ensures.ok in
-    let line = rw (c.event_of-event.ensures, c.of_ref-row.ensures, c.of-before.ensures) at c.in_ok-write_line-in-Item.ensures in
+    let line = rw (c.event_of-event.ensures, c.of_ref-row.ensures, c.of-before.ensures) at c.in_ok-write_step-in-Item.ensures in
     let imports = rw (c.event_of-event.ensures, c.of_ref-row.ensures, c.of-before.ensures) at c.over-course.ensures.imports in
     let calls = rw (c.event_of-event.ensures, c.of_ref-row.ensures, c.of-before.ensures) at c.over-course.ensures.calls in
     let naming = rw c.of_ref-row.ensures at c.over-course.ensures.naming in
@@ -132,7 +132,7 @@ returns-then-leaves_frame-clause-ok g c b h =
     let n : IsNextItem (g.I.ItemSource.unread c.items.reader).loose (g.I.ItemSource.unread c.items.reader).left (g.I.ItemSource.unread c.items.reader).rest c.in-Item.op (size_of c.in-Item.op)
     × (g.I.ItemSource.unread c.next.new.self ≡ record { loose = (g.I.ItemSource.unread c.items.reader).loose; rest = drop (size_of c.in-Item.op) (g.I.ItemSource.unread c.items.reader).rest; left = left_behind (g.I.ItemSource.unread c.items.reader).loose (g.I.ItemSource.unread c.items.reader).left c.in-Item.op }) = rw c.in-Item.is at c.next.ensures in
     let moves : move c.in-Item.op c.items.place c.items.machine.state ≡ Ok c.step.new.self.state = rw c.items.invariant.2.1 at c.in_default.ensures.ok in
-    let line = rw (c.event_of-event.ensures, c.of_ref-row.ensures, c.of-before.ensures) at c.in_ok-write_line-in-Item.ensures in
+    let line = rw (c.event_of-event.ensures, c.of_ref-row.ensures, c.of-before.ensures) at c.in_ok-write_step-in-Item.ensures in
     let imports = rw (c.event_of-event.ensures, c.of_ref-row.ensures, c.of-before.ensures) at c.over-course.ensures.imports in
     let calls = rw (c.event_of-event.ensures, c.of_ref-row.ensures, c.of-before.ensures) at c.over-course.ensures.calls in
     let naming = rw c.of_ref-row.ensures at c.over-course.ensures.naming in
@@ -149,7 +149,7 @@ items-preserved g c =
       (λ b h.
           let v = c.items.invariant.0 b h in
           let moves : move c.in-Item.op c.items.place c.items.machine.state ≡ Ok c.step.new.self.state = rw c.items.invariant.2.1 at c.in_default.ensures.ok in
-          let line = rw (c.event_of-event.ensures, c.of_ref-row.ensures, c.of-before.ensures) at c.in_ok-write_line-in-Item.ensures in
+          let line = rw (c.event_of-event.ensures, c.of_ref-row.ensures, c.of-before.ensures) at c.in_ok-write_step-in-Item.ensures in
           let imports = rw (c.event_of-event.ensures, c.of_ref-row.ensures, c.of-before.ensures) at c.over-course.ensures.imports in
           let calls = rw (c.event_of-event.ensures, c.of_ref-row.ensures, c.of-before.ensures) at c.over-course.ensures.calls in
           let naming = rw c.of_ref-row.ensures at c.over-course.ensures.naming in
