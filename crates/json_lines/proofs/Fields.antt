@@ -1,6 +1,6 @@
 -- What the writers of fields write can be read back.
 use Rattle.std.proofs.Common.{◌≡◌, ℕ, ℤ, pos, negsuc, zero, suc, ◌/◌, ◌%◌, ◌==◌, ◌^◌, ◌<◌, ◌≤◌, Bool, true, false, List, [], ◌∷◌, decimal, refl, arith}
-use Rattle.std.specs.Prelude.{nat_lt, if◌then◌else◌, unsigned_abs}
+use Rattle.std.specs.Prelude.{codes, nat_lt, if◌then◌else◌, unsigned_abs}
 use Rattle.std.specs.Fmt.{signed_decimal, digits, digits_onto, digit_glyph}
 use Rattle.std.specs.List.{list_all}
 use Rattle.std.specs.Str.{IsUtf8, is_utf8}
@@ -12,11 +12,13 @@ use Rattle.hex.proofs.HexLemmas.{IsAscii-encode_with}
 use Rattle.json.specs.Json.{Json, number, string, max_depth}
 use Rattle.json.specs.Tree.{depth, members_depth}
 use Rattle.json.proofs.Printed.Decimals.{IsNumber-decimal, IsNumber-signed_decimal}
-use Rattle.pickle_io.specs.Text.{hexadecimal}
-use Rattle.json_lines.specs.Json.{is_plain}
+use Rattle.pickle_io.specs.Text.{◌⧺◌, hexadecimal}
+use Rattle.pickle_io.specs.Device.{Told, Wrote}
+use Rattle.pickle_io.proofs.Devices.{Wrote-then}
+use Rattle.json_lines.specs.Json.{is_plain, value_text}
 use Rattle.json_lines.specs.Line.{Field, field, ◌⊕◌, members_of, whole, integer, hex, bytes_field, line_object}
 use Rattle.json_lines.specs.Readable.{HasTexts, MembersHaveTexts, ArePlain, PlainLinesReadBack, FieldsArePlain}
-use Rattle.json_lines.proofs.Strings.{plain_ascii}
+use Rattle.json_lines.proofs.Strings.{plain_ascii, plain_string}
 use Rattle.json_lines.proofs.Trees.{lines_read_back}
 
 -- ---- digits
@@ -35,13 +37,19 @@ onto (suc k) n acc p =
     either (λ (t : List ℕ). list_all is_plain t ≡ true) (n / 10 == 0) (digit_glyph false (n % 10) ∷ acc) (digits_onto k 10 false (n / 10) (digit_glyph false (n % 10) ∷ acc))
     more (onto k (n / 10) (digit_glyph false (n % 10) ∷ acc) more)
 
-decimal_plain : (n : ℕ) → list_all is_plain (decimal n) ≡ true
+pub decimal_plain : (n : ℕ) → list_all is_plain (decimal n) ≡ true
 unfolding digits
 decimal_plain n = onto 64 n [] refl
 
 signed_plain : (z : ℤ) → list_all is_plain (signed_decimal z) ≡ true
 signed_plain (pos n) = decimal_plain n
 signed_plain (negsuc n) = and_from _ _ refl (decimal_plain (suc n))
+
+-- a number as a text of its digits
+pub Wrote-digits : (a b : Told) (n : ℕ) → Wrote a b (codes "\"" ⧺ decimal n ⧺ codes "\"") → Wrote a b (value_text (string (decimal n)))
+Wrote-digits a b n w = rw (plain_string (decimal n) (decimal_plain n)) w
+
+pub ruleset digits_steps = (Wrote-digits, Wrote-then)
 
 plain_utf8 : (s : List ℕ) → list_all is_plain s ≡ true → IsUtf8 s
 plain_utf8 s h = IsUtf8-from_ascii s (plain_ascii s h)

@@ -16,4 +16,5 @@ pub use field::{
 };
 pub use laws::{fields_are_plain, lines_read_back, plain_lines_read_back};
 pub use line::{begin_line, end_line};
-pub use string::write_string;
+pub use string::{are_plain, write_string};
+pub use value::{push_digits, push_whole};

@@ -86,8 +86,8 @@ fn is_plain(byte: u8) -> bool
     (byte >= 32 && byte <= 126) && (byte != b'"' && byte != b'\\')
 }
 
-/// Whether all bytes are characters that stand for themselves.
-fn are_plain(bytes: &[u8]) -> bool
+/// Whether all bytes are characters that stand for themselves in a string.
+pub fn are_plain(bytes: &[u8]) -> bool
     ensures { result ≡ list_all is_plain bytes.now }
 {
     for byte in bytes {

@@ -1,7 +1,10 @@
 -- Lemmas that the proofs of several functions cite.
 mod Lines
+mod Pieces
 mod Listed
 mod Cuts
 mod Steps
 mod Readable
+mod ReachReadable
+mod FormReadable
 mod Agreeing

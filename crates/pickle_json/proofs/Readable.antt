@@ -30,7 +30,7 @@ use Rattle.pickle_json.specs.EndFields.{left_fields, left_text, refusal_code, re
 use Rattle.pickle_json.specs.Readable.{ItemLinesReadBack, EndLinesReadBack}
 
 -- words of characters that stand for themselves
-word : (s : List ℕ) → list_all is_plain s ≡ true → IsUtf8 s
+pub word : (s : List ℕ) → list_all is_plain s ≡ true → IsUtf8 s
 word s h = IsUtf8-from_ascii s (plain_ascii s h)
 
 name_plain : (o : Opcode) → list_all is_plain (name_of o) ≡ true
@@ -103,7 +103,7 @@ arg_by : (b : Bool) (o : Operation) → ArePlain (if b then long_fields (payload
 arg_by true o = long (payload (form_of o.opcode) o.arg)
 arg_by false o = of_form (form_of o.opcode) o.arg
 
-argument : (o : Operation) → ArePlain (arg_fields o)
+pub argument : (o : Operation) → ArePlain (arg_fields o)
 unfolding arg_fields
 argument o = arg_by (is_long o.opcode) o
 
@@ -114,7 +114,7 @@ noted None = tt
 noted (Some (note.MarkAt offset)) = fields_are_plain.wholes (codes "mark") offset (word (codes "mark") refl)
 noted (Some (note.As key)) = fields_are_plain.wholes (codes "memo") key (word (codes "memo") refl)
 
-head : (o : Operation) (offset : ℕ) → ArePlain (head_fields o offset)
+pub head : (o : Operation) (offset : ℕ) → ArePlain (head_fields o offset)
 unfolding head_fields
 head o offset =
     fields_are_plain.joined _ _ (fields_are_plain.wholes (codes "offset") offset (word (codes "offset") refl))
@@ -135,11 +135,11 @@ protocol : (highest : Option ℕ) → ArePlain (protocol_fields highest)
 protocol None = tt
 protocol (Some p) = fields_are_plain.wholes (codes "protocol") p (word (codes "protocol") refl)
 
-ended : (how : List ℕ) → list_all is_plain how ≡ true → ArePlain (how_fields how)
+pub ended : (how : List ℕ) → list_all is_plain how ≡ true → ArePlain (how_fields how)
 unfolding how_fields
 ended how h = fields_are_plain.texts (codes "how") how (word (codes "how") refl) (word how h)
 
-truth : (name : List ℕ) (b : Bool) → list_all is_plain name ≡ true → ArePlain (field name (boolean b))
+pub truth : (name : List ℕ) (b : Bool) → list_all is_plain name ≡ true → ArePlain (field name (boolean b))
 unfolding field
 truth name b h = (record { name = word name h; value = tt; flat = refl }, tt)
 

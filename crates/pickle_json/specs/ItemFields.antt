@@ -91,3 +91,26 @@ item_fields o offset marks n = head_fields o offset ⊕ rest_fields o marks n
 
 unfoldable pub item_line : Operation → ℕ → ℕ → Option Note → List ℕ
 item_line o offset marks n = line (codes "opcode") (item_fields o offset marks n)
+
+-- ---- how a line is put together: what is before the value of a field
+
+unfoldable pub opcode_begun : List ℕ
+opcode_begun = codes "{\"kind\":\"opcode\",\"offset\":"
+
+unfoldable pub opcode_named : List ℕ
+opcode_named = codes ",\"opcode\":\""
+
+unfoldable pub argument_named : List ℕ
+argument_named = codes ",\"argument\":"
+
+unfoldable pub digits_named : List ℕ
+digits_named = codes ",\"argument_digits\":"
+
+unfoldable pub marks_named : List ℕ
+marks_named = codes ",\"marks\":"
+
+unfoldable pub mark_named : List ℕ
+mark_named = codes ",\"mark\":"
+
+unfoldable pub memo_named : List ℕ
+memo_named = codes ",\"memo\":"

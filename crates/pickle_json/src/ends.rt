@@ -157,7 +157,7 @@ fn write_fault_fields<P: Page>(fault: TailFault, page: &mut P) -> Result<(), Fai
 
 /// Writes a code and its words.
 #[tactic(auto, using(json_lines::proofs::Lines::fields_steps), unfolding(crate::specs::EndFields::coded_fields))]
-fn write_coded<P: Page>(code: &str, words: &str, page: &mut P) -> Result<(), Failed>
+pub fn write_coded<P: Page>(code: &str, words: &str, page: &mut P) -> Result<(), Failed>
     ensures { Writes (P.told page.old) (P.told page.new) result (fields_text (coded_fields code.now words.now)) }
 {
     write_text_field("code", code, page)?;
@@ -177,7 +177,7 @@ fn write_protocol<P: Page>(highest: Option<u8>, page: &mut P) -> Result<(), Fail
 
 /// Writes how reading ended.
 #[tactic(auto, unfolding(crate::specs::EndFields::how_fields))]
-fn write_how<P: Page>(how: &str, page: &mut P) -> Result<(), Failed>
+pub fn write_how<P: Page>(how: &str, page: &mut P) -> Result<(), Failed>
     ensures { Writes (P.told page.old) (P.told page.new) result (fields_text (how_fields how.now)) }
 {
     write_text_field("how", how, page)
@@ -185,7 +185,11 @@ fn write_how<P: Page>(how: &str, page: &mut P) -> Result<(), Failed>
 
 /// Writes how many bytes are behind STOP, and the highest protocol.
 #[tactic(auto, using(json_lines::proofs::Lines::fields_steps))]
-fn write_stopped_fields<P: Page>(kept: u64, highest: Option<u8>, page: &mut P) -> Result<(), Failed>
+pub fn write_stopped_fields<P: Page>(
+    kept: u64,
+    highest: Option<u8>,
+    page: &mut P,
+) -> Result<(), Failed>
     ensures { Writes (P.told page.old) (P.told page.new) result (fields_text (stopped_fields kept highest)) }
 {
     write_how("stopped", page)?;
@@ -209,7 +213,7 @@ pub fn write_stopped_end<P: Page>(
 
 /// Writes why an item is refused, and the highest protocol.
 #[tactic(auto, using(json_lines::proofs::Lines::fields_steps))]
-fn write_refused_fields<P: Page>(
+pub fn write_refused_fields<P: Page>(
     refusal: Refusal,
     highest: Option<u8>,
     page: &mut P,
@@ -269,7 +273,7 @@ fn write_place<P: Page>(fault: TailFault, offset: u64, page: &mut P) -> Result<(
 
 /// Writes a fault, where it is, and the highest protocol.
 #[tactic(auto, using(json_lines::proofs::Lines::fields_steps))]
-fn write_tail_fields<P: Page>(
+pub fn write_tail_fields<P: Page>(
     fault: TailFault,
     offset: u64,
     highest: Option<u8>,

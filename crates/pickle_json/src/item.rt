@@ -1,20 +1,22 @@
 //! The line of an item. `Failed` where the sink fails; a beginning of the text was written then.
 
-ghost use Rattle.std.specs.Prelude.{◌≡◌, ◌≤◌, length};
-ghost use Rattle.pickle_io.specs.Device.{Writes};
+ghost use Rattle.std.specs.Prelude.{◌≡◌, ◌≤◌, ◌+◌, true, length, codes, OnOk};
+ghost use Rattle.std.specs.List.{list_all};
+ghost use Rattle.json_lines.specs.Json.{is_plain};
+ghost use Rattle.pickle_io.specs.Device.{Wrote, Writes};
+ghost use Rattle.pickle_io.specs.Text.{◌⧺◌};
 ghost use Rattle.pickle_ops.specs.Argument.{long_of};
-ghost use Rattle.pickle_ops.specs.Table.{form_of};
-ghost use Rattle.json_lines.specs.Line.{fields_text};
-ghost use Rattle.pickle_json.specs.ItemFields.{number_name, number_fields, integer_fields, payload_fields, double_fields, lowest_first_fields, long_fields, two_fields, form_fields, arg_fields, note_fields, head_fields, rest_fields, item_fields, item_line};
+ghost use Rattle.pickle_ops.specs.Table.{name_of, form_of};
+ghost use Rattle.json_lines.specs.Line.{field, whole, begun, fields_text};
+ghost use Rattle.pickle_json.specs.ItemFields.{number_name, number_fields, integer_fields, payload_fields, double_fields, lowest_first_fields, long_fields, two_fields, form_fields, arg_fields, note_fields, head_fields, rest_fields, item_fields, item_line, opcode_begun, opcode_named, argument_named, digits_named, marks_named, mark_named, memo_named};
 
 use crate::note::Note;
 use byteorder::{ByteOrder, LittleEndian};
 use json_lines::{
-    begin_line, end_line, write_bytes_field, write_hex_field, write_integer_field,
-    write_number_field, write_text_field,
+    are_plain, push_digits, push_whole, write_bytes_field, write_hex_field, write_integer_field,
 };
-use pickle_io::{Failed, Page};
-use pickle_ops::{Form, OpRef};
+use pickle_io::{Failed, Page, push_decimal};
+use pickle_ops::{Form, OpRef, Opcode};
 
 /// 2^53. A whole number from here on is a string, since readers that take numbers as doubles would round it: an argument is then one
 /// under another name.
@@ -28,50 +30,188 @@ fn number_name(exact: bool) -> &'static str
     if exact { "argument" } else { "argument_digits" }
 }
 
-/// Writes the number of an argument.
-#[tactic(auto, unfolding(crate::specs::ItemFields::number_fields))]
-fn write_number<P: Page>(number: u64, page: &mut P) -> Result<(), Failed>
-    ensures { Writes (P.told page.old) (P.told page.new) result (fields_text (number_fields number)) }
+/// What is before the number of a line's offset.
+#[tactic(auto, unfolding(crate::specs::ItemFields::opcode_begun))]
+#[inline(always)]
+fn opcode_begun() -> &'static str
+    ensures text { result.now ≡ opcode_begun }
+    ensures len { length result.now ≡ 26 }
 {
-    write_number_field(number_name(number < EXACT), number, page)
+    "{\"kind\":\"opcode\",\"offset\":"
+}
+
+/// What is before the name of an opcode.
+#[tactic(auto, unfolding(crate::specs::ItemFields::opcode_named))]
+#[inline(always)]
+fn opcode_named() -> &'static str
+    ensures text { result.now ≡ opcode_named }
+    ensures len { length result.now ≡ 11 }
+{
+    ",\"opcode\":\""
+}
+
+/// What is before an argument.
+#[tactic(auto, unfolding(crate::specs::ItemFields::argument_named))]
+#[inline(always)]
+fn argument_named() -> &'static str
+    ensures text { result.now ≡ argument_named }
+    ensures len { length result.now ≡ 12 }
+{
+    ",\"argument\":"
+}
+
+/// What is before the digits of an argument.
+#[tactic(auto, unfolding(crate::specs::ItemFields::digits_named))]
+#[inline(always)]
+fn digits_named() -> &'static str
+    ensures text { result.now ≡ digits_named }
+    ensures len { length result.now ≡ 19 }
+{
+    ",\"argument_digits\":"
+}
+
+/// What is before the number of marks.
+#[tactic(auto, unfolding(crate::specs::ItemFields::marks_named))]
+#[inline(always)]
+fn marks_named() -> &'static str
+    ensures text { result.now ≡ marks_named }
+    ensures len { length result.now ≡ 9 }
+{
+    ",\"marks\":"
+}
+
+/// What is before the offset of a mark.
+#[tactic(auto, unfolding(crate::specs::ItemFields::mark_named))]
+#[inline(always)]
+fn mark_named() -> &'static str
+    ensures text { result.now ≡ mark_named }
+    ensures len { length result.now ≡ 8 }
+{
+    ",\"mark\":"
+}
+
+/// What is before a key of the memo.
+#[tactic(auto, unfolding(crate::specs::ItemFields::memo_named))]
+#[inline(always)]
+fn memo_named() -> &'static str
+    ensures text { result.now ≡ memo_named }
+    ensures len { length result.now ≡ 8 }
+{
+    ",\"memo\":"
+}
+
+/// Puts the number of an argument.
+#[tactic(auto, using(crate::proofs::Pieces::number_steps))]
+#[inline(always)]
+fn push_number<P: Page>(number: u64, page: &mut P)
+    requires { 41 ≤ P.room page.old }
+    ensures text { Wrote (P.told page.old) (P.told page.new) (fields_text (number_fields number)) }
+    ensures room { P.room page.old ≤ P.room page.new + 41 }
+{
+    if number < EXACT {
+        page.push_text(argument_named().as_bytes());
+        push_decimal(number, page);
+    } else {
+        page.push_text(digits_named().as_bytes());
+        push_digits(number, page);
+    }
 }
 
 /// Writes the number of an argument, which may be below 0.
-#[tactic(auto, unfolding(crate::specs::ItemFields::integer_fields))]
+#[tactic(auto, using(crate::proofs::Pieces::roomy_steps), unfolding(crate::specs::ItemFields::integer_fields))]
 fn write_integer<P: Page>(number: i128, page: &mut P) -> Result<(), Failed>
-    ensures { Writes (P.told page.old) (P.told page.new) result (fields_text (integer_fields number)) }
+    ensures text { Writes (P.told page.old) (P.told page.new) result (fields_text (integer_fields number)) }
+    ensures room { OnOk result (256 ≤ P.room page.new) }
 {
     let exact = number.unsigned_abs() < u128::from(EXACT);
-    write_integer_field(number_name(exact), number, page)
+    write_integer_field(number_name(exact), number, page)?;
+    page.make_room()
+}
+
+/// Puts a short text between quotation marks.
+#[tactic(auto, using(pickle_io::proofs::Devices::text_steps))]
+#[inline(always)]
+fn push_quoted<P: Page>(text: &[u8], page: &mut P)
+    requires short { length text.now ≤ 96 }
+    requires room { 98 ≤ P.room page.old }
+    ensures text { Wrote (P.told page.old) (P.told page.new) (codes "\"" ⧺ text.now ⧺ codes "\"") }
+    ensures room { P.room page.old ≤ P.room page.new + 98 }
+{
+    page.push(b'"');
+    page.push_text(text);
+    page.push(b'"');
+}
+
+/// Puts a short argument whose bytes all stand for themselves.
+#[tactic(auto, using(crate::proofs::Pieces::plain_steps))]
+#[inline(always)]
+fn push_plain<P: Page>(bytes: &[u8], page: &mut P)
+    requires plain { list_all is_plain bytes.now ≡ true }
+    requires short { length bytes.now ≤ 96 }
+    requires room { 110 ≤ P.room page.old }
+    ensures text { Wrote (P.told page.old) (P.told page.new) (fields_text (payload_fields bytes.now)) }
+    ensures room { P.room page.old ≤ P.room page.new + 110 }
+{
+    page.push_text(argument_named().as_bytes());
+    push_quoted(bytes, page);
 }
 
 /// Writes the bytes of an argument: as text where they are UTF-8, else in hexadecimal.
-#[tactic(auto, unfolding(crate::specs::ItemFields::payload_fields))]
-fn write_payload<P: Page>(bytes: &[u8], page: &mut P) -> Result<(), Failed>
-    ensures { Writes (P.told page.old) (P.told page.new) result (fields_text (payload_fields bytes.now)) }
+#[tactic(auto, using(crate::proofs::Pieces::roomy_steps), unfolding(crate::specs::ItemFields::payload_fields))]
+fn write_any_payload<P: Page>(bytes: &[u8], page: &mut P) -> Result<(), Failed>
+    ensures text { Writes (P.told page.old) (P.told page.new) result (fields_text (payload_fields bytes.now)) }
+    ensures room { OnOk result (256 ≤ P.room page.new) }
 {
-    write_bytes_field("argument", "argument_hex", bytes, page)
+    write_bytes_field("argument", "argument_hex", bytes, page)?;
+    page.make_room()
+}
+
+/// Writes the bytes of an argument: as text where they are UTF-8, else in hexadecimal.
+#[inline(always)]
+fn write_payload<P: Page>(bytes: &[u8], page: &mut P) -> Result<(), Failed>
+    requires { 176 ≤ P.room page.old }
+    ensures text { Writes (P.told page.old) (P.told page.new) result (fields_text (payload_fields bytes.now)) }
+    ensures room { OnOk result (66 ≤ P.room page.new) }
+{
+    if bytes.len() <= 96 && are_plain(bytes) {
+        push_plain(bytes, page);
+        Ok(())
+    } else {
+        write_any_payload(bytes, page)
+    }
 }
 
 /// Writes the bytes of a double.
 #[tactic(auto, unfolding(crate::specs::ItemFields::double_fields))]
-fn write_double<P: Page>(bytes: &[u8], page: &mut P) -> Result<(), Failed>
+fn write_eight<P: Page>(bytes: &[u8], page: &mut P) -> Result<(), Failed>
     ensures { Writes (P.told page.old) (P.told page.new) result (fields_text (double_fields bytes.now)) }
 {
     write_hex_field("argument_f8_hex", bytes, page)
 }
 
-/// Writes the bytes of a number in two's complement.
-#[tactic(auto, unfolding(crate::specs::ItemFields::lowest_first_fields))]
-fn write_lowest_first<P: Page>(bytes: &[u8], page: &mut P) -> Result<(), Failed>
-    ensures { Writes (P.told page.old) (P.told page.new) result (fields_text (lowest_first_fields bytes.now)) }
+/// Writes the bytes of a double.
+#[tactic(auto, using(crate::proofs::Pieces::roomy_steps))]
+fn write_double<P: Page>(bytes: &[u8], page: &mut P) -> Result<(), Failed>
+    ensures text { Writes (P.told page.old) (P.told page.new) result (fields_text (double_fields bytes.now)) }
+    ensures room { OnOk result (256 ≤ P.room page.new) }
 {
-    write_hex_field("argument_le_hex", bytes, page)
+    write_eight(bytes, page)?;
+    page.make_room()
+}
+
+/// Writes the bytes of a number in two's complement.
+#[tactic(auto, using(crate::proofs::Pieces::roomy_steps), unfolding(crate::specs::ItemFields::lowest_first_fields))]
+fn write_lowest_first<P: Page>(bytes: &[u8], page: &mut P) -> Result<(), Failed>
+    ensures text { Writes (P.told page.old) (P.told page.new) result (fields_text (lowest_first_fields bytes.now)) }
+    ensures room { OnOk result (256 ≤ P.room page.new) }
+{
+    write_hex_field("argument_le_hex", bytes, page)?;
+    page.make_room()
 }
 
 /// Writes a module and a name.
 #[tactic(auto, using(json_lines::proofs::Lines::fields_steps), unfolding(crate::specs::ItemFields::two_fields))]
-fn write_two<P: Page>(op: &OpRef<'_>, page: &mut P) -> Result<(), Failed>
+fn write_both<P: Page>(op: &OpRef<'_>, page: &mut P) -> Result<(), Failed>
     requires { form_of op.now.opcode ≡ Form.Two }
     ensures { Writes (P.told page.old) (P.told page.new) result (fields_text (two_fields op.now.arg)) }
 {
@@ -80,17 +220,31 @@ fn write_two<P: Page>(op: &OpRef<'_>, page: &mut P) -> Result<(), Failed>
     write_bytes_field("name", "name_hex", name, page)
 }
 
-/// Writes the argument of a form, where there is one.
+/// Writes a module and a name.
+#[tactic(auto, using(crate::proofs::Pieces::roomy_steps))]
+fn write_two<P: Page>(op: &OpRef<'_>, page: &mut P) -> Result<(), Failed>
+    requires { form_of op.now.opcode ≡ Form.Two }
+    ensures text { Writes (P.told page.old) (P.told page.new) result (fields_text (two_fields op.now.arg)) }
+    ensures room { OnOk result (256 ≤ P.room page.new) }
+{
+    write_both(op, page)?;
+    page.make_room()
+}
+
+/// Writes the argument of a form, where there is one. There is room for a short one, and for what comes behind it.
 #[tactic(auto, using(json_lines::proofs::Lines::fields_steps))]
+#[inline(always)]
 fn write_form<P: Page>(op: &OpRef<'_>, page: &mut P) -> Result<(), Failed>
-    ensures { Writes (P.told page.old) (P.told page.new) result (fields_text (form_fields (form_of op.now.opcode) op.now.arg)) }
+    requires { 176 ≤ P.room page.old }
+    ensures text { Writes (P.told page.old) (P.told page.new) result (fields_text (form_fields (form_of op.now.opcode) op.now.arg)) }
+    ensures room { OnOk result (66 ≤ P.room page.new) }
 {
     match op.form() {
         Form::Empty => Ok(()),
-        Form::U1 | Form::U2 | Form::U4 | Form::U8 | Form::Decimal => write_number(
-            op.number(),
-            page,
-        ),
+        Form::U1 | Form::U2 | Form::U4 | Form::U8 | Form::Decimal => {
+            push_number(op.number(), page);
+            Ok(())
+        }
         Form::S4 => write_integer(i128::from(op.signed()), page),
         Form::R8 => write_double(op.payload(), page),
         Form::Two => write_two(op, page),
@@ -115,7 +269,8 @@ fn long_of(bytes: &[u8]) -> i128
 /// Writes a number in two's complement.
 #[tactic(auto, unfolding(crate::specs::ItemFields::long_fields))]
 fn write_long<P: Page>(bytes: &[u8], page: &mut P) -> Result<(), Failed>
-    ensures { Writes (P.told page.old) (P.told page.new) result (fields_text (long_fields bytes.now)) }
+    ensures text { Writes (P.told page.old) (P.told page.new) result (fields_text (long_fields bytes.now)) }
+    ensures room { OnOk result (256 ≤ P.room page.new) }
 {
     if bytes.len() <= 16 {
         write_integer(long_of(bytes), page)
@@ -124,10 +279,13 @@ fn write_long<P: Page>(bytes: &[u8], page: &mut P) -> Result<(), Failed>
     }
 }
 
-/// Writes the argument of an operation, where there is one.
+/// Writes the argument of an operation, where there is one. There is room for a short one, and for what comes behind it.
 #[tactic(auto, unfolding(crate::specs::ItemFields::arg_fields))]
+#[inline(always)]
 fn write_argument<P: Page>(op: &OpRef<'_>, page: &mut P) -> Result<(), Failed>
-    ensures { Writes (P.told page.old) (P.told page.new) result (fields_text (arg_fields op.now)) }
+    requires { 176 ≤ P.room page.old }
+    ensures text { Writes (P.told page.old) (P.told page.new) result (fields_text (arg_fields op.now)) }
+    ensures room { OnOk result (66 ≤ P.room page.new) }
 {
     if op.is_long() {
         write_long(op.payload(), page)
@@ -136,59 +294,87 @@ fn write_argument<P: Page>(op: &OpRef<'_>, page: &mut P) -> Result<(), Failed>
     }
 }
 
-/// Writes a note, where there is one.
-#[tactic(auto, using(json_lines::proofs::Lines::fields_steps))]
-fn write_note<P: Page>(note: Option<Note>, page: &mut P) -> Result<(), Failed>
-    ensures { Writes (P.told page.old) (P.told page.new) result (fields_text (note_fields note)) }
+/// Writes the argument of an operation, where there is one. It makes room for itself.
+#[tactic(auto, using(pickle_io::proofs::Devices::page_steps))]
+pub(crate) fn write_arg_fields<P: Page>(op: &OpRef<'_>, page: &mut P) -> Result<(), Failed>
+    ensures { Writes (P.told page.old) (P.told page.new) result (fields_text (arg_fields op.now)) }
+{
+    page.make_room()?;
+    write_argument(op, page)
+}
+
+/// Puts a note, where there is one.
+#[tactic(auto, using(crate::proofs::Pieces::note_steps))]
+#[inline(always)]
+fn push_note<P: Page>(note: Option<Note>, page: &mut P)
+    requires { 30 ≤ P.room page.old }
+    ensures text { Wrote (P.told page.old) (P.told page.new) (fields_text (note_fields note)) }
+    ensures room { P.room page.old ≤ P.room page.new + 30 }
 {
     match note {
-        None => Ok(()),
-        Some(Note::MarkAt(offset)) => write_number_field("mark", offset, page),
-        Some(Note::As(key)) => write_number_field("memo", key, page),
+        None => {}
+        Some(Note::MarkAt(offset)) => {
+            page.push_text(mark_named().as_bytes());
+            push_whole(offset, page);
+        }
+        Some(Note::As(key)) => {
+            page.push_text(memo_named().as_bytes());
+            push_whole(key, page);
+        }
     }
 }
 
-/// Writes where an item is, and its opcode.
-#[tactic(auto, using(json_lines::proofs::Lines::fields_steps), unfolding(crate::specs::ItemFields::head_fields))]
-fn write_head<P: Page>(op: &OpRef<'_>, offset: u64, page: &mut P) -> Result<(), Failed>
-    ensures { Writes (P.told page.old) (P.told page.new) result (fields_text (head_fields op.now offset)) }
+/// Puts how many marks are open before an item.
+#[tactic(auto, using(crate::proofs::Pieces::marks_steps))]
+#[inline(always)]
+fn push_marks<P: Page>(marks: usize, page: &mut P)
+    requires { 31 ≤ P.room page.old }
+    ensures text { Wrote (P.told page.old) (P.told page.new) (fields_text (field (codes "marks") (whole marks))) }
+    ensures room { P.room page.old ≤ P.room page.new + 31 }
 {
-    write_number_field("offset", offset, page)?;
-    write_text_field("opcode", op.opcode().name(), page)
+    page.push_text(marks_named().as_bytes());
+    push_whole(marks as u64, page);
 }
 
-/// Writes the argument of an item, how many marks are open before it, and its note.
-#[tactic(auto, using(json_lines::proofs::Lines::fields_steps), unfolding(crate::specs::ItemFields::rest_fields))]
-fn write_rest<P: Page>(
-    op: &OpRef<'_>,
-    marks: usize,
-    note: Option<Note>,
-    page: &mut P,
-) -> Result<(), Failed>
-    ensures { Writes (P.told page.old) (P.told page.new) result (fields_text (rest_fields op.now marks note)) }
+/// Puts what comes behind the argument of an item.
+#[tactic(auto, using(pickle_io::proofs::Devices::text_steps))]
+#[inline(always)]
+fn push_rest<P: Page>(marks: usize, note: Option<Note>, page: &mut P)
+    requires { 66 ≤ P.room page.old }
+    ensures { Wrote (P.told page.old) (P.told page.new) (fields_text (field (codes "marks") (whole marks)) ⧺ fields_text (note_fields note) ⧺ codes "}\n") }
 {
-    write_argument(op, page)?;
-    write_number_field("marks", marks as u64, page)?;
-    write_note(note, page)
+    push_marks(marks, page);
+    push_note(note, page);
+    page.push_text(b"}\n");
 }
 
-/// Writes the fields of an item.
-#[tactic(auto, using(json_lines::proofs::Lines::fields_steps))]
-fn write_fields<P: Page>(
-    op: &OpRef<'_>,
-    offset: u64,
-    marks: usize,
-    note: Option<Note>,
-    page: &mut P,
-) -> Result<(), Failed>
-    ensures { Writes (P.told page.old) (P.told page.new) result (fields_text (item_fields op.now offset marks note)) }
+/// The name of an opcode.
+#[tactic(auto, using(crate::proofs::Pieces::name_short))]
+#[inline(always)]
+fn name_of(opcode: Opcode) -> &'static str
+    ensures text { result.now ≡ name_of opcode }
+    ensures short { length result.now ≤ 20 }
 {
-    write_head(op, offset, page)?;
-    write_rest(op, marks, note, page)
+    opcode.name()
+}
+
+/// Puts the beginning of the line of an item: where it is, and its opcode.
+#[tactic(auto, using(crate::proofs::Pieces::head_steps))]
+#[inline(always)]
+fn push_head<P: Page>(op: &OpRef<'_>, offset: u64, page: &mut P)
+    requires { 80 ≤ P.room page.old }
+    ensures text { Wrote (P.told page.old) (P.told page.new) (begun (codes "opcode") ⧺ fields_text (head_fields op.now offset)) }
+    ensures room { P.room page.old ≤ P.room page.new + 80 }
+{
+    page.push_text(opcode_begun().as_bytes());
+    push_whole(offset, page);
+    page.push_text(opcode_named().as_bytes());
+    page.push_text(name_of(op.opcode()).as_bytes());
+    page.push(b'"');
 }
 
 /// Writes the line of an item at this offset, before which `marks` marks are open.
-#[tactic(auto, using(json_lines::proofs::Lines::line_steps), unfolding(crate::specs::ItemFields::item_line))]
+#[tactic(auto, using(crate::proofs::Pieces::item_steps))]
 pub fn write_item<P: Page>(
     op: &OpRef<'_>,
     offset: u64,
@@ -198,7 +384,9 @@ pub fn write_item<P: Page>(
 ) -> Result<(), Failed>
     ensures { Writes (P.told page.old) (P.told page.new) result (item_line op.now offset marks note) }
 {
-    begin_line("opcode", page)?;
-    write_fields(op, offset, marks, note, page)?;
-    end_line(page)
+    page.make_room()?;
+    push_head(op, offset, page);
+    write_argument(op, page)?;
+    push_rest(marks, note, page);
+    Ok(())
 }

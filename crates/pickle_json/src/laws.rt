@@ -2,6 +2,8 @@
 
 ghost use Rattle.pickle_json.specs.Agreeing.{CodesAgree};
 ghost use Rattle.pickle_json.specs.Readable.{ItemLinesReadBack, EndLinesReadBack};
+ghost use Rattle.pickle_json.specs.FormReadable.{FormLinesReadBack};
+ghost use Rattle.pickle_json.specs.ReachReadable.{ReachLinesReadBack};
 
 /// The line of each opcode is read back as its object.
 pub fn item_lines_read_back()
@@ -11,6 +13,16 @@ pub fn item_lines_read_back()
 /// The line of what a STOP left and the last line are read back as their objects.
 pub fn end_lines_read_back()
     ensures { EndLinesReadBack }
+{}
+
+/// The line of what is reached is read back as its object.
+pub fn reach_lines_read_back()
+    ensures { ReachLinesReadBack }
+{}
+
+/// The line of whether a pickle is in the form is read back as its object.
+pub fn form_lines_read_back()
+    ensures { FormLinesReadBack }
 {}
 
 /// The codes and words of refusals and faults are those of the texts for people.

@@ -1,0 +1,6 @@
+-- Lemmas that the proofs of several functions cite.
+mod Texts
+mod Values
+mod Looked
+mod Events
+mod Answers

@@ -1,0 +1,9 @@
+-- The definitions that contracts cite.
+pub mod SaidNames
+pub mod TextFields
+pub mod NameFields
+pub mod ValueFields
+pub mod ShownFields
+pub mod EventFields
+pub mod LastFields
+pub mod Told

@@ -1,0 +1,108 @@
+//! What a pickle would import and call, told to programs.
+
+ghost use Rattle.std.specs.Prelude.{◌≤◌, length, IfOk, IfErr};
+ghost use Rattle.pickle_doc.specs.Document.{size_limit};
+ghost use Rattle.pickle_show.specs.Manner.{manner};
+ghost use Rattle.calls_json.specs.Told.{for_programs, words_for_programs, CompletesLines, CutsLines};
+
+use crate::event::write_event_line;
+use crate::last::{
+    write_end_lines, write_heading, write_leads, write_loss, write_mixed, write_part_end,
+    write_status, write_warnings,
+};
+use pickle_further::{Pickles, Worder};
+use pickle_io::{Failed, Holes, Page};
+use pickle_lenient::Frames;
+use pickle_machine::Inspect;
+use pickle_ops::ObjId;
+use pickle_show::{Closing, Course, Detail, Ending, Event, Naming, Teller, TextStop};
+use std::alloc::Global;
+
+/// Lines of JSON for programs.
+pub struct ForPrograms;
+
+impl Teller for ForPrograms {
+    ghost telling = { for_programs };
+
+    #[inline(always)]
+    fn write_step<M: Inspect, S: Page>(
+        holes: &Holes,
+        offset: u64,
+        naming: Naming,
+        machine: &M,
+        event: Option<Event>,
+        page: &mut S,
+    ) -> Result<(), Failed> {
+        write_event_line(holes, offset, naming, machine, event, page)
+    }
+
+    fn write_last<S: Page>(
+        bytes: &[u8],
+        course: Course,
+        ending: Ending,
+        page: &mut S,
+    ) -> Result<(), Failed> {
+        write_end_lines(bytes, course, ending, page)
+    }
+}
+
+impl Worder for ForPrograms {
+    ghost words = { words_for_programs };
+
+    fn write_heading<S: Page>(frames: Frames, page: &mut S) -> Result<(), Failed> {
+        write_heading(frames, page)
+    }
+
+    fn write_closed<S: Page>(
+        course: Course,
+        closing: Closing,
+        leads: Option<ObjId>,
+        page: &mut S,
+    ) -> Result<(), Failed> {
+        write_part_end(course, closing, leads, page)
+    }
+
+    fn write_leading<S: Page>(leads: Option<ObjId>, page: &mut S) -> Result<(), Failed> {
+        write_leads(leads, page)
+    }
+
+    fn write_warning<S: Page>(
+        leads: Option<ObjId>,
+        deep: Option<ObjId>,
+        page: &mut S,
+    ) -> Result<(), Failed> {
+        write_warnings(leads, deep, page)
+    }
+
+    fn write_losing<S: Page>(offset: u64, page: &mut S) -> Result<(), Failed> {
+        write_loss(offset, page)
+    }
+
+    fn write_mixing<S: Page>(offset: u64, page: &mut S) -> Result<(), Failed> {
+        write_mixed(offset, page)
+    }
+}
+
+/// Writes what the pickles of the bytes would import and call as lines of JSON, in the order in which the text for people has it, and a last
+/// line with the status, which it answers: that of this text. The bytes are what is left of a file without these holes, and the offsets
+/// that are shown are those in the file. There are to be no more bytes than the limit.
+///
+/// `Memory` (M) where memory runs out, `Failed` where the sink fails; what was written then is a beginning of the lines.
+pub fn calls_lines<S: Page>(
+    alloc: Global,
+    detail: Detail,
+    holes: &Holes,
+    pickles: Pickles,
+    bytes: &[u8],
+    page: &mut S,
+) -> Result<u8, TextStop>
+    requires { length bytes.now ≤ size_limit }
+    ensures ok { IfOk result (CompletesLines (manner detail holes.now) pickles bytes.now (S.told page.old) (S.told page.new)) }
+    ensures err { IfErr result (CutsLines (manner detail holes.now) pickles bytes.now (S.told page.old) (S.told page.new)) }
+{
+    let status = pickle_further::calls::<ForPrograms, S>(
+        alloc, detail, holes, pickles, bytes, page,
+    )?;
+    write_status(status, page)?;
+    Ok(status)
+}
