@@ -1,0 +1,70 @@
+//! The bytes of a text of opcodes, or why there are none.
+
+ghost use Rattle.std.specs.Prelude.{◌≡◌};
+ghost use Rattle.pickle_io.specs.Device.{Writes};
+ghost use Rattle.assembler_script.specs.AssemblyText.{sentence_of, line_words, refused_line, AnswersAssembly};
+
+use opcode_assembler::{Reason, Refusal, assemble};
+use pickle_io::{Failed, Page, write_all, write_decimal};
+use pickle_script::Stop;
+use std::alloc::Global;
+
+/// Why a line gives no bytes.
+#[tactic(auto, unfolding(crate::specs::AssemblyText::sentence_of))]
+fn sentence_of(reason: Reason) -> &'static str
+    ensures { result.now ≡ sentence_of reason }
+{
+    match reason {
+        Reason::UnknownName => "no opcode has this name",
+        Reason::NoNumber => "the opcode wants a whole number",
+        Reason::NumberTooLarge => "the number does not fit into the opcode's bytes",
+        Reason::NoText => "the opcode wants a text in single quotes",
+        Reason::TextTooLong => "the text is too long for the opcode",
+        Reason::NoFloat => "the opcode wants f8: and hexadecimal digits",
+        Reason::NoHex => "these are no pairs of hexadecimal digits",
+        Reason::BadArgument => "the bytes are no argument of the opcode",
+        Reason::ExtraText => "the line goes on behind the argument",
+        Reason::LeftOut => "the listing does not show all bytes of its pickle",
+    }
+}
+
+/// Words of a line.
+#[tactic(auto, unfolding(crate::specs::AssemblyText::line_words))]
+fn line_words() -> &'static str
+    ensures { result.now ≡ line_words }
+{
+    "refused: line "
+}
+
+/// Writes the number of the first line that gives no bytes, and why.
+#[tactic(auto, using(pickle_io::proofs::Devices::text_steps), unfolding(crate::specs::AssemblyText::refused_line))]
+fn write_refusal<S: Page>(number: u64, reason: Reason, page: &mut S) -> Result<(), Failed>
+    ensures { Writes (S.told page.old) (S.told page.new) result (refused_line number reason) }
+{
+    write_all(page, line_words().as_bytes())?;
+    write_decimal(number, page)?;
+    write_all(page, b": ")?;
+    write_all(page, sentence_of(reason).as_bytes())?;
+    write_all(page, b"\n")
+}
+
+/// Writes the bytes that the text is assembled to, or the line of the first line that gives none. Answers the status: 0 where they are
+/// the bytes, else 1.
+///
+/// `Stop::Memory` where there is no room for the bytes: nothing was written then. `Stop::Write` where the sink fails: what was written then
+/// is a beginning of them. The sink is to be flushed as in `write_text`.
+pub fn write_assembled<S: Page>(alloc: Global, text: &[u8], page: &mut S) -> Result<u8, Stop>
+    ensures { AnswersAssembly text.now S.told page.old page.new result }
+{
+    match assemble(alloc, text) {
+        Ok(bytes) => {
+            write_all(page, bytes.as_slice())?;
+            Ok(0)
+        }
+        Err(Refusal::Line(number, reason)) => {
+            write_refusal(number, reason, page)?;
+            Ok(1)
+        }
+        Err(Refusal::Memory) => Err(Stop::Memory),
+    }
+}

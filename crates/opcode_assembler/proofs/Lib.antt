@@ -1,0 +1,5 @@
+pub mod Cuts
+pub mod Lines
+pub mod Scans
+pub mod Wides
+pub mod Bytes

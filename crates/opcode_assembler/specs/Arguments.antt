@@ -1,0 +1,83 @@
+-- The bytes of arguments.
+-- Source: own; they undo the texts of `pickle_ops/specs/Text.antt`.
+use Rattle.std.specs.Prelude.{ℕ, nat_le, if◌then◌else◌, List, [], ◌∷◌, ◌++◌, length, codes, Result, Ok, Err}
+use Rattle.std.specs.Option.{option_map_or}
+use Rattle.byteorder.specs.Endian.{little_bytes}
+use Rattle.pickle_ops.specs.declared.form.Form.{Form}
+use Rattle.pickle_ops.specs.declared.form.Form.TheVariants as form
+use Rattle.pickle_ops.specs.declared.opcode.Opcode.{Opcode}
+use Rattle.pickle_ops.specs.Table.{form_of}
+use Rattle.pickle_ops.specs.Text.{is_long}
+use Rattle.opcode_assembler.specs.declared.fault.Reason.{Reason}
+use Rattle.opcode_assembler.specs.declared.fault.Reason.TheVariants as why
+use Rattle.opcode_assembler.specs.Words.{trimmed, word, after_word, behind}
+use Rattle.opcode_assembler.specs.Quotes.{Read, text_first}
+use Rattle.opcode_assembler.specs.Numbers.{hex_first, width_of, most_of, fixed_first, line_first, signed_word, shortest}
+
+-- ---- one after another
+
+-- what was read is taken on
+abbrev pub and_then : Read → (List ℕ → List ℕ → Read) → Read
+and_then (Ok p) next = next p.0 p.1
+and_then (Err r) next = Err r
+
+abbrev pub with_rest : List ℕ → Result (List ℕ) Reason → Read
+with_rest rest (Ok bytes) = Ok (bytes, rest)
+with_rest rest (Err r) = Err r
+
+-- ---- by the form
+
+-- bytes behind their count
+abbrev pub counted : Form → List ℕ → List ℕ → Read
+counted f bytes rest = if nat_le (length bytes) (most_of f) then Ok (little_bytes (width_of f) (length bytes) ++ bytes, rest) else Err why.TextTooLong
+
+-- a text as a line
+abbrev pub lined : List ℕ → List ℕ → Read
+lined bytes rest = Ok (bytes ++ 10 ∷ [], rest)
+
+-- two texts as two lines, the second behind the first
+abbrev pub second_line : List ℕ → List ℕ → Read
+second_line first rest = and_then (text_first rest) (λ second left. Ok (first ++ 10 ∷ (second ++ 10 ∷ []), left))
+
+-- `f8:` and the bytes of a float in hexadecimal digits
+abbrev pub float_first : List ℕ → Read
+float_first text = option_map_or hex_first (behind (codes "f8:") (trimmed text)) (Err why.NoFloat)
+
+-- a number with a sign, in four bytes
+abbrev pub signed_first : List ℕ → Read
+signed_first text = with_rest (after_word text) (signed_word 4 (word text))
+
+-- a number of up to sixteen bytes
+abbrev pub shortened : Result (List ℕ) Reason → List ℕ → Read
+shortened (Ok bytes) rest = Ok (shortest bytes, rest)
+shortened (Err r) rest = Err r
+
+-- the bytes of a long number: in hexadecimal digits behind `le:`, or the fewest that say it
+abbrev pub long_first : List ℕ → Read
+long_first text = option_map_or hex_first (behind (codes "le:") (trimmed text)) (shortened (signed_word 16 (word text)) (after_word text))
+
+-- the argument of a form, as a listing spells it
+abbrev pub form_first : Form → List ℕ → Read
+form_first form.Empty text = Ok ([], text)
+form_first form.U1 text = fixed_first form.U1 text
+form_first form.U2 text = fixed_first form.U2 text
+form_first form.U4 text = fixed_first form.U4 text
+form_first form.U8 text = fixed_first form.U8 text
+form_first form.S4 text = signed_first text
+form_first form.R8 text = float_first text
+form_first form.Line text = and_then (text_first text) lined
+form_first form.Quoted text = and_then (text_first text) lined
+form_first form.Decimal text = line_first text
+form_first form.Two text = and_then (text_first text) second_line
+form_first form.B1 text = and_then (text_first text) (counted form.B1)
+form_first form.B4 text = and_then (text_first text) (counted form.B4)
+form_first form.B8 text = and_then (text_first text) (counted form.B8)
+form_first form.Bs4 text = and_then (text_first text) (counted form.Bs4)
+
+-- the argument of an opcode; that of LONG1 and LONG4 is a number
+abbrev pub spelled_first : Opcode → List ℕ → Read
+spelled_first o text = if is_long o then and_then (long_first text) (counted (form_of o)) else form_first (form_of o) text
+
+-- or any bytes, in hexadecimal digits behind `hex:`, with their count and newlines
+abbrev pub argument_first : Opcode → List ℕ → Read
+argument_first o text = option_map_or hex_first (behind (codes "hex:") (trimmed text)) (spelled_first o text)

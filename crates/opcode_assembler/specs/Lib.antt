@@ -1,0 +1,7 @@
+pub mod Words
+pub mod Quotes
+pub mod Numbers
+pub mod Arguments
+pub mod Reading
+pub mod Assembly
+pub mod Cut
