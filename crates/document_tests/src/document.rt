@@ -2,23 +2,19 @@
 
 mod cost;
 mod memory;
-mod nest;
 mod rows;
 mod shown;
 mod worked;
 
 use crate::document::cost::edit_many;
 use crate::document::memory::edit_with_little;
-use crate::document::nest::put_and_back;
 use crate::document::rows::{
     BESIDE_FRAMES, EMPTY_FRAMES, FRAMES, FRAMES_THAT_LIE, IN_FRAMES, MANY, MANY_EDITS, NO_FRAMES,
-    REFUSED,
 };
 use crate::document::shown::{
-    Row, Spelled, Wrong, are_alike, has_bytes_left, have_same_ids, make, make_by_name, open, shows,
-    swap_to, written,
+    Row, Spelled, Wrong, has_bytes_left, make, make_by_name, open, shows, swap_to,
 };
-use pickle_doc::{Document, Edit, EditFault, there_and_back};
+use pickle_doc::{Document, Edit};
 use pickle_ops::Opcode;
 use std::alloc::Global;
 use std::test::Fail;
@@ -141,32 +137,6 @@ fn many_pickles(rt: HostRuntime) -> Result<(), Fail> {
     Ok(())
 }
 
-/// Whether an edit is refused and leaves the document as it was read.
-fn is_refused(alloc: Global, many: bool, bytes: &[u8], edit: &Spelled) -> Result<bool, Wrong> {
-    let opened = open(alloc, many, bytes)?;
-    let mut document = open(alloc, many, bytes)?;
-    let found = make(alloc, &mut document, edit).err();
-    are_alike(&document, &opened)?;
-    if !have_same_ids(&document, &opened) {
-        return Err(Wrong::Ids);
-    }
-    if written(alloc, &document)?.as_slice() != bytes {
-        return Err(Wrong::Bytes);
-    }
-    Ok(found.is_some_and(|fault| fault != EditFault::Memory))
-}
-
-/// The items, their identities and the bytes are those that were read.
-#[test]
-fn refused_edits(rt: HostRuntime) {
-    for (bytes, edit) in &REFUSED {
-        for many in [false, true] {
-            let found = is_refused(rt.alloc(), many, bytes, edit);
-            assert_eq!(rt; found, Ok(true), "{bytes:?}");
-        }
-    }
-}
-
 /// The identities of the first two items after an edit, which is taken back.
 fn ids_behind(
     alloc: Global,
@@ -193,34 +163,6 @@ fn identities_are_given_once(rt: HostRuntime) -> Result<(), Fail> {
         assert_eq!(rt; found, Ok([Some(*id), Some(0)]));
         assert_eq!(rt; [document.id(0), document.id(1)], [Some(0), None]);
     }
-    Ok(())
-}
-
-/// The bytes of a frame, with a deletion at its end, back and again a thousand times.
-#[test]
-fn deletion_back_and_again(rt: HostRuntime) -> Result<(), Fail> {
-    let opened: &[u8] = b"\x80\x04\x95\x04\0\0\0\0\0\0\0N0N0N.";
-    let mut document = Document::read(rt.alloc(), opened)?;
-    let mut record = document.delete(5)?;
-    for _ in 0..1000 {
-        there_and_back(&mut document, &mut record);
-    }
-    let gone: &[u8] = b"\x80\x04\x95\x03\0\0\0\0\0\0\0N0NN.";
-    let found = written(rt.alloc(), &document);
-    assert!(rt; found.is_ok_and(|bytes| bytes.as_slice() == gone));
-    document.swap(&mut record);
-    let found = written(rt.alloc(), &document);
-    assert!(rt; found.is_ok_and(|bytes| bytes.as_slice() == opened));
-    Ok(())
-}
-
-/// A thousand opcodes are put in at the front, and taken back one after another.
-#[test]
-fn insertions_back_and_again(rt: HostRuntime) -> Result<(), Fail> {
-    let mut document = Document::read(rt.alloc(), b".")?;
-    let found = put_and_back(rt.alloc(), &mut document, 0, 1000);
-    assert_eq!(rt; found, Ok(()));
-    assert_eq!(rt; document.len(), 1);
     Ok(())
 }
 

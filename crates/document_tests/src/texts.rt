@@ -3,6 +3,7 @@
 
 use pickle_doc::{DocFault, Document};
 use pickle_machine::Machine;
+use pickle_ops::Op;
 use pickle_show::{TextStop, write_show};
 use std::alloc::Global;
 use std::test::Fail;
@@ -25,16 +26,23 @@ const SHOWN: [(&[u8], usize, u32); 5] = [
     (ORDERED, 7, 2),
 ];
 
+/// Steps over an opcode, of a machine whose objects are few. Nothing is answered where memory is refused.
+fn try_step(machine: &mut Machine, alloc: Global, op: &Op, place: usize) -> Option<()> {
+    if machine.objects() >= 1_000_000 {
+        return None;
+    }
+    match machine.step(alloc, op, place) {
+        Ok(_) => Some(()),
+        Err(_) => None,
+    }
+}
+
 /// The machine after this many opcodes of a pickle, or nothing where memory is refused.
 fn try_machine(alloc: Global, bytes: &[u8], count: usize) -> Option<Machine> {
     let document = Document::read(alloc, bytes).ok()?;
     let mut machine = Machine::new(alloc);
     for place in 0..count {
-        if let Some(op) = document.item(place) {
-            if machine.objects() < 1_000_000 {
-                let _record = machine.step(alloc, op, place).ok()?;
-            }
-        }
+        try_step(&mut machine, alloc, document.item(place)?, place)?;
     }
     Some(machine)
 }

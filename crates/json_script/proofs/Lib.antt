@@ -1,2 +1,5 @@
 -- Lemmas.
-mod Listings
+mod Files
+mod Stopped
+mod FormLines
+mod ReachLines

@@ -1,7 +1,6 @@
 -- The definitions that contracts cite.
 pub mod Stop
 pub mod Output
-pub mod Edited
 pub mod Script
 pub mod Query
 pub mod Transcript

@@ -5,7 +5,7 @@ use pickle_doc::{DocFault, EditFault, End};
 use pickle_io::FromRead;
 use pickle_script::{Stop, converse, write_reply};
 use pickle_session::{Command, Fault, Past, Reply, Session, Whole, Window};
-use std::alloc::{AllocError, Global};
+use std::alloc::Global;
 use std::test::Fail;
 use test_equipment::{Comparison, Drip, Note, Sip, is_noted, page_over, paper, taken, written_out};
 
@@ -30,16 +30,6 @@ const LACKING: &[u8] = b"refused: M out of memory\n";
 
 /// Bytes and the lines that are given.
 type Row = (&'static [u8], &'static [u8]);
-
-/// The scripts of rows over bytes that are read as several pickles or as one.
-fn scripts(alloc: Global, rows: &[Row], many: bool) -> Result<Vec<Script>, AllocError> {
-    let mut scripts = Vec::new(alloc);
-    for row in rows {
-        let (bytes, lines) = *row;
-        scripts.push(Script { many, bytes, lines })?;
-    }
-    Ok(scripts)
-}
 
 /// A session that keeps all records.
 fn opened(alloc: Global, script: &Script) -> Result<Session<Whole>, DocFault> {
@@ -266,8 +256,9 @@ fn is_followed(alloc: Global, noted: &Noted) -> Result<bool, DocFault> {
 /// Notes of the scripts of some rows. Then says so in a line: a request for memory that is made after it may be refused.
 fn all_noted(rt: &HostRuntime, rows: &[Row], many: bool) -> Result<Vec<Noted>, Fail> {
     let mut all = Vec::new(rt.alloc());
-    for script in &scripts(rt.alloc(), rows, many)? {
-        all.push(noted_of(rt.alloc(), script)?)?;
+    for (bytes, lines) in rows {
+        let script = Script { many, bytes, lines };
+        all.push(noted_of(rt.alloc(), &script)?)?;
     }
     println!(rt; "noted")?;
     Ok(all)

@@ -1,10 +1,9 @@
-//! What is written of bytes, and of the document of a session over them, over sinks that fail and with requests for memory refused. It is
-//! compared with what is written of the bytes over a good sink with ample memory, which is tried from outside.
+//! What is written of bytes over sinks that fail and with requests for memory refused. It is compared with what is written of them over a
+//! good sink with ample memory, which is tried from outside.
 
 use pickle_further::Pickles;
 use pickle_io::Page;
-use pickle_script::{Stop, Text, write_session_text, write_text};
-use pickle_session::{Session, Whole};
+use pickle_script::{Stop, Text, write_text};
 use pickle_show::Detail;
 use std::alloc::{AllocError, Global};
 use std::test::Fail;
@@ -104,21 +103,10 @@ fn rows(alloc: Global) -> Result<Vec<Row>, AllocError> {
     Ok(rows)
 }
 
-/// Writes the text of a row's bytes, or of the document of a session over them.
-fn write_row<S: Page>(
-    alloc: Global,
-    row: &Row,
-    of_session: bool,
-    page: &mut S,
-) -> Result<u8, Stop> {
+/// Writes the text of a row's bytes.
+fn write_row<S: Page>(alloc: Global, row: &Row, page: &mut S) -> Result<u8, Stop> {
     let (text, many, bytes) = *row;
-    if !of_session {
-        return write_text(alloc, text, many, false, bytes, page);
-    }
-    match Session::open_in(alloc, Whole::new(alloc), many, false, bytes) {
-        Ok(session) => write_session_text(alloc, text, &session, page),
-        Err(_) => Err(Stop::Memory),
-    }
+    write_text(alloc, text, many, false, bytes, page)
 }
 
 /// What is written of a row, and its status.
@@ -129,18 +117,18 @@ struct Written {
 }
 
 /// What is written over a good sink, or nothing where a request for memory is refused.
-fn try_text(alloc: Global, row: &Row, of_session: bool) -> Option<Written> {
+fn try_text(alloc: Global, row: &Row) -> Option<Written> {
     let mut page = paper(alloc).ok()?;
-    let status = write_row(alloc, row, of_session, &mut page).ok()?;
+    let status = write_row(alloc, row, &mut page).ok()?;
     let text = taken(page).ok()?;
     Some(Written { text, status })
 }
 
 /// What is written of the bytes over a good sink with ample memory. Where one request may be refused it is asked again.
 fn text_of(alloc: Global, row: &Row) -> Result<Written, Stop> {
-    match try_text(alloc, row, false) {
+    match try_text(alloc, row) {
         Some(written) => Ok(written),
-        None => try_text(alloc, row, false).ok_or(Stop::Memory),
+        None => try_text(alloc, row).ok_or(Stop::Memory),
     }
 }
 
@@ -149,13 +137,12 @@ fn text_of(alloc: Global, row: &Row) -> Result<Written, Stop> {
 fn breaks_right(
     alloc: Global,
     row: &Row,
-    of_session: bool,
     wanted: &Written,
     most: usize,
     calls: u64,
 ) -> Result<bool, AllocError> {
     let mut page = page_over(alloc, Sip::new(alloc, most.max(1), calls))?;
-    let answer = write_row(alloc, row, of_session, &mut page);
+    let answer = write_row(alloc, row, &mut page);
     let answer = written_out(&mut page, answer);
     let taken = page.get_ref().taken();
     let ending = if taken.len() == wanted.text.len() {
@@ -171,11 +158,11 @@ fn breaks_right(
 }
 
 /// The first sink that is left otherwise, by how many bytes it takes at most a call and after how many calls it fails.
-fn first_wrong(alloc: Global, row: &Row, of_session: bool) -> Result<Option<(usize, u64)>, Stop> {
+fn first_wrong(alloc: Global, row: &Row) -> Result<Option<(usize, u64)>, Stop> {
     let wanted = text_of(alloc, row)?;
     for most in [1, 2, 7] {
         for calls in 0..=wanted.text.len() as u64 {
-            if !breaks_right(alloc, row, of_session, &wanted, most, calls)? {
+            if !breaks_right(alloc, row, &wanted, most, calls)? {
                 return Ok(Some((most, calls)));
             }
         }
@@ -186,17 +173,14 @@ fn first_wrong(alloc: Global, row: &Row, of_session: bool) -> Result<Option<(usi
 #[test]
 fn failing_sinks(rt: HostRuntime) -> Result<(), Fail> {
     for (k, row) in rows(rt.alloc())?.iter().enumerate() {
-        for of_session in [false, true] {
-            let wrong = first_wrong(rt.alloc(), row, of_session)?;
-            assert_eq!(rt; wrong, None, "row {k}, of a session: {of_session}");
-        }
+        assert_eq!(rt; first_wrong(rt.alloc(), row)?, None, "row {k}");
     }
     Ok(())
 }
 
 /// Whether the same is written once more.
-fn is_written(alloc: Global, row: &Row, of_session: bool, wanted: &Written) -> bool {
-    match try_text(alloc, row, of_session) {
+fn is_written(alloc: Global, row: &Row, wanted: &Written) -> bool {
+    match try_text(alloc, row) {
         Some(found) => {
             found.text.as_slice() == wanted.text.as_slice() && found.status == wanted.status
         }
@@ -206,10 +190,10 @@ fn is_written(alloc: Global, row: &Row, of_session: bool, wanted: &Written) -> b
 
 /// Whether a text is written where one request for memory may be refused: all of it, or a beginning, and all once it is asked for
 /// again. A report is not begun without memory for all of it.
-fn insists(alloc: Global, row: &Row, of_session: bool) -> Result<bool, Stop> {
+fn insists(alloc: Global, row: &Row) -> Result<bool, Stop> {
     let wanted = text_of(alloc, row)?;
     let mut page = insist_on_paper(alloc)?;
-    let answer = write_row(alloc, row, of_session, &mut page);
+    let answer = write_row(alloc, row, &mut page);
     let answer = written_out(&mut page, answer);
     let written = page.into_inner().into_inner();
     let is_whole = written.as_slice() == wanted.text.as_slice();
@@ -217,10 +201,8 @@ fn insists(alloc: Global, row: &Row, of_session: bool) -> Result<bool, Stop> {
     let is_free = row.0 != Text::Objects || written.is_empty();
     match answer {
         Ok(status) => Ok(is_whole && status == wanted.status),
-        Err(Stop::Write) => Ok(is_begun && is_written(alloc, row, of_session, &wanted)),
-        Err(Stop::Memory) => {
-            Ok(is_begun && is_free && is_written(alloc, row, of_session, &wanted))
-        }
+        Err(Stop::Write) => Ok(is_begun && is_written(alloc, row, &wanted)),
+        Err(Stop::Memory) => { Ok(is_begun && is_free && is_written(alloc, row, &wanted)) }
         Err(_) => Ok(false),
     }
 }
@@ -233,10 +215,7 @@ fn refused_memory(rt: HostRuntime) -> Result<(), Fail> {
         Err(_) => rows(rt.alloc())?,
     };
     for (k, row) in rows.iter().enumerate() {
-        for of_session in [false, true] {
-            let is_right = insists(rt.alloc(), row, of_session)?;
-            assert!(rt; is_right, "row {k}, of a session: {of_session}");
-        }
+        assert!(rt; insists(rt.alloc(), row)?, "row {k}");
     }
     Ok(())
 }

@@ -34,7 +34,8 @@ use Rattle.pickle_show.specs.Event.{before_of, event_of}
 use Rattle.pickle_io.specs.Holes.{in_file}
 use Rattle.pickle_show.specs.declared.naming.Detail.{Detail}
 use Rattle.pickle_show.specs.Manner.{Manner}
-use Rattle.pickle_show.specs.Calls.{entry_at, entry_on, naming_at, naming_on, counted_text}
+use Rattle.pickle_show.specs.Telling.{for_people}
+use Rattle.pickle_show.specs.Calls.{entry_at, entry_on, naming_at, naming_on, counted_text, entry_in}
 use Rattle.pickle_show.specs.Listing.{line_at, line_on, topmost_offset}
 use Rattle.pickle_show.specs.ObjectText.{objects_text}
 use Rattle.session_laws.specs.Edits.{ShowSame}
@@ -162,7 +163,7 @@ same_naming how d e k (suc n) h m a =
     ap₂ (naming_on (item_at e n)) (same_state d e k (suc n) h m a) (same_naming how d e k n (omega (arith, h)) m a)
     ∙ naming_alike (item_at d n) (item_at e n) (state_at d (suc n)) (naming_at how d n) (a n (omega (arith, h)))
 
-entry_alike : (offset : ℕ) (m : Naming) (x y : Option Operation) (s t : Option State) → AreAlikeAt x y → entry_on offset m y s t ≡ entry_on offset m x s t
+entry_alike : (offset : ℕ) (m : Naming) (x y : Option Operation) (s t : Option State) → AreAlikeAt x y → entry_on for_people offset m y s t ≡ entry_on for_people offset m x s t
 entry_alike offset m None None s t a = refl
 entry_alike offset m None (Some p) s t a = absurd a
 entry_alike offset m (Some o) None s t a = absurd a
@@ -172,7 +173,7 @@ entry_alike offset m (Some o) (Some p) (Some s) (Some t) a =
     ap (λ (r : Row). counted_text offset m t.heap (event_of r (before_of (fresh s)) t)) (same_row o p a)
 
 called : (how : Manner) (k i : ℕ) (d e : Contents) → i < k → e.many ≡ d.many → AgreeOps k d e → SameOffsets k d e → entry_at how e i ≡ entry_at how d i
-unfolding entry_at
+unfolding entry_in
 called how k i d e h m a offsets =
     rw (offsets i (omega (arith, h)), same_naming how.detail d e k i (omega (arith, h)) m a, same_state d e k i (omega (arith, h)) m a, same_state d e k (suc i) (omega (arith, h)) m a)
     (entry_alike (in_file how.holes (offset_of d i)) (naming_at how.detail d i) (item_at d i) (item_at e i) (state_at d i) (state_at d (suc i)) (a i h))

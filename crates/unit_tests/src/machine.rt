@@ -1,12 +1,12 @@
-//! What a machine shows after operations, on the way forwards and on the way back, and where an operation or a request for memory is
-//! refused. Which states and which refusals these are is judged from outside, by the rows of equipment/conversations.txt.
+//! What a machine shows after operations, on the way forwards and on the way back, and where a request for memory is refused. Which states
+//! these are is judged from outside, by the rows of equipment/conversations.txt.
 
 mod path;
 pub mod rows;
 
-use crate::machine::path::{Fault, Noted, Pickles, Way, note_down, notes_of, ops_of, run, walk};
-use crate::machine::rows::{ALL_SHAPES, FREE_FROM, FURTHER, OPCODES, SEVERAL, UNSHOWN, WORKED};
-use pickle_machine::{Machine, Refusal};
+use crate::machine::path::{Fault, Noted, Pickles, Way, note_down, run, walk};
+use crate::machine::rows::{ALL_SHAPES, FREE_FROM, OPCODES, SEVERAL, UNSHOWN};
+use pickle_machine::Machine;
 use std::alloc::Global;
 use std::test::Fail;
 use test_equipment::shows_state;
@@ -39,37 +39,6 @@ fn insist_on_notes(alloc: Global, pickles: Pickles, bytes: &[u8]) -> Result<Note
     }
 }
 
-/// What is written of a machine whose readers do not say the same, or say more than they count.
-const DISAGREEMENTS: [&[u8]; 5] = [
-    b" is not there",
-    b" and marks out of order",
-    b" by one reader alone",
-    b"; and another is the latest",
-    b"; and readers past the end",
-];
-
-/// Whether a text has a part at some place.
-fn has_part(text: &[u8], part: &[u8]) -> bool {
-    for k in 0..text.len() {
-        if text.get(k..).unwrap_or_default().starts_with(part) {
-            return true;
-        }
-    }
-    false
-}
-
-/// Whether the readers agreed at each place.
-fn readers_agree(noted: &Noted) -> Result<(), Fault> {
-    for (place, note) in noted.notes.iter().enumerate() {
-        for part in &DISAGREEMENTS {
-            if has_part(note.as_slice(), part) {
-                return Err(Fault::Readers(place));
-            }
-        }
-    }
-    Ok(())
-}
-
 /// Compares the states that are given with what is shown on the way.
 fn has_states(noted: &Noted, states: &[(usize, &str)]) -> Result<(), Fault> {
     for (place, text) in states {
@@ -83,7 +52,7 @@ fn has_states(noted: &Noted, states: &[(usize, &str)]) -> Result<(), Fault> {
 /// How a way is gone.
 #[derive(Clone, Copy)]
 enum Trip {
-    /// Forwards and back, twice, with a look at the readers.
+    /// Forwards and back, twice.
     Twice,
     /// Forwards, or also back. The way back takes no memory, so both ask for as much.
     Once { and_back: bool },
@@ -93,10 +62,7 @@ enum Trip {
 fn try_row(alloc: Global, pickles: Pickles, bytes: &[u8], trip: Trip) -> Result<u8, Fault> {
     let noted = insist_on_notes(alloc, pickles, bytes)?;
     match trip {
-        Trip::Twice => {
-            walk_twice(alloc, &noted)?;
-            readers_agree(&noted)?;
-        }
+        Trip::Twice => walk_twice(alloc, &noted)?,
         Trip::Once { and_back } => go(alloc, &noted, and_back)?,
     }
     Ok(noted.ops.last().map_or(0, |op| op.opcode().code()))
@@ -122,13 +88,6 @@ fn first_wrong(alloc: Global, pickles: Pickles, rows: &[&[u8]]) -> Option<(usize
         }
     }
     None
-}
-
-#[test]
-fn ways(rt: HostRuntime) {
-    assert_eq!(rt; first_wrong(rt.alloc(), Pickles::One, &WORKED), None);
-    assert_eq!(rt; first_wrong(rt.alloc(), Pickles::One, &FURTHER), None);
-    assert_eq!(rt; first_wrong(rt.alloc(), Pickles::Several, &SEVERAL), None);
 }
 
 /// Each row ends in an opcode of its own.
@@ -166,129 +125,6 @@ fn is_note(noted: &Noted, place: usize, parts: [&[u8]; 3]) -> bool {
         rest = rest.get(part.len()..).unwrap_or_default();
     }
     rest.is_empty() && place < noted.notes.len()
-}
-
-/// Whether the thousand objects come one after the other on the stack, and go together.
-fn is_thousand(alloc: Global, noted: &Noted) -> Result<bool, Fault> {
-    let mut objects = Vec::new(alloc);
-    let mut stack = Vec::new(alloc);
-    let mut is_so = is_note(noted, 1, [b"", b"stack (0", b""]);
-    for k in 0..1000usize {
-        objects.extend_from_slice(format!(in alloc; "#{k} none; ")?.as_bytes())?;
-        stack.extend_from_slice(format!(in alloc; " #{k}")?.as_bytes())?;
-        is_so &= is_note(noted, k + 2, [&objects, b"stack (0", &stack]);
-    }
-    is_so &= is_note(noted, 1002, [&objects, b"stack", b""]);
-    is_so &= is_note(noted, 1003, [&objects, b"#1000 none; stack #1000", b""]);
-    let end = b"#1000 none; stack; result #1000";
-    is_so &= is_note(noted, 1004, [&objects, end, b""]);
-    Ok(is_so)
-}
-
-#[test]
-fn a_thousand_heights(rt: HostRuntime) -> Result<(), Fail> {
-    let noted = thousand(rt.alloc())?;
-    assert_eq!(rt; walk_twice(rt.alloc(), &noted), Ok(()));
-    assert_eq!(rt; noted.notes.len(), 1005);
-    assert_eq!(rt; is_thousand(rt.alloc(), &noted), Ok(true));
-    Ok(())
-}
-
-/// The last opcode of each of these is refused; those before it are accepted.
-const REFUSED: [&[u8]; 23] = [
-    b"e",
-    b"]N(a",
-    b"(Nu",
-    b"N(Nu",
-    b"N\x98",
-    b"NN\x93",
-    b"NNR",
-    b"c\n\n)N\x92",
-    b"(No",
-    b"(a",
-    b"((e",
-    b"(Nd",
-    b"N(Ne",
-    b"\x84\xff\xff\xff\xff",
-    b"N\x8c\x01a\x93",
-    b"c\n\nNR",
-    b"(o",
-    b"\x98",
-    b")Na",
-    b"g007\n",
-    b"\x80\x06",
-    b"\x82\x00",
-    b"N00",
-];
-
-/// The same where several pickles are run: the first opcode of the next one finds no object, no mark and no entry of the memo,
-/// whatever the one before left.
-const REFUSED_OF_SEVERAL: [&[u8]; 17] = [
-    b"Nq\x00.h\x00",
-    b"(N.0",
-    b"NN.0",
-    b"(NN.t",
-    b"(NN.1",
-    b"](NN.e",
-    b"](NN.o",
-    b"NN.2",
-    b"NN..",
-    b"NN.\x85",
-    b"]NN.a",
-    b"NN.q\x00",
-    b"NN.\x94",
-    b"C\x00N.\x98",
-    b"N.\x80\x06",
-    b"N.\x82\x00",
-    b"N.Nq\x07.g7\n",
-];
-
-/// What the last opcode is refused for, where its step leaves every reader as it was, and `check` says the same before it and after
-/// it.
-fn refusal_of(alloc: Global, pickles: Pickles, bytes: &[u8]) -> Result<Option<Refusal>, Fault> {
-    let ops = ops_of(alloc, bytes)?;
-    let mut machine = pickles.machine(alloc);
-    let Some((op, before)) = ops.split_last() else {
-        return Ok(None);
-    };
-    let notes = notes_of(&mut machine, alloc, before)?;
-    if machine.objects() >= 1000 {
-        return Err(Fault::Objects);
-    }
-    let refusal = machine.check(op);
-    let mut is_so = machine.step(alloc, op, before.len()).err() == refusal;
-    let note = notes.last().map(|note| note.as_slice());
-    is_so &= shows_state(&machine, note.unwrap_or_default());
-    is_so &= machine.moves() == before.len() as u64;
-    is_so &= machine.check(op) == refusal;
-    Ok(if is_so { refusal } else { None })
-}
-
-/// Whether the last opcode of each is refused; otherwise the first where it is not.
-fn first_accepted(alloc: Global, pickles: Pickles, rows: &[&[u8]]) -> Option<usize> {
-    for (k, bytes) in rows.iter().enumerate() {
-        match refusal_of(alloc, pickles, bytes) {
-            Ok(Some(_)) => {}
-            _ => return Some(k),
-        }
-    }
-    None
-}
-
-#[test]
-fn refusals(rt: HostRuntime) {
-    assert_eq!(rt; first_accepted(rt.alloc(), Pickles::One, &REFUSED), None);
-    assert_eq!(rt;
-        first_accepted(rt.alloc(), Pickles::Several, &REFUSED_OF_SEVERAL),
-        None
-    );
-}
-
-/// A machine for one pickle takes what comes after STOP from above the mark that STOP left.
-#[test]
-fn refused_behind_stop(rt: HostRuntime) {
-    let found = refusal_of(rt.alloc(), Pickles::One, b"(N.q\x00");
-    assert_eq!(rt; found, Ok(Some(Refusal::Underflow)));
 }
 
 /// Run with each request for memory refused in turn: a step that is refused where memory runs out leaves every reader

@@ -11,7 +11,7 @@ use pickle_ops::Opcode;
 use pickle_session::{Command, Fault, Past, Reply, Session, Whole, Why};
 use std::alloc::Global;
 use std::test::Fail;
-use test_equipment::{Comparison, LARGE, large, paper, shows, taken, write_session};
+use test_equipment::{Comparison, LARGE, large, shows};
 
 /// The usual dump of a list with the number 1.
 const DUMP: &[u8] = b"\x80\x04\x95\x06\x00\x00\x00\x00\x00\x00\x00]\x94K\x01a.";
@@ -24,123 +24,6 @@ const PAIRS: &[u8] = b"K\x01K\x02\x86q\x00.K\x01K\x02\x86q\x00.";
 
 /// A list appended to itself.
 const CYCLE: &[u8] = b"]2a.";
-
-/// What a session shows, as a text.
-fn note_of<P: Past>(alloc: Global, session: &Session<P>) -> Result<Vec<u8>, Fail> {
-    let mut page = paper(alloc)?;
-    write_session(session, &mut page)?;
-    Ok(taken(page)?)
-}
-
-/// What is shown at each place of some bytes that are stepped over to their end.
-fn notes_of(alloc: Global, many: bool, bytes: &[u8]) -> Result<Vec<Vec<u8>>, Fail> {
-    let mut notes = Vec::new(alloc);
-    let mut session = open_whole(alloc, many, bytes)?;
-    notes.push(note_of(alloc, &session)?)?;
-    for _ in 0..session.document().len() {
-        let _reply = session.obey(alloc, &Command::Step);
-        notes.push(note_of(alloc, &session)?)?;
-    }
-    Ok(notes)
-}
-
-/// Whether a session is at a place, and shows what is written down.
-fn is_shown<P: Past>(session: &Session<P>, place: usize, notes: &[Vec<u8>], bytes: &[u8]) -> bool {
-    match notes.get(place) {
-        Some(note) => session.cursor() == place && shows(session, note, bytes),
-        None => false,
-    }
-}
-
-/// Goes from one place to another, step by step.
-fn walk<P: Past>(
-    session: &mut Session<P>,
-    alloc: Global,
-    to: usize,
-    notes: &[Vec<u8>],
-    bytes: &[u8],
-) -> bool {
-    let from = session.cursor();
-    let command = if from < to {
-        Command::Step
-    } else {
-        Command::Back
-    };
-    for k in 1..=from.abs_diff(to) {
-        let place = if from < to {
-            from.saturating_add(k)
-        } else {
-            from.saturating_sub(k)
-        };
-        let reply = session.obey(alloc, &command);
-        if reply != Reply::At(place) || !is_shown(session, place, notes, bytes) {
-            return false;
-        }
-    }
-    true
-}
-
-/// Goes from every place to every place at once and step by step; the first pair that differs, if one does.
-fn go_everywhere<P: Past>(
-    session: &mut Session<P>,
-    alloc: Global,
-    notes: &[Vec<u8>],
-    bytes: &[u8],
-) -> Option<(usize, usize)> {
-    for from in 0..notes.len() {
-        for to in 0..notes.len() {
-            let first = session.obey(alloc, &Command::Goto(from));
-            let there = session.obey(alloc, &Command::Goto(to));
-            let is_there = is_shown(session, to, notes, bytes);
-            let again = session.obey(alloc, &Command::Goto(from));
-            let is_walked = walk(session, alloc, to, notes, bytes);
-            if (first, there, again) != (Reply::At(from), Reply::At(to), Reply::At(from))
-                || !is_there
-                || !is_walked
-            {
-                return Some((from, to));
-            }
-        }
-    }
-    None
-}
-
-/// Whether every place of some bytes is reached from every other, with all records and with the latest two.
-fn is_walked(alloc: Global, many: bool, bytes: &[u8]) -> Result<bool, Fail> {
-    let notes = notes_of(alloc, many, bytes)?;
-    let mut session = open_whole(alloc, many, bytes)?;
-    let mut window = open_window(alloc, many, 2, bytes)?;
-    Ok(
-        notes.len() == session.document().len().saturating_add(1)
-            && go_everywhere(&mut session, alloc, &notes, bytes).is_none()
-            && go_everywhere(&mut window, alloc, &notes, bytes).is_none(),
-    )
-}
-
-/// Bytes, read as several pickles or as one, that are walked from every place to every place.
-const WALKED: [(bool, &[u8]); 13] = [
-    (false, DUMP),
-    (false, PAIR),
-    (false, CYCLE),
-    (false, b"]22aa."),
-    (false, b"]q\x00h\x00a(h\x00e."),
-    (false, b"\x8f\x94(h\x00h\x00\x90."),
-    (false, b"}22s."),
-    (false, b"}2b."),
-    (true, PAIRS),
-    (true, b"(N.N2\x86."),
-    (true, b"NNq\x00.]q\x00(h\x00h\x00e."),
-    (true, b"\x97.\x97\x98."),
-    (true, b"((NN.\x80\x02N(0.N."),
-];
-
-#[test]
-fn from_every_place_to_every_place(rt: HostRuntime) -> Result<(), Fail> {
-    for (k, (many, bytes)) in WALKED.iter().enumerate() {
-        assert!(rt; is_walked(rt.alloc(), *many, bytes)?, "row {k}");
-    }
-    Ok(())
-}
 
 /// Sessions that keep this many of the latest records, the bytes, and commands in each.
 const WINDOWS: [(usize, bool, &[u8], &[Counts]); 4] = [
@@ -287,11 +170,13 @@ fn counts_with_all_records(rt: HostRuntime) -> Result<(), Fail> {
 /// How many objects are on the stack at a place of a mark, a thousand objects, the opcode that drops them and the mark, one
 /// more object and its end.
 fn height_at(place: usize) -> usize {
-    match place {
-        1..=1001 => place.saturating_sub(1),
-        1003 => 1,
-        _ => 0,
+    if place == 1003 {
+        return 1;
     }
+    if place <= 1001 {
+        return place.saturating_sub(1);
+    }
+    0
 }
 
 #[test]

@@ -13,11 +13,9 @@ pub const ITEMS: usize = 1_000_000;
 
 /// The bytes of a million items.
 pub fn million(alloc: Global) -> Result<Vec<u8>, Wrong> {
-    let Ok(mut bytes) = vec![in alloc; b'N'; ITEMS] else {
+    let mut bytes = Vec::new(alloc);
+    if bytes.resize(ITEMS - 1, b'N').is_err() || bytes.push(b'.').is_err() {
         return Err(Wrong::Memory);
-    };
-    if let Some(last) = bytes.last_mut() {
-        *last = b'.';
     }
     Ok(bytes)
 }

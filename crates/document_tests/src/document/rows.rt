@@ -221,18 +221,6 @@ pub const NO_FRAMES: [Row; 3] = [
     ),
 ];
 
-/// Bytes, and an edit of them that is refused, for each reason: no such item, STOP, FRAME, behind STOP, an open frame and a frame that is
-/// there already. Why each is refused, and more of them, is in equipment/conversations.txt.
-pub const REFUSED: [(&[u8], Spelled); 7] = [
-    (b"N.", Edit::Delete(usize::MAX)),
-    (b"N.N.", Edit::Replace(1, NONE)),
-    (b"N.", Edit::Insert(0, FRAME)),
-    (b"N.", Edit::Insert(2, NONE)),
-    (b"N.\xff", Edit::Frame(2, 0)),
-    (b"\x95\x03\0\0\0\0\0\0\0N.X", Edit::Unframe(0)),
-    (b"\x95\x02\0\0\0\0\0\0\0NN.", Edit::Frame(2, 2)),
-];
-
 /// Bytes with many pickles, and what they read as. The end is STOP only where STOP is the last item and no byte is left.
 pub const MANY: [Shown; 9] = [
     (b"", "0 F1 at 0"),

@@ -37,8 +37,6 @@ pub enum Wrong {
     Memory,
     /// Other items, another tail or another end are shown.
     Items,
-    /// The identities are others.
-    Ids,
     /// An offset has another place.
     Offsets,
     /// The tail or the total is another.
@@ -73,11 +71,7 @@ impl From<EditFault> for Wrong {
 
 /// What bytes read as, as many pickles or as one.
 pub fn open(alloc: Global, many: bool, bytes: &[u8]) -> Result<Document, DocFault> {
-    if many {
-        Document::read_many(alloc, bytes)
-    } else {
-        Document::read(alloc, bytes)
-    }
+    Document::read_in(alloc, many, false, bytes)
 }
 
 /// The bytes that a document writes.
@@ -100,7 +94,7 @@ fn is_same_item(left: &Document, right: &Document, k: usize) -> bool {
 }
 
 /// Whether both documents show the same, identities apart.
-pub fn are_alike(left: &Document, right: &Document) -> Result<(), Wrong> {
+fn are_alike(left: &Document, right: &Document) -> Result<(), Wrong> {
     for k in 0..left.len() {
         if !is_same_item(left, right, k) {
             return Err(Wrong::Again(k));
@@ -114,16 +108,6 @@ pub fn are_alike(left: &Document, right: &Document) -> Result<(), Wrong> {
     } else {
         Err(Wrong::Tail)
     }
-}
-
-/// Whether the items of both documents have the same identities.
-pub fn have_same_ids(left: &Document, right: &Document) -> bool {
-    for k in 0..left.len() {
-        if left.id(k) != right.id(k) {
-            return false;
-        }
-    }
-    true
 }
 
 /// Writes how reading ended.

@@ -11,7 +11,7 @@ use crate::stop::Stop;
 use pickle_doc::LIMIT;
 use pickle_further::Pickles;
 use pickle_io::{Failed, Hole, Holes, Page, write_all, write_decimal};
-use pickle_show::Detail;
+use pickle_show::{Detail, ForPeople};
 use std::alloc::Global;
 
 /// Writes a hole.
@@ -81,7 +81,7 @@ fn write_left<S: Page>(
 {
     let count = holes.cut(bytes);
     let left = bytes.split_at(count).0;
-    Ok(pickle_further::calls(alloc, detail, holes, pickles, left, page)?)
+    Ok(pickle_further::calls::<ForPeople, S>(alloc, detail, holes, pickles, left, page)?)
 }
 
 /// Writes what the pickles would import and call that are left of the bytes of a file without these holes, in this reading, with arguments

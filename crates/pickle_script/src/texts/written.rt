@@ -11,7 +11,7 @@ use pickle_doc::LIMIT;
 use pickle_further::Pickles;
 use pickle_io::{Holes, Page};
 use pickle_reach::Granted;
-use pickle_show::{Detail, list_bytes, report_of_bytes};
+use pickle_show::{Detail, ForPeople, list_bytes, report_of_bytes};
 use std::alloc::Global;
 
 /// What is written of an input.
@@ -61,7 +61,7 @@ pub fn write_text<S: Page>(
         Text::Reach(granted) => Ok(write_reach(alloc, granted, bytes, page)?),
         Text::Calls(pickles, detail) => {
             let holes = Holes::new(alloc);
-            Ok(pickle_further::calls(alloc, detail, &holes, pickles, bytes, page)?)
+            Ok(pickle_further::calls::<ForPeople, S>(alloc, detail, &holes, pickles, bytes, page)?)
         }
     }
 }

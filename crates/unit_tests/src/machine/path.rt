@@ -23,8 +23,6 @@ pub enum Fault {
     NotFree(usize),
     /// The state is not what was written down.
     Differs(usize),
-    /// What readers say of the state is not the same.
-    Readers(usize),
     /// A move was not counted as one.
     Moves(usize),
     /// There are too many objects for a test.
@@ -59,7 +57,7 @@ impl<T: Drop> From<AllocFailed<T>> for Fault {
 }
 
 /// The operations that the bytes spell, to their end.
-pub fn ops_of(alloc: Global, bytes: &[u8]) -> Result<Vec<Op>, Fault> {
+fn ops_of(alloc: Global, bytes: &[u8]) -> Result<Vec<Op>, Fault> {
     let mut ops = Vec::new(alloc);
     let mut rest = bytes;
     for _ in 0..bytes.len() {
@@ -112,7 +110,7 @@ pub fn run(machine: &mut Machine, alloc: Global, ops: &[Op]) -> Result<(), Fault
 }
 
 /// Steps through operations to their end, and writes down the state at each place.
-pub fn notes_of(machine: &mut Machine, alloc: Global, ops: &[Op]) -> Result<Vec<Vec<u8>>, Fault> {
+fn notes_of(machine: &mut Machine, alloc: Global, ops: &[Op]) -> Result<Vec<Vec<u8>>, Fault> {
     let mut notes = Vec::new(alloc);
     notes.push(state_of(alloc, machine)?)?;
     for (place, op) in ops.iter().enumerate() {

@@ -35,42 +35,6 @@ pub const UNSHOWN: [Row; 4] = [
     ),
 ];
 
-/// Worked pickles.
-pub const WORKED: [&[u8]; 16] = [
-    // a list put into itself by APPEND
-    b"]22aa.",
-    // a list put into itself by APPEND and by APPENDS
-    b"]q\x00h\x00a(h\x00e.",
-    // a set put into itself by ADDITEMS
-    b"\x8f\x94(h\x00h\x00\x90.",
-    // a dictionary that is its own key and value
-    b"}22s.",
-    // a dictionary that is its own state
-    b"}2b.",
-    // a memo entry overwritten
-    b"K\x01q\x00K\x02q\x00.",
-    // POP drops a mark
-    b"N(0.",
-    // MEMOIZE counts entries
-    b"Nq\x05N\x94.",
-    // a call of getcwd
-    b"cos\ngetcwd\n)R.",
-    // an ordered dictionary
-    b"ccollections\nOrderedDict\n)R(K\x01K\x02u.",
-    // the usual dump of a list
-    b"\x80\x04\x95\x06\x00\x00\x00\x00\x00\x00\x00]\x94K\x01a.",
-    // APPENDS without items asks for no list
-    b"N(e.",
-    // a view of a buffer is one already
-    b"\x97\x98\x98.",
-    // bytes are read only already
-    b"C\x00\x98.",
-    // INST takes the objects above the mark
-    b"(Nios\nx\n.",
-    // APPEND to what a call gave
-    b"c\n\n)RNa.",
-];
-
 /// For each opcode, bytes of which it is the last.
 pub const OPCODES: [&[u8]; 68] = [
     // INT
@@ -209,28 +173,6 @@ pub const OPCODES: [&[u8]; 68] = [
     b"Pa\n",
     // BINPERSID
     b"NK\x01Q",
-];
-
-/// What opcodes do to kinds that the rows above do not have.
-pub const FURTHER: [&[u8]; 9] = [
-    // a view of a call
-    b"c\n\n)R\x98",
-    // where nothing goes into it, no kind is asked for
-    b"N(u(\x90(e",
-    // items put into what a call gave
-    b"c\n\n)R(NNu(N\x90(NeNNs",
-    // names from elsewhere
-    b"PP\nS\"a\"\n\x93",
-    // arguments and keywords from elsewhere
-    b"c\n\nPa\nPk\n\x92",
-    // an instance of a class without arguments, called
-    b"(\x97o)R",
-    // no items
-    b"(d(t(l(\x91",
-    // marks in marks, cut one after another
-    b"(K\x01(K\x02(K\x03tlt",
-    // SETITEMS to a row of bytes
-    b"\x96\x00\x00\x00\x00\x00\x00\x00\x00(K\x00K\x01u",
 ];
 
 /// What changes a machine in every way, to a STOP, and free steps behind it, which end in the state that STOP left.

@@ -24,17 +24,17 @@ pub type Counts = (Given, Reply, usize, usize, u64);
 
 /// The command. `Memory` comes where memory runs out, another fault where the opcode has no such argument.
 pub fn command(alloc: Global, given: Given) -> Result<Command, OpFault> {
-    Ok(match given {
-        Given::Step => Command::Step,
-        Given::Back => Command::Back,
-        Given::Run => Command::Run,
-        Given::Goto(k) => Command::Goto(k),
-        Given::Clear(k) => Command::Clear(k),
-        Given::Insert(k, opcode, arg) => Command::insert(k, op_of(alloc, opcode, arg)?),
-        Given::Delete(k) => Command::delete(k),
-        Given::Undo => Command::Undo,
-        Given::Redo => Command::Redo,
-    })
+    match given {
+        Given::Step => Ok(Command::Step),
+        Given::Back => Ok(Command::Back),
+        Given::Run => Ok(Command::Run),
+        Given::Goto(k) => Ok(Command::Goto(k)),
+        Given::Clear(k) => Ok(Command::Clear(k)),
+        Given::Insert(k, opcode, arg) => Ok(Command::insert(k, op_of(alloc, opcode, arg)?)),
+        Given::Delete(k) => Ok(Command::delete(k)),
+        Given::Undo => Ok(Command::Undo),
+        Given::Redo => Ok(Command::Redo),
+    }
 }
 
 /// A session over several pickles or one, that keeps all records.

@@ -1,0 +1,8 @@
+use Rattle.std.proofs.Common.{arith}
+use Rattle.pickle_show.specs.Manner.{manner}
+use Rattle.json_script.proofs.Files.{file_too_large}
+use Rattle.json_script.proofs.calls.write_calls_lines.Goals as goal
+
+pub returns-then-bytes-gt-LIMIT : goal.returns-then-bytes-gt-LIMIT
+returns-then-bytes-gt-LIMIT g c =
+    file_too_large g.S.Sink.told (manner c.args.detail c.args.holes.now) c.args.pickles c.args.bytes.now c.args.page.now (omega (arith, c.if-bytes-gt-LIMIT.true))

@@ -1,6 +1,0 @@
-use Rattle.std.proofs.Common.{arith}
-use Rattle.json_script.proofs.Listings.{refused_large}
-use Rattle.json_script.proofs.listing.write_listing_lines.Goals as goal
-
-pub returns-then-bytes-gt-LIMIT : goal.returns-then-bytes-gt-LIMIT
-returns-then-bytes-gt-LIMIT g c = refused_large g.S.Sink.told c.args.many c.args.loose c.args.bytes.now c.args.page.now (λ i. omega (arith, c.type_inv.bytes i)) (omega (arith, c.if-bytes-gt-LIMIT.true))
