@@ -20,7 +20,7 @@ use Rattle.pickle_show.specs.declared.event.Event.{Event}
 use Rattle.pickle_show.specs.declared.event.Event.TheVariants as event
 use Rattle.pickle_show.specs.declared.naming.Detail.TheVariants as detail
 use Rattle.pickle_show.specs.Manner.{Manner}
-use Rattle.pickle_show.specs.Calls.{first_inside, end_to, end_from, calls_end, calls}
+use Rattle.pickle_show.specs.Calls.{first_inside, end_to, end_from, calls_end, calls, calls_in}
 use Rattle.pickle_show.specs.CallsLine.{ending_status}
 use Rattle.pickle_show.proofs.Places.{reached_here}
 use Rattle.pickle_loader.specs.Environment.{Value, Act, Fill, World}
@@ -137,7 +137,7 @@ pub plain : Manner
 plain = record { detail = detail.Cut; holes = [] }
 
 pub status_zero : (d : Contents) → ending_status (calls_end d).ending ≡ 0 → (calls plain d).status ≡ 0
-unfolding calls
+unfolding calls_in
 status_zero d e = e
 
 pub place_is : (d : Contents) (t : IsThrough d) → (calls_end d).place ≡ length (ops_of d)

@@ -11,3 +11,4 @@ pub mod States
 pub mod LawC
 pub mod Untouching
 pub mod Files
+pub mod Headline

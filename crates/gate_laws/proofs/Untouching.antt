@@ -1,19 +1,18 @@
 -- Where no import leads to the unpickler, nothing touches it.
 use Rattle.std.proofs.Common.{◌≡◌, ℕ, zero, suc, Bool, true, false, List, [], ◌∷◌, ◌++◌, Option, Some, None, refl, sym, ap, ◌∙◌}
-use Rattle.std.specs.Prelude.{◌&&◌, ◌||◌}
+use Rattle.std.specs.Prelude.{◌&&◌}
 use Rattle.std.specs.List.{list_any}
 use Rattle.pickle_further.specs.declared.way.Pickles.TheVariants as pickles
 use Rattle.pickle_further.specs.declared.way.Way.{Way}
-use Rattle.pickle_further.specs.Leads.{names_lead}
 use Rattle.pickle_further.specs.Parts.{ignoring, buffering}
 use Rattle.pickle_loader.specs.Environment.{Act, Find, World}
 use Rattle.pickle_loader.specs.FindClass.{find_class}
-use Rattle.pickle_loader.specs.Bytes.{Loading, load_next, load_bytes}
-use Rattle.pickle_loader.specs.CLoad.{COnward, c_load_on, c_load_way}
-use Rattle.pickle_loader.specs.ShownFile.{CLoading, c_load_next, c_load_file}
+use Rattle.pickle_loader.specs.Bytes.{load_next, load_bytes}
+use Rattle.pickle_loader.specs.CLoad.{c_load_on, c_load_way}
+use Rattle.pickle_loader.specs.ShownFile.{c_load_next, c_load_file}
 use Rattle.pickle_allow.specs.declared.list.Entry.{Entry}
 use Rattle.pickle_allow.specs.Allow.{Source, may_find}
-use Rattle.gate_laws.specs.Permitted.{name_text, found, found_by, answer_source, permits, permits_all}
+use Rattle.gate_laws.specs.Permitted.{name_text, found_by, answer_source, permits, permits_all}
 use Rattle.gate_laws.specs.Untouched.{import_leads, act_leads, LeadsNowhere, touched, Untouched, acts_loaded, acts_loaded_in_c, acts_loaded_of_a_file, NothingIsTouched, NothingIsTouchedInC, NothingIsTouchedInAFile}
 use Rattle.gate_laws.proofs.Law.{only_what_is_allowed}
 use Rattle.gate_laws.proofs.LawC.{only_what_is_allowed_in_c}

@@ -2,3 +2,4 @@
 pub mod Permitted
 pub mod Laws
 pub mod Untouched
+pub mod Headline

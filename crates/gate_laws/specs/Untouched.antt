@@ -9,7 +9,7 @@ use Rattle.pickle_names.specs.Renamed.{Import}
 use Rattle.pickle_further.specs.declared.way.Pickles.TheVariants as pickles
 use Rattle.pickle_further.specs.Leads.{names_lead}
 use Rattle.pickle_further.specs.Parts.{ignoring, buffering}
-use Rattle.pickle_loader.specs.Environment.{Name, Act, Find, World}
+use Rattle.pickle_loader.specs.Environment.{Act, Find, World}
 use Rattle.pickle_loader.specs.FindClass.{find_class}
 use Rattle.pickle_loader.specs.Dispatch.{acts_of}
 use Rattle.pickle_loader.specs.Bytes.{Loading, load_next, load_bytes}

@@ -2,6 +2,7 @@
 
 ghost use Rattle.gate_laws.specs.Laws.{ImportsAreInTheList, UsesAreGranted, OnlyWhatIsAllowed, OnlyWhatIsAllowedInC, OnlyWhatIsAllowedInAFile, OnlyWhatIsAllowedOfAPipe, StatesComeLast, StatesArePlain, MakersStay};
 ghost use Rattle.gate_laws.specs.Untouched.{NothingIsTouched, NothingIsTouchedInC, NothingIsTouchedInAFile};
+ghost use Rattle.gate_laws.specs.Headline.{StatusZeroPermits};
 
 /// Among permitted acts each import is of a name in the list.
 pub fn imports_are_in_the_list()
@@ -64,4 +65,10 @@ pub fn nothing_is_touched_in_c()
 /// So they are by the unpickler in C from a file that shows bytes ahead, however many.
 pub fn nothing_is_touched_in_a_file()
     ensures { NothingIsTouchedInAFile }
+{}
+
+/// Where the gate ends with status 0, its list permits all that CPython's unpicklers do with the file: with the pickle that it is, or with whatever a
+/// reader by the directory gives them of an archive.
+pub fn status_zero_permits()
+    ensures { StatusZeroPermits }
 {}

@@ -6,3 +6,4 @@ pub mod Cuts
 pub mod Reading
 pub mod NoImports
 pub mod Taking
+pub mod Together

@@ -12,7 +12,7 @@ use Rattle.pickle_ops.specs.KindRef.{kind_view, parts_shown, shown, look_shown}
 use Rattle.pickle_allow.specs.declared.list.Entry.{Entry}
 use Rattle.pickle_allow.specs.declared.limit.Limit.{Limit}
 use Rattle.pickle_allow.specs.Grammar.{is_blank, before, behind}
-use Rattle.pickle_allow.specs.Named.{kind_import, import_at, kind_name, name_at, called_name, callee_name, maker_at, tuple_items, items_at, arguments_of, is_endless_call, is_endless}
+use Rattle.pickle_allow.specs.Named.{kind_import, import_at, kind_name, name_at, called_name, callee_name, maker_at, tuple_items, items_at, arguments_of, are_made_bytes, is_endless_call, is_endless}
 use Rattle.pickle_allow.specs.Arguments.{Argument, item_takes, argument_of, item_takes_at, behind_item, items_take, is_limit, limits_of, name_allows, limit_of, may_be_given}
 use Rattle.pickle_allow.proofs.Cuts.{split_left, split_cut, split_some}
 
@@ -73,11 +73,17 @@ endless_same : (proto : ℕ) (heap : List Object) (k : Kind) (parts : List ℕ) 
 endless_same proto heap k parts =
     ap₂ (λ (ids name : Option (List ℕ)). option_map_or (λ (n : List ℕ). is_endless_call proto heap n ids) name false) (arguments_same heap k parts) (callee_same proto heap k parts)
 
-abbrev this_argument : Kind → Option (List ℕ) → Bool → Argument
-this_argument k name endless = record { kind = k; name = name; endless = endless }
+bytes_same : (proto : ℕ) (heap : List Object) (k : Kind) (parts : List ℕ) → are_made_bytes proto heap k (parts_shown k parts) ≡ are_made_bytes proto heap k parts
+bytes_same proto heap kind.Call parts = refl
+bytes_same proto heap _ parts = refl
+
+abbrev this_argument : Kind → Bool → Option (List ℕ) → Bool → Argument
+this_argument k made name endless = record { kind = k; name = name; endless = endless; made_bytes = made }
 
 argument_same : (proto : ℕ) (heap : List Object) (k : Kind) (parts : List ℕ) → argument_of proto heap k (parts_shown k parts) ≡ argument_of proto heap k parts
-argument_same proto heap k parts = ap₂ (this_argument k) (import_same proto heap k parts) (endless_same proto heap k parts)
+argument_same proto heap k parts =
+    ap₂ (this_argument k (are_made_bytes proto heap k (parts_shown k parts))) (import_same proto heap k parts) (endless_same proto heap k parts)
+    ∙ ap (λ (b : Bool). this_argument k b (kind_import proto heap k parts) (is_endless proto heap k parts)) (bytes_same proto heap k parts)
 
 pub item_there : (list : List Entry) (proto : ℕ) (heap : List Object) (item : List ℕ) (id : ℕ) (l : Look) → Some (look_shown l) ≡ option_map shown (slice_get heap id)
     → item_takes list item (argument_of proto heap (kind_view l.kind) l.parts.now) ≡ item_takes_at list proto heap item id

@@ -1,5 +1,5 @@
 -- What a list allows: which names its entries have, and what may be done with what has one.
--- Source: own; the patterns and the words are those of `picklestep scan --allow` (docs/SCAN.md, "What is allowed").
+-- Source: own; the patterns and the words are those of `picklestep scan --allow` (docs/reference/lists.md).
 use Rattle.std.specs.Prelude.{ℕ, ◌==◌, ◌&&◌, ◌||◌, not, if◌then◌else◌, Bool, true, false, List, [], ◌∷◌, Option, Some, None}
 use Rattle.std.specs.List.{list_any}
 use Rattle.pickle_allow.specs.declared.list.Use.{Use}

@@ -15,7 +15,7 @@ use Rattle.pickle_allow.specs.declared.limit.Limit.{Limit}
 use Rattle.pickle_allow.specs.declared.limit.Limit.TheVariants as limit
 use Rattle.pickle_allow.specs.Allow.{is_nothing, covers}
 use Rattle.pickle_allow.specs.Grammar.{is_blank, is_open, is_close, is_bar, is_slash, is_whole, are_some_digits, before, behind, quoted, sort_of}
-use Rattle.pickle_allow.specs.Named.{kind_import, callee_name, maker_at, items_at, arguments_of, is_endless}
+use Rattle.pickle_allow.specs.Named.{kind_import, callee_name, maker_at, items_at, arguments_of, are_made_bytes, is_endless}
 
 -- ---- sorts of arguments
 
@@ -119,13 +119,23 @@ is_held (kind.Buffer n) = true
 is_held kind.ReadOnly = true
 is_held _ = false
 
+-- what opcodes of the pickle made by themselves, so that it has no more items than these put into it
+abbrev pub is_listed : Kind → Bool
+is_listed kind.Tuple = true
+is_listed kind.List = true
+is_listed kind.Set = true
+is_listed kind.FrozenSet = true
+is_listed kind.Dict = true
+is_listed _ = false
+
 -- ---- what a shape takes
 
--- what an argument is to a shape: its kind, the name of what is imported, and whether it is endless
+-- what an argument is to a shape: its kind, the name of what is imported, and whether it is endless, or bytes that a call made
 pub record Argument : Type 0 where
   pub kind : Kind
   pub name : Option (List ℕ)
   pub endless : Bool
+  pub made_bytes : Bool
 
 -- an entry lets `__new__` make objects of this name, whatever it is given
 abbrev pub new_by : List ℕ → Entry → Bool
@@ -139,12 +149,13 @@ abbrev pub sort_takes : List Entry → Sort → Argument → Bool
 sort_takes list sort.Text a = is_text a.kind
 sort_takes list sort.Short a = is_short a.kind
 sort_takes list sort.Fraction a = option_map_or is_fraction (text_in a.kind) false
-sort_takes list sort.Bytes a = is_bytes a.kind
+sort_takes list sort.Bytes a = is_bytes a.kind || a.made_bytes
 sort_takes list sort.Number a = is_number a.kind
 sort_takes list sort.Small a = is_small a.kind
 sort_takes list sort.Bool a = is_bool a.kind
 sort_takes list sort.None a = is_none a.kind
 sort_takes list sort.Held a = is_held a.kind && not a.endless
+sort_takes list sort.Listed a = is_listed a.kind
 sort_takes list sort.Class a = is_some a.name
 sort_takes list sort.New a = option_map_or (may_be_new list) a.name false
 sort_takes list sort.Any a = not a.endless
@@ -166,7 +177,8 @@ abbrev pub item_takes : List Entry → List ℕ → Argument → Bool
 item_takes list item a = list_any (word_takes list a) (slice_split is_bar item)
 
 abbrev pub argument_of : ℕ → List Object → Kind → List ℕ → Argument
-argument_of proto heap k parts = record { kind = k; name = kind_import proto heap k parts; endless = is_endless proto heap k parts }
+argument_of proto heap k parts =
+    record { kind = k; name = kind_import proto heap k parts; endless = is_endless proto heap k parts; made_bytes = are_made_bytes proto heap k parts }
 
 abbrev pub item_takes_at : List Entry → ℕ → List Object → List ℕ → ℕ → Bool
 item_takes_at list proto heap item id = option_map_or (λ (o : Object). item_takes list item (argument_of proto heap o.kind o.parts)) (slice_get heap id) false

@@ -6,4 +6,4 @@ use Rattle.pickle_allow.specs.declared.takes.Given.{Given}
 use Rattle.pickle_allow.specs.Arguments.{Argument}
 
 abbrev pub given_view : Given → Argument
-given_view g = record { kind = kind_view g.kind; name = option_map (λ t. t.now) g.name; endless = g.endless }
+given_view g = record { kind = kind_view g.kind; name = option_map (λ t. t.now) g.name; endless = g.endless; made_bytes = g.made_bytes }

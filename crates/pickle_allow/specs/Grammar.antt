@@ -1,5 +1,5 @@
 -- The text of a list: its lines, and what they list.
--- Source: own. `picklestep scan --allow` takes more lines than these (docs/SCAN.md, "What is allowed"); a line that both take means the same.
+-- Source: own. `picklestep scan --allow` takes more lines than these (docs/reference/lists.md); a line that both take means the same.
 use Rattle.std.specs.Prelude.{◌≡◌, ℕ, ◌+◌, nat_le, ◌==◌, ◌&&◌, ◌||◌, not, if◌then◌else◌, Bool, true, false, List, [], ◌∷◌, ◌++◌, map, take, drop, codes, Option, Some, None, Result, Ok, Err}
 use Rattle.std.specs.Option.{is_some, option_map, option_map_or, unwrap_or}
 use Rattle.std.specs.List.{list_all, list_any, slice_split}
@@ -134,6 +134,7 @@ sort_of w =
     else if bytes_eq w (codes "none") then Some sort.None
     else if bytes_eq w (codes "held") then Some sort.Held
     else if bytes_eq w (codes "alone") then Some sort.Held
+    else if bytes_eq w (codes "listed") then Some sort.Listed
     else if bytes_eq w (codes "class") then Some sort.Class
     else if bytes_eq w (codes "new") then Some sort.New
     else if bytes_eq w (codes "any") then Some sort.Any

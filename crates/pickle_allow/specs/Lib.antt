@@ -4,6 +4,7 @@ pub mod Source
 pub mod Granted
 pub mod Grammar
 pub mod Words
+pub mod Together
 pub mod Rests
 pub mod Cut
 pub mod Lines

@@ -73,6 +73,17 @@ arguments_of heap kind.Obj parts = Some (drop 1 parts)
 arguments_of heap (kind.Inst names) parts = Some parts
 arguments_of heap _ parts = None
 
+-- ---- bytes that calls make
+
+-- so protocols 0 to 2 write bytes (Lib/pickle.py, `save_bytes`)
+abbrev pub makes_bytes : List ℕ → Bool
+makes_bytes name = bytes_eq name (codes "_codecs.encode") || bytes_eq name (codes "builtins.bytes")
+
+-- a call of one of these made it
+abbrev pub are_made_bytes : ℕ → List Object → Kind → List ℕ → Bool
+are_made_bytes proto heap kind.Call parts = option_map_or makes_bytes (called_name proto heap parts) false
+are_made_bytes proto heap _ parts = false
+
 -- ---- objects that stand for any number of items
 
 abbrev pub is_endless_name : List ℕ → Bool

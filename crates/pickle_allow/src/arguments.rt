@@ -8,7 +8,9 @@ ghost use Rattle.pickle_allow.specs.Arguments.{argument_of, item_takes, item_tak
 use crate::cut::{Separator, cut};
 use crate::limit::{Limit, grants, is_limited, keyword, limit_of, limit_on};
 use crate::list::Entry;
-use crate::named::{arguments_of, callee_name, is_endless, items_at, kind_import, maker_at};
+use crate::named::{
+    are_made_bytes, arguments_of, callee_name, is_endless, items_at, kind_import, maker_at,
+};
 use crate::pattern::fits;
 use crate::spelling::is_nothing;
 use crate::takes::{Given, item_takes};
@@ -28,6 +30,7 @@ fn item_takes_look<M: Inspect>(
     ensures { IfOk result (λ found. found ≡ item_takes list.now item.now (argument_of protocol (M.state machine.now).heap (kind_view look.entry.kind) look.entry.parts.now)) }
 {
     let endless = is_endless(alloc, protocol, machine, look)?;
+    let made_bytes = are_made_bytes(alloc, protocol, machine, look)?;
     match kind_import(alloc, protocol, machine, look)? {
         Some(name) => item_takes(
             alloc,
@@ -37,6 +40,7 @@ fn item_takes_look<M: Inspect>(
                 kind: look.kind,
                 name: Some(name.as_slice()),
                 endless,
+                made_bytes,
             },
         ),
         None => item_takes(
@@ -47,6 +51,7 @@ fn item_takes_look<M: Inspect>(
                 kind: look.kind,
                 name: None,
                 endless,
+                made_bytes,
             },
         ),
     }

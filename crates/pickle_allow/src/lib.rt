@@ -24,7 +24,7 @@ mod words;
 pub use allow::{entry_of, grant_of};
 pub use arguments::{may_be_given, may_be_set};
 pub use grant::Grant;
-pub use laws::no_word_is_an_import;
+pub use laws::{lists_together, no_word_is_an_import};
 pub use limit::limits_of;
 pub use list::{Entry, Use, Uses};
 pub use listing::Listing;

@@ -1,10 +1,10 @@
 //! The names of objects.
 
-ghost use Rattle.std.specs.Prelude.{◌≡◌, drop, Some, IfOk};
-ghost use Rattle.std.specs.Option.{option_map};
+ghost use Rattle.std.specs.Prelude.{◌≡◌, drop, false, Some, IfOk};
+ghost use Rattle.std.specs.Option.{option_map, option_map_or};
 ghost use Rattle.pickle_ops.specs.Argument.{texts_of};
 ghost use Rattle.pickle_ops.specs.KindRef.{kind_view};
-ghost use Rattle.pickle_allow.specs.Named.{lines_name, parts_name, kind_import, import_at, kind_name, name_at, called_name, callee_name, maker_at, tuple_items, items_at, second_items, arguments_of, is_endless_name, is_maker, is_endless_import, is_endless_argument, is_endless_call, is_endless};
+ghost use Rattle.pickle_allow.specs.Named.{lines_name, parts_name, kind_import, import_at, kind_name, name_at, called_name, callee_name, maker_at, tuple_items, items_at, second_items, arguments_of, makes_bytes, are_made_bytes, is_endless_name, is_maker, is_endless_import, is_endless_argument, is_endless_call, is_endless};
 
 use crate::names::{import_name, line_text, part_text};
 use crate::word::extension_word;
@@ -213,6 +213,43 @@ pub fn arguments_of<'a, M: Inspect>(machine: &'a M, look: Look<'a>) -> Option<&'
         KindRef::Obj => Some(other_parts(look.parts)),
         KindRef::Inst(_) => Some(look.parts),
         _ => None,
+    }
+}
+
+/// Whether a call of what has this name makes bytes, as protocols 0 to 2 write them.
+fn makes_bytes(name: &[u8]) -> bool
+    ensures { result ≡ makes_bytes name.now }
+{
+    name == b"_codecs.encode".as_slice() || name == b"builtins.bytes".as_slice()
+}
+
+/// Whether what is called, the first part of an object, has such a name.
+fn calls_for_bytes<M: Inspect>(
+    alloc: Global,
+    protocol: u64,
+    machine: &M,
+    parts: &[ObjId],
+) -> Result<bool, AllocError>
+    ensures { IfOk result (λ found. found ≡ option_map_or makes_bytes (called_name protocol (M.state machine.now).heap parts.now) false) }
+{
+    match called_name(alloc, protocol, machine, parts)? {
+        Some(name) => Ok(makes_bytes(name.as_slice())),
+        None => Ok(false),
+    }
+}
+
+/// Whether an object is bytes that such a call made.
+pub(crate) fn are_made_bytes<M: Inspect>(
+    alloc: Global,
+    protocol: u64,
+    machine: &M,
+    look: Look<'_>,
+) -> Result<bool, AllocError>
+    ensures { IfOk result (λ found. found ≡ are_made_bytes protocol (M.state machine.now).heap (kind_view look.entry.kind) look.entry.parts.now) }
+{
+    match look.kind {
+        KindRef::Call => calls_for_bytes(alloc, protocol, machine, look.parts),
+        _ => Ok(false),
     }
 }
 

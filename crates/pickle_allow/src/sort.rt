@@ -14,7 +14,7 @@ pub(crate) enum Sort {
     Short,
     /// A text of digits, with one `/` at most.
     Fraction,
-    /// Bytes.
+    /// Bytes, also those that calls make in protocols 0 to 2.
     Bytes,
     /// A number.
     Number,
@@ -26,6 +26,8 @@ pub(crate) enum Sort {
     None,
     /// A list or another object that the pickle made, but none that stands for any number of items.
     Held,
+    /// A tuple, a list, a set or a dictionary that opcodes made by themselves.
+    Listed,
     /// What is imported.
     Class,
     /// What is imported and may be made by `__new__`, whatever it is given.
@@ -49,6 +51,7 @@ pub(crate) fn sort_of(word: &[u8]) -> Option<Sort>
         b"none" => Sort::None,
         b"held" => Sort::Held,
         b"alone" => Sort::Held,
+        b"listed" => Sort::Listed,
         b"class" => Sort::Class,
         b"new" => Sort::New,
         b"any" => Sort::Any,

@@ -5,7 +5,7 @@ ghost use Rattle.std.specs.Fmt.{signed_decimal};
 ghost use Rattle.std.specs.Option.{option_map, option_map_or};
 ghost use Rattle.std.specs.Str.{bytes_eq};
 ghost use Rattle.pickle_ops.specs.KindRef.{kind_view};
-ghost use Rattle.pickle_allow.specs.Arguments.{text_in, is_text, is_short, is_bytes, is_bool, is_none, is_number, number_in, unsigned, has_few_digits, is_small, is_fraction, is_held, may_be_new, new_by, sort_takes, same_text, value_takes, word_takes, item_takes};
+ghost use Rattle.pickle_allow.specs.Arguments.{text_in, is_text, is_short, is_bytes, is_bool, is_none, is_number, number_in, unsigned, has_few_digits, is_small, is_fraction, is_held, is_listed, may_be_new, new_by, sort_takes, same_text, value_takes, word_takes, item_takes};
 ghost use Rattle.pickle_allow.specs.Given.{given_view};
 
 use crate::cut::{Separator, cut};
@@ -33,6 +33,8 @@ pub(crate) struct Given<'a> {
     pub(crate) name: Option<&'a [u8]>,
     /// Whether it stands for any number of items, though a few bytes made it.
     pub(crate) endless: bool,
+    /// Whether it is bytes that a call made.
+    pub(crate) made_bytes: bool,
 }
 
 /// The bytes of a text, without escapes.
@@ -205,6 +207,20 @@ pub fn is_held(kind: KindRef<'_>) -> bool
     }
 }
 
+/// Whether it is a tuple, a list, a set or a dictionary that opcodes made by themselves.
+fn is_listed(kind: KindRef<'_>) -> bool
+    ensures { result ≡ is_listed (kind_view kind.entry) }
+{
+    match kind {
+        KindRef::Tuple => true,
+        KindRef::List => true,
+        KindRef::Set => true,
+        KindRef::FrozenSet => true,
+        KindRef::Dict => true,
+        _ => false,
+    }
+}
+
 /// Whether an entry lets `__new__` make objects of this name, whatever it is given.
 fn new_by(entry: &Entry<'_>, name: &[u8], rests: &mut Vec<bool>) -> Result<bool, AllocError>
     ensures { IfOk result (λ found. found ≡ new_by name.now entry.now) }
@@ -251,12 +267,13 @@ fn sort_takes(
         Sort::Text => Ok(is_text(given.kind)),
         Sort::Short => Ok(is_short(given.kind)),
         Sort::Fraction => Ok(is_text_fraction(given.kind)),
-        Sort::Bytes => Ok(is_bytes(given.kind)),
+        Sort::Bytes => Ok(is_bytes(given.kind) || given.made_bytes),
         Sort::Number => Ok(is_number(given.kind)),
         Sort::Small => Ok(is_small(given.kind)),
         Sort::Bool => Ok(is_bool(given.kind)),
         Sort::None => Ok(is_none(given.kind)),
         Sort::Held => Ok(is_held(given.kind) && !given.endless),
+        Sort::Listed => Ok(is_listed(given.kind)),
         Sort::Class => Ok(given.name.is_some()),
         Sort::New => is_new(alloc, list, given.name),
         Sort::Any => Ok(!given.endless),

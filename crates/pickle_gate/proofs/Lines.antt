@@ -27,7 +27,8 @@ use Rattle.pickle_show.specs.Event.{before_of, event_of}
 use Rattle.pickle_show.specs.CallsLine.{line_of}
 use Rattle.pickle_show.specs.Manner.{whole}
 use Rattle.pickle_show.specs.Naming.{begin, naming_after}
-use Rattle.pickle_show.specs.Calls.{naming_at, CountedText, counted_text, entry_on, entry_at}
+use Rattle.pickle_show.specs.Telling.{for_people}
+use Rattle.pickle_show.specs.Calls.{naming_at, CountedText, counted_text, entry_on, entry_in}
 use Rattle.pickle_show.proofs.Runs.{run_nothing}
 use Rattle.pickle_show.proofs.Moves.{refused_move}
 use Rattle.pickle_show.proofs.Places.{offset_next, length-bytes_of, run-suc, stuck_behind}
@@ -53,7 +54,7 @@ stands_at_first bytes d small reads = record {
 -- ---- no line
 
 no_item : (d : Contents) (k : ℕ) → item_at d k ≡ None → line_at d k ≡ []
-unfolding entry_at
+unfolding entry_in
 no_item d k e = rw (e, line_at) refl
 
 -- there are no more items
@@ -82,13 +83,13 @@ behind_stop d k place left rest o framed one h n stop le =
     let done : IsDone d (k + 1) (drop (size_of o) rest) None = rw hit at (goes_on d k left rest o one g) in
     past_last d place (omega (arith, le, done.all))
 
-stuck_text : (offset : ℕ) (m : Naming) (o : Option Operation) (s : Option State) → (entry_on offset m o s None).text ≡ []
+stuck_text : (offset : ℕ) (m : Naming) (o : Option Operation) (s : Option State) → (entry_on for_people offset m o s None).text ≡ []
 stuck_text offset m (Some o) (Some s) = refl
 stuck_text offset m (Some o) None = refl
 stuck_text offset m None s = refl
 
 stuck : (d : Contents) (k place : ℕ) → run (start d.many) (ops_of d) (suc k) ≡ None → k ≤ place → line_at d place ≡ []
-unfolding entry_at
+unfolding entry_in
 stuck d k place e le =
     let later : run (start d.many) (ops_of d) (suc place) ≡ None = stuck_behind (start d.many) (ops_of d) (suc k) (suc place) (omega (arith, le)) e in
     rw (later, line_at) (stuck_text (in_file [] (offset_of d place)) (naming_at detail.Cut d place) (item_at d place) (run (start d.many) (ops_of d) place))
@@ -115,7 +116,7 @@ at_item d k offset left rest o s t m line framed w n moves is =
     ∙ ap (λ (e : Option Event). line_of (in_file [] offset) m t.heap e) (event_is o k s t moves)
     ∙ ap (λ (n : ℕ). line_of (in_file [] n) m t.heap (event_of (row_of o) (before_of (fresh s)) t)) w.offset_is
     ∙ ap (λ (x : Naming). line_of (in_file [] (offset_of d k)) x t.heap (event_of (row_of o) (before_of (fresh s)) t)) w.naming
-    ∙ sym (ap (λ (e : CountedText). e.text) (entry_is (whole detail.Cut) d k o s t g.there w.reached after))
+    ∙ sym (ap (λ (e : CountedText). e.text) (entry_is for_people (whole detail.Cut) d k o s t g.there w.reached after))
 
 -- ---- one item more
 

@@ -3,6 +3,7 @@
 ghost use Rattle.std.specs.Prelude.{◌≡◌, ◌&&◌, slice_get, slice_set, Some, IfOk, OnOk};
 ghost use Rattle.std.specs.Option.{option_map};
 ghost use Rattle.pickle_ops.specs.KindRef.{kind_view};
+ghost use Rattle.pickle_ops.specs.Row.{row_of};
 ghost use Rattle.pickle_allow.specs.Source.{import_name};
 ghost use Rattle.pickle_allow.specs.Arguments.{limits_of, may_be_given, may_be_set};
 ghost use Rattle.pickle_gate.specs.Gate.{protocol_said, may_name_at, may_be_state};
@@ -375,8 +376,8 @@ fn keep_nothing<M: Inspect>(keeps: &mut Vec<Packed>, machine: &M) -> Result<(), 
     Ok(())
 }
 
-/// Whether the event of a step of this row is allowed, if it has one: this was looked at before it, and this is the machine after it. What is
-/// kept of the object that it made is kept.
+/// Whether the event of a step of this operation is allowed, if it has one: this was looked at before it, and this is the machine after it. What
+/// is kept of the object that it made is kept.
 #[tactic(auto, using(crate::proofs::Quiet::kept_rules))]
 #[inline(never)]
 fn allow_event<M: Inspect>(
@@ -385,14 +386,14 @@ fn allow_event<M: Inspect>(
     limits: &[Entry<'_>],
     protocol: u64,
     machine: &M,
-    row: Row,
+    op: &OpRef<'_>,
     before: Before,
     keeps: &mut Vec<Packed>,
 ) -> Result<bool, AllocError>
     requires { limits.now ≡ limits_of list.now }
-    ensures { IfOk result (KeepsBehind list.now protocol row before (M.state machine.now) keeps.old.items keeps.new.items) }
+    ensures { IfOk result (KeepsBehind list.now protocol (row_of op.now) before (M.state machine.now) keeps.old.items keeps.new.items) }
 {
-    let event = event_of(row, before, machine);
+    let event = event_of(Row::of_ref(op), before, machine);
     let made = judge(
         alloc,
         list,
@@ -411,7 +412,19 @@ fn allow_event<M: Inspect>(
     }
 }
 
-/// The same. Most steps have no event, which is seen at once.
+/// The same once more. A function that is not inlined takes this, so that the first need not be in memory.
+#[inline(always)]
+fn again(before: Before) -> Before
+    ensures { result ≡ before }
+{
+    Before {
+        next: before.next,
+        size: before.size,
+        top: before.top,
+    }
+}
+
+/// The same, where this is the row of the operation. Most steps have no event, which is seen at once.
 #[tactic(auto, using(crate::proofs::Quiet::kept_rules))]
 #[inline(always)]
 pub fn allow_step<M: Inspect>(
@@ -420,17 +433,28 @@ pub fn allow_step<M: Inspect>(
     limits: &[Entry<'_>],
     protocol: u64,
     machine: &M,
+    op: &OpRef<'_>,
     row: Row,
     before: Before,
     keeps: &mut Vec<Packed>,
 ) -> Result<bool, AllocError>
-    requires { limits.now ≡ limits_of list.now }
+    requires limits { limits.now ≡ limits_of list.now }
+    requires row { row ≡ row_of op.now }
     ensures { IfOk result (KeepsBehind list.now protocol row before (M.state machine.now) keeps.old.items keeps.new.items) }
 {
     if is_quiet(row, before, machine) {
         keep_nothing(keeps, machine)?;
         return Ok(true);
     }
-    let good = allow_event(alloc, list, limits, protocol, machine, row, before, keeps)?;
+    let good = allow_event(
+        alloc,
+        list,
+        limits,
+        protocol,
+        machine,
+        &op.again(),
+        again(before),
+        keeps,
+    )?;
     Ok(good)
 }
