@@ -11,29 +11,19 @@
 //! text; the session goes on after both.
 #![tactic(auto)]
 
-mod asked;
-mod conversation;
-mod fill;
-mod gate;
-mod handle;
-mod lines;
-mod loose;
-mod members;
-mod session;
-mod talk;
-mod texts;
-
 ghost use Rattle.pickle_further.specs.declared.way.Pickles.TheVariants as pickles;
 ghost use Rattle.pickle_show.specs.declared.naming.Detail.TheVariants as detail;
 ghost use Rattle.pickle_script.specs.declared.texts.written.Text.TheVariants as asked_text;
+ghost use Rattle.json_script.specs.declared.lines.Lines.TheVariants as asked_lines;
 ghost use Rattle.std.specs.Prelude.{◌≡◌, false, None};
-ghost use Rattle.picklestep_library.specs.Asked.{is_many, is_loose, pickles_left, detail_of, granted_of, holes_of};
-ghost use Rattle.picklestep_library.specs.Answer.{IsTextOf, IsLinesOf, IsCallsOf, IsGateOf, IsMembersOf, IsTalkOf, Fills, FillsIn, FillsOf};
-ghost use Rattle.picklestep_library.specs.Handle.{Opens, Asks, AsksAgain, AsksBytes};
+ghost use Rattle.library_answers.specs.Asked.{is_many, is_loose, pickles_left, detail_of, granted_of, holes_of};
+ghost use Rattle.library_answers.specs.Answer.{IsTextOf, IsLinesOf, IsCallsOf, IsCallsLinesOf, IsGateOf, IsMembersOf, IsTalkOf, Fills, FillsIn, FillsOf};
+ghost use Rattle.library_answers.specs.Handle.{Opens, Asks, AsksAgain, AsksBytes};
 
-pub use asked::GivenHole;
-pub use fill::Written;
-pub use handle::Handle;
+use json_script::Lines;
+use library_answers::{
+    GivenHole, Handle, Written, calls_lines, gate, lines, members, session, talk, texts,
+};
 use pickle_further::Pickles;
 use pickle_script::Text;
 use pickle_show::Detail;
@@ -122,6 +112,19 @@ pub extern "C" fn picklestep_form(
     texts::fill(alloc, Text::Form, false, false, bytes, out, written)
 }
 
+/// The same as a line of JSON.
+#[unsafe(no_mangle)]
+pub extern "C" fn picklestep_form_json(
+    alloc: Global,
+    bytes: &[u8],
+    out: &mut [u8],
+    written: &mut Written,
+) -> u8
+    ensures { Fills (IsLinesOf asked_lines.Form false false bytes.now) bytes.now out.old out.new written.new result }
+{
+    lines::fill_lines(alloc, Lines::Form, false, false, bytes, out, written)
+}
+
 /// Whether the bytes are one pickle that passes a list, or the first place at which they do not, and why. `written` has status 2 where a line of
 /// the list is no entry, and the text says which.
 #[unsafe(no_mangle)]
@@ -150,6 +153,20 @@ pub extern "C" fn picklestep_reach(
     ensures { FillsOf (granted_of granted) (λ g. IsTextOf (asked_text.Reach g) false false bytes.now) bytes.now out.old out.new written.new result }
 {
     texts::fill_reach(alloc, granted, bytes, out, written)
+}
+
+/// The same as a line of JSON.
+#[unsafe(no_mangle)]
+pub extern "C" fn picklestep_reach_json(
+    alloc: Global,
+    granted: u32,
+    bytes: &[u8],
+    out: &mut [u8],
+    written: &mut Written,
+) -> u8
+    ensures { FillsOf (granted_of granted) (λ g. IsLinesOf (asked_lines.Reach g) false false bytes.now) bytes.now out.old out.new written.new result }
+{
+    lines::fill_reach_lines(alloc, granted, bytes, out, written)
 }
 
 /// The members of the zip archive in writers' form that the bytes are, or the first rule that they break, and where.
@@ -206,9 +223,9 @@ pub extern "C" fn picklestep_list_json(
     out: &mut [u8],
     written: &mut Written,
 ) -> u8
-    ensures { FillsIn options (IsLinesOf (is_many options) (is_loose options) bytes.now) bytes.now out.old out.new written.new result }
+    ensures { FillsIn options (IsLinesOf asked_lines.Listing (is_many options) (is_loose options) bytes.now) bytes.now out.old out.new written.new result }
 {
-    lines::fill_lines_in(alloc, options, bytes, out, written)
+    lines::fill_lines_in(alloc, Lines::Listing, options, bytes, out, written)
 }
 
 /// The report of the objects that it makes.
@@ -240,6 +257,22 @@ pub extern "C" fn picklestep_calls_with(
         (holes_of holes.now) p bytes.now) bytes.now out.old out.new written.new result }
 {
     texts::fill_left(alloc, options, holes, bytes, out, written)
+}
+
+/// The same as JSON Lines.
+#[unsafe(no_mangle)]
+pub extern "C" fn picklestep_calls_json(
+    alloc: Global,
+    options: u32,
+    holes: &[GivenHole],
+    bytes: &[u8],
+    out: &mut [u8],
+    written: &mut Written,
+) -> u8
+    ensures { FillsOf (pickles_left options holes.now) (λ p. IsCallsLinesOf (detail_of options)
+        (holes_of holes.now) p bytes.now) bytes.now out.old out.new written.new result }
+{
+    calls_lines::fill_left(alloc, options, holes, bytes, out, written)
 }
 
 /// The answers of a conversation, as `picklestep_debug` gives them, in a session of an input that is read as the options say.

@@ -1,9 +1,0 @@
-use Rattle.std.proofs.Common.{refl}
-use Rattle.picklestep.proofs.AtDevice.{answers_calls}
-use Rattle.picklestep.proofs.answers.answer_calls.Goals as goal
-
-pub returns-clause-answers : goal.returns-clause-answers
-returns-clause-answers g c =
-    let h = c.write_out.ensures in
-    answers_calls _ _ _ _ _ _ _ _ _ _ _ _ _ _ _ c.in_ok-bytes.ensures.whole (c.in_ok-bytes.ensures.calm (λ e. absurd cc)) c.as_mut_slice-file.ensures.value c.calls_of_file-written.ensures
-    h.passed h.calm h.untouched h.failed refl refl c.requires.handed h.handed

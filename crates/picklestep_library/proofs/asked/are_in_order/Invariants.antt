@@ -1,6 +1,0 @@
-use Rattle.std.proofs.Common.{◌≡◌, drop}
-use Rattle.picklestep_library.specs.Asked.{stand_from}
-use Rattle.picklestep_library.proofs.asked.are_in_order.Given as goal
-
-abbrev pub invariant-loop-one : goal.invariant-loop-one
-invariant-loop-one l = stand_from l.from (drop l.one-index l.given) ≡ stand_from 0 l.given

@@ -1,7 +1,0 @@
-use Rattle.std.proofs.Common.{◌≡◌, true, ◌++◌, drop}
-use Rattle.pickle_io.specs.Holes.{end_of}
-use Rattle.picklestep_library.specs.Asked.{stand_from, holes_of}
-use Rattle.picklestep_library.proofs.asked.holes_of.Given as goal
-
-abbrev pub invariant-loop-one : goal.invariant-loop-one
-invariant-loop-one l = (l.holes ++ holes_of (drop l.one-index l.given) ≡ holes_of l.given) × (stand_from (end_of 0 l.holes) (drop l.one-index l.given) ≡ true)

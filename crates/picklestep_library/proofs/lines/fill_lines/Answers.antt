@@ -1,6 +1,0 @@
-use Rattle.picklestep_library.specs.Answer.{IsLinesOf}
-use Rattle.picklestep_library.proofs.Filled.{filled}
-use Rattle.picklestep_library.proofs.lines.fill_lines.Goals as goal
-
-pub returns-in-Ok : goal.returns-in-Ok
-returns-in-Ok c = filled (IsLinesOf c.args.many c.args.loose c.args.bytes.now) _ _ _ _ _ _ _ _ c.in-Ok.ensures.whole c.as_slice.ensures.value (λ more. let large = c.in-Ok.ensures.large.1 more in absurd cc) c.put.ensures

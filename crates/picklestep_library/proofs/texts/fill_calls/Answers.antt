@@ -1,8 +1,0 @@
-use Rattle.std.proofs.Common.{arith}
-use Rattle.picklestep_library.specs.Asked.{holes_of}
-use Rattle.picklestep_library.specs.Answer.{IsCallsOf}
-use Rattle.picklestep_library.proofs.Filled.{filled}
-use Rattle.picklestep_library.proofs.texts.fill_calls.Goals as goal
-
-pub returns-in-Ok : goal.returns-in-Ok
-returns-in-Ok c = filled (IsCallsOf c.args.detail (holes_of c.args.given.now) c.args.pickles c.args.bytes.now) _ _ _ _ _ _ _ _ c.in-Ok.ensures c.as_slice.ensures.value (λ more. absurd (omega (arith, more, c.if-bytes-gt-LIMIT.false))) c.put.ensures

@@ -1,0 +1,9 @@
+pub mod CommandLine
+pub mod Device
+pub mod Files
+pub mod Gated
+pub mod Listed
+pub mod Assembled
+pub mod Program
+pub mod Skips
+pub mod Talk

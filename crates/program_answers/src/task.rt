@@ -1,0 +1,437 @@
+//! What the words of the command line ask for.
+
+ghost use Rattle.std.specs.Prelude.{◌≡◌, ◌≤◌, IsTrue, ℕ, [], Option, Some, None, Ok, IfOk, IfErr, IfSome, map, drop, option_map, true, codes};
+ghost use Rattle.std.specs.String.{string_bytes};
+ghost use Rattle.clap.specs.Words.{found_of, first_of, one_of, rows_of, fault_of, subcommand_of, subcommand_rows_of, takes};
+ghost use Rattle.pickle_script.specs.GivenHoles.{holes_of};
+ghost use Rattle.program_answers.specs.CommandLine.{program, most_records, GivesReading, HasReading, HasInput, HasDetail, HasCallsOptions, HasFormat, skips_of, HasOptions, HasList, more_of, HasGateOptions, HasGranted, IsWindow, IsNamed, FitsOptions, NamesTask, IsBounded, IsMemory};
+
+use crate::command_line::{MOST_RECORDS, command_line};
+use clap::error::ErrorKind;
+use clap::{ArgMatches, Error};
+use pickle_further::Pickles;
+use pickle_io::Holes;
+use pickle_reach::Granted;
+use pickle_script::first_unfit;
+use pickle_show::Detail;
+use std::alloc::{AllocError, Global};
+
+/// What is said of options that name no pickles to tell of: other words that are no task clap refuses.
+const NO_READING: &str = "'--memo' takes the word 'kept', and does not go with '--first'";
+
+/// What a task is done on.
+#[derive(Drop, Debug, PartialEq, Eq)]
+pub struct GivenFile {
+    /// The name of the file.
+    pub file: String,
+    /// Whether it is read as several pickles that follow one another.
+    pub many: bool,
+    /// Whether frames are not looked at: a FRAME is then an opcode like others. Of what is imported and called, and of the form, this says
+    /// nothing.
+    pub unframed: bool,
+}
+
+/// What the program is asked to do, each with the file that it is done on.
+#[derive(Drop, Debug)]
+pub enum Task {
+    /// List the opcodes, for people or for programs.
+    List(GivenFile, Format),
+    /// Print one line per object, in creation order.
+    Objects(GivenFile),
+    /// Print what pickles would import and call. Whether the file is read as several pickles changes nothing.
+    Calls(GivenFile, CallsOptions),
+    /// Print whether the first pickle is in the form that picklers write, for people or for programs. Whether the file is read as several
+    /// pickles changes nothing.
+    Form(GivenFile, Format),
+    /// Print whether the file passes the list that the options name, and whether the further files do, that they name.
+    Gate(GivenFile, GateOptions),
+    /// Print whether a loader of the file reaches something that was given this besides, for people or for programs.
+    Reach(GivenFile, Granted, Format),
+    /// Print the members of the zip archive in writers' form that the file is.
+    Members(GivenFile),
+    /// Write the bytes of the opcodes that stand in the text that the file is.
+    Assemble(GivenFile),
+    /// Read commands from standard input and answer each.
+    Debug(GivenFile, Options),
+}
+
+/// What an answer is written as.
+#[derive(Clone, Copy, Debug, PartialEq, Eq)]
+pub enum Format {
+    /// Text for people.
+    Text,
+    /// JSON Lines for programs: an object in each line.
+    Json,
+}
+
+/// The options of what pickles would import and call.
+#[derive(Drop, Debug)]
+pub struct CallsOptions {
+    /// Which pickles are read.
+    pub pickles: Pickles,
+    /// How much of an argument is shown.
+    pub detail: Detail,
+    /// The bytes of the file that are left out.
+    pub holes: Holes,
+    /// Whether it is a text for people or lines for programs.
+    pub format: Format,
+}
+
+/// What the gate is asked by, and about which files besides the first.
+#[derive(Drop, Debug)]
+pub struct GateOptions {
+    /// The name of the file of the list.
+    pub list: String,
+    /// The names of the files behind the first.
+    pub more: Vec<String>,
+}
+
+/// The options of a conversation.
+#[derive(Drop, Debug, PartialEq, Eq)]
+pub struct Options {
+    /// Where the document is saved after the last line, if anywhere.
+    pub save: Option<String>,
+    /// How many step records are kept, from 1 to 1,000,000; all where there is no number.
+    pub window: Option<usize>,
+}
+
+/// Why the words are no task.
+#[derive(Drop, Debug)]
+pub enum Usage {
+    /// What clap says of them; its text is for the user. A call for help is no task either: the text goes to standard
+    /// error, with status 2.
+    Words(Error),
+    /// There was not enough memory.
+    Memory,
+}
+
+impl From<AllocError> for Usage {
+    ghost use Rattle.program_answers.specs.declared.task.Usage.TheVariants.{Memory};
+
+    ghost from_gives = { λ _ e. e ≡ Memory };
+
+    fn from(_error: AllocError) -> Usage {
+        Usage::Memory
+    }
+}
+
+impl From<Error> for Usage {
+    ghost use Rattle.program_answers.specs.declared.task.Usage.TheVariants.{Words};
+
+    ghost from_gives = { λ error e. e ≡ Words error };
+
+    fn from(error: Error) -> Usage {
+        Usage::Words(error)
+    }
+}
+
+/// A text of its own, where there is one.
+fn owned(alloc: Global, text: Option<&str>) -> Result<Option<String>, AllocError>
+    ensures { IfOk result (λ r. option_map string_bytes r ≡ option_map (λ t. t.now) text.entry) }
+{
+    match text {
+        None => Ok(None),
+        Some(text) => Ok(Some(String::from_str(alloc, text)?)),
+    }
+}
+
+/// The file of the list; no answer where there is none.
+fn list_of(alloc: Global, found: &ArgMatches<'_>) -> Result<Option<String>, AllocError>
+    ensures some { IfOk result (λ r. IfSome r (λ list. HasList (rows_of (found_of found.now)) (string_bytes list))) }
+    ensures none { result ≡ Ok None → first_of (codes "LIST") (rows_of (found_of found.now)) ≡ None }
+{
+    owned(alloc, found.get_str("LIST"))
+}
+
+/// Texts of their own.
+fn owned_all(alloc: Global, texts: &[&str]) -> Result<Vec<String>, AllocError>
+    ensures { IfOk result (λ all. map string_bytes all.items ≡ map (λ t. t.now) texts.now) }
+{
+    let mut all = Vec::new(alloc);
+    for text in texts {
+        let text = String::from_str(alloc, text)?;
+        all.push(text)?;
+    }
+    Ok(all)
+}
+
+/// All texts but the first, as texts of their own.
+fn owned_behind(alloc: Global, texts: &[&str]) -> Result<Vec<String>, AllocError>
+    ensures { IfOk result (λ behind. map string_bytes behind.items ≡ drop 1 (map (λ t. t.now) texts.now)) }
+{
+    match texts.split_first() {
+        Some((_, behind)) => owned_all(alloc, behind),
+        None => Ok(Vec::new(alloc)),
+    }
+}
+
+/// The files behind the first.
+fn more_of(alloc: Global, found: &ArgMatches<'_>) -> Result<Vec<String>, AllocError>
+    ensures { IfOk result (λ more. map string_bytes more.items ≡ more_of (rows_of (found_of found.now))) }
+{
+    match found.get_strs("FILE") {
+        Some(texts) => owned_behind(alloc, texts),
+        None => Ok(Vec::new(alloc)),
+    }
+}
+
+/// What the gate is asked by, and about which further files; no answer where there is no list.
+fn gate_options_of(alloc: Global, found: &ArgMatches<'_>) -> Result<Option<GateOptions>, AllocError>
+    ensures some { IfOk result (λ r. IfSome r (HasGateOptions (rows_of (found_of found.now)))) }
+    ensures none { result ≡ Ok None → first_of (codes "LIST") (rows_of (found_of found.now)) ≡ None }
+{
+    let Some(list) = list_of(alloc, found)? else {
+        return Ok(None);
+    };
+    let more = more_of(alloc, found)?;
+    Ok(Some(GateOptions { list, more }))
+}
+
+/// How many step records are kept; no answer where that is no number within the bounds.
+fn window_of(found: &ArgMatches<'_>) -> Option<Option<usize>>
+    ensures some { IfSome result (IsWindow (one_of (codes "window") (rows_of (found_of found.now)))) }
+    ensures none { result ≡ None → (window : Option ℕ) → IsWindow (one_of (codes "window") (rows_of (found_of found.now))) window → ⊥ }
+{
+    match found.try_get_one::<usize>("window") {
+        Ok(None) => Some(None),
+        Ok(Some(count)) => bounded(count),
+        Err(_) => None,
+    }
+}
+
+/// A number of step records, where it is within the bounds.
+fn bounded(count: usize) -> Option<Option<usize>>
+    ensures some { IfSome result (λ window. (window ≡ Some count) × (1 ≤ count) × (count ≤ most_records)) }
+    ensures none { result ≡ None → (1 ≤ count) → (count ≤ most_records) → ⊥ }
+{
+    if count < 1 || count > MOST_RECORDS {
+        None
+    } else {
+        Some(Some(count))
+    }
+}
+
+/// The options of a conversation; no answer where the window is none.
+fn options_of(alloc: Global, found: &ArgMatches<'_>) -> Result<Option<Options>, AllocError>
+    ensures some { IfOk result (λ r. IfSome r (HasOptions (rows_of (found_of found.now)))) }
+    ensures none { result ≡ Ok None → (window : Option ℕ) → IsWindow (one_of (codes "window") (rows_of (found_of found.now))) window → ⊥ }
+{
+    let save = owned(alloc, found.get_str("save"))?;
+    match window_of(found) {
+        Some(window) => Ok(Some(Options { save, window })),
+        None => Ok(None),
+    }
+}
+
+/// Whether an option without a value was given.
+fn is_given(found: &ArgMatches<'_>, name: &str) -> bool
+    ensures yes { IsTrue result → first_of name.now (rows_of (found_of found.now)) ≡ Some (codes "true") }
+    ensures no { first_of name.now (rows_of (found_of found.now)) ≡ Some (codes "true") → IsTrue result }
+{
+    let Some(text) = found.get_str(name) else {
+        return false;
+    };
+    if text == "true" { true } else { false }
+}
+
+/// The pickles that are read: all, unless it is the first alone or the memo is kept; no answer for both of these, or for another
+/// word of the memo.
+fn reading_of(first: bool, memo: Option<&str>) -> Option<Pickles>
+    ensures some { IfSome result (GivesReading first (option_map (λ t. t.now) memo.entry)) }
+    ensures none { result ≡ None → (pickles : Pickles) → GivesReading first (option_map (λ t. t.now) memo.entry) pickles → ⊥ }
+{
+    let Some(word) = memo else {
+        return if first {
+            Some(Pickles::First)
+        } else {
+            Some(Pickles::All)
+        };
+    };
+    if first {
+        return None;
+    }
+    if word == "kept" {
+        Some(Pickles::OneMemo)
+    } else {
+        None
+    }
+}
+
+/// The pickles that are read; no answer where the options name none.
+fn pickles_of(found: &ArgMatches<'_>) -> Option<Pickles>
+    ensures some { IfSome result (HasReading (rows_of (found_of found.now))) }
+    ensures none { result ≡ None → (pickles : Pickles) → HasReading (rows_of (found_of found.now)) pickles → ⊥ }
+{
+    let first = is_given(found, "first");
+    reading_of(first, found.get_str("memo"))
+}
+
+/// How much of an argument is shown.
+fn detail_of(found: &ArgMatches<'_>) -> Detail
+    ensures { HasDetail (rows_of (found_of found.now)) result }
+{
+    if is_given(found, "full") {
+        Detail::Full
+    } else {
+        Detail::Cut
+    }
+}
+
+/// What an answer is written as.
+fn format_of(found: &ArgMatches<'_>) -> Format
+    ensures { HasFormat (rows_of (found_of found.now)) result }
+{
+    if is_given(found, "json") {
+        Format::Json
+    } else {
+        Format::Text
+    }
+}
+
+/// What a loader was given besides the bytes.
+fn granted_of(found: &ArgMatches<'_>) -> Granted
+    ensures { HasGranted (rows_of (found_of found.now)) result }
+{
+    let extensions = is_given(found, "extensions");
+    let persistent = is_given(found, "persistent-ids");
+    let buffers = is_given(found, "buffers");
+    Granted {
+        extensions,
+        persistent,
+        buffers,
+    }
+}
+
+/// The bytes of the file that are left out; no answer where a text is no hole, or none that stands behind those before it.
+fn holes_of(alloc: Global, found: &ArgMatches<'_>) -> Result<Option<Holes>, AllocError>
+    ensures { IfOk result (λ holes. holes ≡ holes_of (skips_of (rows_of (found_of found.now)))) }
+{
+    match found.get_strs("skip") {
+        Some(texts) => pickle_script::holes_of(alloc, texts),
+        None => pickle_script::holes_of(alloc, &[]),
+    }
+}
+
+/// The options of what pickles would import and call; no answer where they name no pickles or no holes.
+fn calls_options_of(
+    alloc: Global,
+    found: &ArgMatches<'_>,
+) -> Result<Option<CallsOptions>, AllocError>
+    ensures some { IfOk result (λ r. IfSome r (HasCallsOptions (rows_of (found_of found.now)))) }
+    ensures none { result ≡ Ok None → (options : CallsOptions) → HasCallsOptions (rows_of (found_of found.now)) options → ⊥ }
+{
+    let Some(pickles) = pickles_of(found) else {
+        return Ok(None);
+    };
+    let Some(holes) = holes_of(alloc, found)? else {
+        return Ok(None);
+    };
+    let detail = detail_of(found);
+    Ok(Some(CallsOptions {
+        pickles,
+        detail,
+        holes,
+        format: format_of(found),
+    }))
+}
+
+/// Why the matches of words that clap takes name no task: the first text that is no hole, or else the options of the reading.
+fn why_none(alloc: Global, matches: &ArgMatches<'_>) -> Result<String, AllocError> {
+    let Some((_, found)) = matches.subcommand() else {
+        return String::from_str(alloc, NO_READING);
+    };
+    let texts = found.get_strs("skip").unwrap_or_default();
+    match first_unfit(alloc, texts)? {
+        Some(text) => format!(in alloc;
+            "'{text}' is no OFFSET:LENGTH, or does not stand behind the bytes that are left out before it"
+        ),
+        None => String::from_str(alloc, NO_READING),
+    }
+}
+
+/// The file that a subcommand is done on, and how it is read; no answer where there is none.
+fn given_input(alloc: Global, found: &ArgMatches<'_>) -> Result<Option<GivenFile>, AllocError>
+    ensures some { IfOk result (λ r. IfSome r (HasInput (rows_of (found_of found.now)))) }
+    ensures none { result ≡ Ok None → None ≡ first_of (codes "FILE") (rows_of (found_of found.now)) }
+{
+    let Some(file) = found.get_str("FILE") else {
+        return Ok(None);
+    };
+    let many = is_given(found, "many");
+    let unframed = is_given(found, "unframed");
+    let file = String::from_str(alloc, file)?;
+    Ok(Some(GivenFile {
+        file,
+        many,
+        unframed,
+    }))
+}
+
+/// The task that matches name, if they name one.
+fn named(alloc: Global, matches: &ArgMatches<'_>) -> Result<Option<Task>, AllocError>
+    ensures some { IfOk result (λ r. IfSome r (IsNamed (subcommand_rows_of matches.now))) }
+    ensures none { result ≡ Ok None → NamesTask (subcommand_rows_of matches.now) → ⊥ }
+{
+    let Some((name, found)) = matches.subcommand() else {
+        return Ok(None);
+    };
+    let Some(input) = given_input(alloc, found)? else {
+        return Ok(None);
+    };
+    if name == "list" {
+        Ok(Some(Task::List(input, format_of(found))))
+    } else if name == "objects" {
+        Ok(Some(Task::Objects(input)))
+    } else if name == "calls" {
+        let Some(options) = calls_options_of(alloc, found)? else {
+            return Ok(None);
+        };
+        Ok(Some(Task::Calls(input, options)))
+    } else if name == "debug" {
+        let Some(options) = options_of(alloc, found)? else {
+            return Ok(None);
+        };
+        Ok(Some(Task::Debug(input, options)))
+    } else if name == "form" {
+        Ok(Some(Task::Form(input, format_of(found))))
+    } else if name == "gate" {
+        let Some(options) = gate_options_of(alloc, found)? else {
+            return Ok(None);
+        };
+        Ok(Some(Task::Gate(input, options)))
+    } else if name == "reach" {
+        let granted = granted_of(found);
+        Ok(Some(Task::Reach(input, granted, format_of(found))))
+    } else if name == "members" {
+        Ok(Some(Task::Members(input)))
+    } else if name == "assemble" {
+        Ok(Some(Task::Assemble(input)))
+    } else {
+        Ok(None)
+    }
+}
+
+/// What the words of the command line ask for, the program's name first.
+///
+/// `Usage::Words` has what `clap` says of words that it does not take, and of a call for help; `Usage::Memory` comes where there is no
+/// room for what `clap` builds or for a text of the task.
+pub fn task_of(alloc: Global, words: &[&str]) -> Result<Task, Usage>
+    // Words are taken only where clap finds no fault in them, and the task is one that its matches of them name.
+    ensures taken { IfOk result (λ _. fault_of program (map (λ w. w.now) words.now) ≡ []) }
+    ensures named { IfOk result (IsNamed (subcommand_of program (map (λ w. w.now) words.now))) }
+    ensures bounded { IfOk result IsBounded }
+
+    // Words that clap's definition takes are refused only where the options of `calls` do not fit, or memory runs out.
+    ensures refuses { takes program (map (λ w. w.now) words.now) ≡ true → FitsOptions (subcommand_of program (map (λ w. w.now) words.now))
+        → IfErr result IsMemory }
+{
+    let mut command = command_line(alloc)?;
+    let matches = command.try_get_matches_from_mut(words)?;
+    match named(alloc, &matches)? {
+        Some(task) => Ok(task),
+        None => {
+            let why = why_none(alloc, &matches)?;
+            Err(Usage::Words(command.error(ErrorKind::InvalidValue, why.as_str())?))
+        }
+    }
+}
