@@ -40,14 +40,25 @@ holds_others() {
     return 1
 }
 
+# Whether a list is a set of the package, or includes others: Python puts these together.
+is_put_together() {
+    case $1 in
+    */*) ;;
+    *) [ ! -e "$package/scan/allow/$1.txt" ] || return 0 ;;
+    esac
+    [ -f "$1" ] && grep -q '^[[:blank:]]*include[[:blank:]]' <"$1"
+}
+
 # Whether Python has something to say beside the program's own lines: where else to look, which file cannot be read, or what it opens, an
 # address or a container (entrance.py asks the same). Without Python the program's lines are all.
 is_told_more() {
     command -v python3 >/dev/null || return 1
     [ "$1" != calls ] || return 0
+    case " $* " in ' assemble '*' --save'*) return 0 ;; esac # (Python saves)
     opens=1
     if [ "$1" = gate ]; then
-        case " $*" in *' --explain'*) return 0 ;; esac
+        case " $*" in *' --explain'* | *' --list'*) return 0 ;; esac
+        ! is_put_together "$2" || return 0
         [ $# -le 3 ] || opens='' # (among several files none is opened)
     fi
     shift
@@ -77,6 +88,6 @@ enter() {
     if command -v python3 >/dev/null; then
         exec python3 -I ${PYTHONDONTWRITEBYTECODE:+-B} "$package/entrance.py" "$@"
     fi
-    echo 'picklestep: python3 (3.8 or later) is not there: only list, objects, calls, form, gate, reach, members and debug work without it' >&2
+    echo 'picklestep: python3 (3.8 or later) is not there: only list, objects, calls, form, gate, reach, members, assemble and debug work without it' >&2
     exit 2
 }

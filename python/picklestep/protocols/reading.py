@@ -1,0 +1,219 @@
+"""A pickle as opcodes that are written anew: what each of them means, whatever its spelling, and which stretch of opcodes each object on the stack
+comes from."""
+
+from __future__ import annotations
+
+import re
+import struct
+from typing import Callable, Dict, Iterator, List, Mapping, NamedTuple, Optional, Sequence, Set, Tuple, TypeVar, Union
+
+from ..answers import Objects
+from ..opcodes import BY_NAME
+from ..records import Opcode
+from ..values import read_form
+
+__all__ = ['GETS', 'PUTS', 'Op', 'Rewriting', 'Slot', 'Taken', 'read', 'walk']
+
+PUTS = ('PUT', 'BINPUT', 'LONG_BINPUT', 'MEMOIZE')
+GETS = ('GET', 'BINGET', 'LONG_BINGET')
+# Opcodes that mean the same with the same value. Each has the name of the first here; how it is spelled in a protocol is said in `spelling`.
+_SAME = (('BININT', 'BININT1', 'BININT2'), ('LONG1', 'LONG4'), ('BINUNICODE', 'SHORT_BINUNICODE', 'BINUNICODE8'),
+         ('BINBYTES', 'SHORT_BINBYTES', 'BINBYTES8'), ('PUT', 'BINPUT', 'LONG_BINPUT', 'MEMOIZE'), ('GET', 'BINGET', 'LONG_BINGET'))
+_MEANS: Dict[str, str] = {name: names[0] for names in _SAME for name in names}
+# A line that all loaders read alike, by its opcode: other lines stay as they are.
+_PLAIN_LINES = {'INT': re.compile(rb'-?(?:0|[1-9][0-9]{0,18})'), 'LONG': re.compile(rb'-?(?:0|[1-9][0-9]{0,4000})L?'),
+                'FLOAT': re.compile(rb'-?(?:[0-9]+(?:\.[0-9]+)?(?:e[+-]?[0-9]+)?|inf|nan)')}
+_TRUTHS = {b'00': 'NEWFALSE', b'01': 'NEWTRUE'}
+
+_Value = Union[None, int, float, str, bytes, Tuple[str, str], Tuple[bytes, bytes]]
+
+
+class Op(NamedTuple):
+    """An opcode by its meaning: a key of the memo is any number. `stands` is the number of the source's object that what it makes stands for; None
+    where that has no counterpart. `protocol` is what PROTO said before it, and `shared` says that what it makes is kept in the memo for the next."""
+
+    name: str
+    value: _Value = None
+    stands: Optional[int] = None
+    offset: int = 0
+    protocol: int = 0
+    shared: bool = False
+
+
+def read(opcodes: Sequence[Opcode], content: bytes, made: Objects, number: int) -> Iterator[Op]:
+    """The opcodes of one pickle, without PROTO and FRAME. `number` is that of the next object."""
+    protocol = 0
+    for opcode in opcodes:
+        if opcode.name == 'PROTO':
+            protocol = int(opcode.argument)  # type: ignore[arg-type]
+        if opcode.name in ('PROTO', 'FRAME'):
+            continue
+        makes = BY_NAME[opcode.name].makes
+        if opcode.name == 'READONLY_BUFFER':  # (of a buffer it makes a view)
+            makes = number < len(made) and made[number].kind == 'readonly'
+        yield Op(*_meaning(opcode, content), number if makes else None, opcode.offset, protocol)
+        number += makes
+
+
+def _meaning(opcode: Opcode, content: bytes) -> Tuple[str, _Value]:
+    """The name and the value of an opcode."""
+    name, argument = opcode.name, opcode.argument
+    if name == 'MEMOIZE':
+        return 'PUT', int(opcode.note.rpartition(' ')[2])
+    if name == 'BINFLOAT':  # (a listing does not tell the bits of a NaN)
+        return name, content[opcode.offset + 1:opcode.offset + 9]
+    if name in ('INT', 'LONG', 'FLOAT', 'UNICODE'):
+        assert isinstance(argument, bytes)
+        return _of_line(name, argument)
+    if name in ('GLOBAL', 'INST'):
+        return name, argument
+    meant = _MEANS.get(name, name)
+    return meant, opcode.value if meant == 'BINUNICODE' else argument  # type: ignore[return-value]
+
+
+def _of_line(name: str, line: bytes) -> Tuple[str, _Value]:
+    """The meaning of a line. One that not all loaders read alike stays."""
+    if name == 'INT' and line in _TRUTHS:
+        return _TRUTHS[line], None
+    if name == 'UNICODE':
+        try:
+            return 'BINUNICODE', str(read_form(name, line))
+        except ValueError:
+            return name, line
+    if not _PLAIN_LINES[name].fullmatch(line):
+        return name, line
+    if name != 'FLOAT':
+        return 'BININT' if name == 'INT' else 'LONG1', int(line.rstrip(b'L'))
+    try:
+        value = read_form(name, line)
+    except ValueError:  # (it is too large)
+        return name, line
+    return 'BINFLOAT', struct.pack('>d', value)
+
+
+# --- The stack ---
+
+class Slot:
+    """What stands on the stack: an object or a mark, the place where the opcodes begin that it comes from, the place behind them (once it is taken),
+    and the places of those that made and changed it."""
+
+    __slots__ = ('begin', 'end', 'is_mark', 'places')
+
+    def __init__(self, begin: int, place: int, is_mark: bool = False) -> None:
+        self.begin = begin
+        self.end = -1
+        self.is_mark = is_mark
+        self.places = [place]
+
+
+class Taken(NamedTuple):
+    """What an opcode takes: objects from the top of the stack, and where it takes a mark, that and the objects above it."""
+
+    named: List[Slot]
+    mark: Optional[Slot] = None
+    items: Sequence[Slot] = ()
+
+
+Step = TypeVar('Step')
+
+
+def obey(step: Step, rules: Mapping[str, Callable[[Step, int, Op, Taken], object]], ops: Sequence[Op]) -> None:
+    """Does at each opcode what its rule says, if it has one."""
+    for place, op, taken in walk(ops):
+        rule = rules.get(op.name)
+        if rule is not None:
+            rule(step, place, op, taken)
+
+
+def walk(ops: Sequence[Op]) -> Iterator[Tuple[int, Op, Taken]]:
+    """Each opcode with its place and what it takes. (Only of a pickle that the program has read to its STOP.)"""
+    stack: List[Slot] = []
+    for place, op in enumerate(ops):
+        info = BY_NAME[op.name]
+        taken = _take(stack, op.name, place)
+        yield place, op, taken
+        leaves = len(info.leaves.split(', ')) if info.leaves else 0
+        lowest = taken.named[0] if taken.named else taken.mark
+        if not leaves:
+            continue
+        if lowest is not None and not info.makes:  # (it is the same object, changed or kept)
+            lowest.places.append(place)
+            stack.append(lowest)
+            leaves -= 1
+        elif lowest is not None:
+            stack.append(Slot(lowest.begin, place))
+            leaves -= 1
+        stack += [Slot(place, place, op.name == 'MARK') for _ in range(leaves)]
+
+
+def _take(stack: List[Slot], name: str, place: int) -> Taken:
+    """Takes from the stack what an opcode takes."""
+    info = BY_NAME[name]
+    words = info.takes.split(', ') if info.takes else []
+    items: List[Slot] = []
+    mark = None
+    end = place
+    if info.takes_mark:
+        words = words[:words.index('mark')]
+        while not stack[-1].is_mark:
+            items.append(stack.pop())
+            items[-1].end, end = end, items[-1].begin
+        mark = stack.pop()
+        mark.end, end = end, mark.begin
+    named = stack[len(stack) - len(words):] if words else []
+    del stack[len(stack) - len(words):]
+    for slot in reversed(named):
+        slot.end, end = end, slot.begin
+    return Taken(named, mark, items[::-1])
+
+
+# --- Writing anew ---
+
+class Rewriting:
+    """Opcodes of which some are replaced, and before which others are put. `problems` has what cannot be."""
+
+    def __init__(self, ops: Sequence[Op]) -> None:
+        self.ops = ops
+        self.problems: List[str] = []
+        self._before: Dict[int, List[Op]] = {}
+        self._instead: Dict[int, List[Op]] = {}
+
+    def put_before(self, place: int, *ops: Op) -> None:
+        """Puts opcodes before a place, and before what was put there already: what is larger comes later and begins no later."""
+        self._before.setdefault(place, [])[:0] = ops
+
+    def take_back(self, place: int, count: int) -> None:
+        """Takes the first of those away that were put before a place."""
+        del self._before[place][:count]
+
+    def put(self, place: int, *ops: Op) -> None:
+        """Puts opcodes, or none, in the place of one."""
+        self._instead[place] = list(ops)
+
+    def at(self, place: int) -> List[Op]:
+        """What stands in the place of an opcode."""
+        return self._instead.get(place, [self.ops[place]])
+
+    def refuse(self, place: int, why: str, name: str = '') -> None:
+        """Says that an opcode cannot be written."""
+        self.problems.append(f'{self.ops[place].offset}: {name or self.ops[place].name}: {why}')
+
+    def made(self) -> List[Op]:
+        """The opcodes as they are now."""
+        result: List[Op] = []
+        for place, op in enumerate(self.ops):
+            if place in self._before:
+                result += self._before[place]
+            if place in self._instead:
+                result += self._instead[place]
+            else:
+                result.append(op)
+        return result
+
+    def taken_keys(self) -> Set[_Value]:
+        """The keys of the memo that somebody takes."""
+        return {op.value for op in self.ops if op.name == 'GET'}
+
+    def is_alone(self, slot: Slot) -> bool:
+        """Whether one opcode makes an object, and others only store it."""
+        return slot.end - slot.begin == len(slot.places) and all(self.ops[place].name == 'PUT' for place in slot.places[1:])

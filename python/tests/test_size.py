@@ -1,0 +1,131 @@
+"""`picklestep size` and `picklestep.size`: where the bytes of a pickle go. What is expected comes from pickletools and from pickle."""
+
+from __future__ import annotations
+
+import collections
+import datetime
+import json
+import pickle
+import pickletools
+import subprocess
+import sys
+import tempfile
+import unittest
+from pathlib import Path
+from xml.etree import ElementTree
+
+import picklestep
+from cut_pickles import whole_pickles
+from pickles import chosen
+from scan_support import environment
+
+SHARED = ['shared', 300]
+VALUES = [SHARED, {'a': SHARED, 'weights': (1.5, b'x' * 2000, 'y' * 70_000)}, list(range(-3, 2500)), {n: str(n) for n in range(400)}, (), [[]], 'end', None,
+          True, 2**80, -2**31, [SHARED, ('two', 2)]]
+
+
+def saved(answer: picklestep.Sizes, how: str) -> int:
+    """How many bytes are left."""
+    return next((each.left for each in answer.savings if each.how == how), answer.size)
+
+
+class Sizes(unittest.TestCase):
+    """`picklestep.size`."""
+
+    def test_all_bytes_are_counted(self) -> None:
+        for name, data in [*chosen(whole_pickles().items(), 30), *((f'protocol {n}', pickle.dumps(VALUES, n)) for n in range(6))]:
+            with self.subTest(name):
+                answer = picklestep.size(data)
+                self.assertEqual(answer.objects + sum(each.size for each in answer.overhead) + answer.unread, len(data))
+                try:
+                    places = [(info.name, at) for info, _, at in pickletools.genops(data)]
+                except (UnicodeDecodeError, ValueError):  # (it does not read all that loaders read)
+                    continue
+                wanted: collections.Counter[str] = collections.Counter()
+                for (opcode, begin), end in zip(places, [*(at for _, at in places[1:]), places[-1][1] + 1]):
+                    wanted[opcode] += end - begin
+                self.assertEqual({each.what: each.size for each in answer.opcodes}, wanted)
+                self.assertEqual([each.count for each in answer.opcodes], [[opcode for opcode, _ in places].count(each.what) for each in answer.opcodes])
+
+    def test_what_would_be_saved(self) -> None:
+        for protocol in range(6):
+            data = pickle.dumps(VALUES[:-1], protocol)
+            answer = picklestep.size(data)
+            self.assertEqual(saved(answer, 'optimize'), len(picklestep.optimize(data)))
+            optimized = len(pickletools.optimize(data))
+            self.assertTrue(saved(answer, 'optimize') <= optimized if protocol else saved(answer, 'optimize') - optimized < 9)
+            if protocol in (2, 3):  # (below 3 the bytes are a call)
+                newest = len(pickle.dumps(VALUES[:-1], 5))
+                self.assertLess(abs(saved(answer, 'protocol 5') - newest), 12 if protocol == 3 else 3000)
+        plain = [1, 70_000, 'text' * 90, {'a': [0.5, ('b', 'c')]}, ('d',) * 4, [], datetime.date(2026, 1, 2).isoformat(), True]
+        for protocol in range(4):
+            self.assertEqual(saved(picklestep.size(pickle.dumps(plain, protocol)), 'protocol 5'), len(pickle.dumps(plain, 5)), protocol)
+
+    @unittest.skipIf(sys.version_info < (3, 8), 'there are no buffers')
+    def test_out_of_band(self) -> None:
+        for buffer in (bytes(5000), bytearray(5000)):
+            given = [pickle.PickleBuffer(buffer)]
+            inside, outside = pickle.dumps(given, 5), pickle.dumps(given, 5, buffer_callback=[].append)
+            self.assertLess(abs(saved(picklestep.size(inside), 'out of band') - len(outside)), 12)
+
+    def test_paths(self) -> None:
+        shared = 'z' * 100
+        answer = picklestep.size(pickle.dumps([{'a': 'x' * 50, 'b': [shared, {'c', }]}, shared, (1, b'w' * 20)], 4), most=100)
+        found = {each.path: each for each in answer.paths}
+        self.assertEqual(found["[0]['b'][0]"].own, 102)
+        self.assertNotIn('[1]', found)
+        self.assertEqual(found["[0]['a']"].size, 52 + len(b'\x8c\x01a'))
+        self.assertEqual(found["[0]['a'] (its key)"].own, 3)
+        self.assertEqual({"[2][1]": 22, "[0]['b'][1]": 4, "[0]['b'][1]{'c'}": 3}, {path: found[path].size for path in ("[2][1]", "[0]['b'][1]", "[0]['b'][1]{'c'}")})
+        self.assertEqual(found['result'].size, answer.objects)
+        made = picklestep.size(pickle.dumps(collections.OrderedDict(a=[datetime.date(2026, 1, 2)]), 4), most=100)
+        self.assertTrue({'result.name.module', "['a'][0].arguments[0]", "['a'][0].name"} <= {each.path for each in made.paths})
+        loop: list[object] = []
+        loop.append(loop)
+        self.assertEqual([each.path for each in picklestep.size(pickle.dumps(loop, 4)).paths], ['result'])
+
+    def test_memo_and_texts(self) -> None:
+        text = b'equal'.decode
+        data = pickle.dumps([text(), text(), SHARED, SHARED, b'v' * 5000, bytes(bytearray(b'v' * 5000)), b'u' * 5000], 4)
+        answer = picklestep.size(data)
+        names = [info.name for info, _, _ in pickletools.genops(data)]
+        left = [info.name for info, _, _ in pickletools.genops(pickletools.optimize(data))].count('MEMOIZE')
+        self.assertEqual((answer.memo.stored, answer.memo.taken, answer.memo.unused), (names.count('MEMOIZE'), names.count('BINGET'), names.count('MEMOIZE') - left))
+        self.assertEqual([(each.count, each.size) for each in answer.again], [(2, 5005), (2, 7)])
+        self.assertEqual(picklestep.size(b']q\x00]q\x00h\x00a.').memo.unused, 1)  # (the first is written over before somebody takes it)
+        self.assertEqual(picklestep.size(b']q\x00.]h\x00.', many=True).memo.unused, 1)  # (the second pickle begins with an empty memo)
+
+    def test_what_is_not_read(self) -> None:
+        data = pickle.dumps(['a' * 30, [1, 2]], 2)
+        for cut in range(len(data)):
+            answer = picklestep.size(data[:cut])
+            self.assertEqual((answer.size, answer.end.is_stopped), (cut, False))
+            self.assertEqual(answer.objects + sum(each.size for each in answer.overhead) + answer.unread, cut)
+        for more, many, unread in ((b'N.', False, 2), (b'N.', True, 0), (b'0.', True, 2), (b'\xff', False, 1)):
+            self.assertEqual(picklestep.size(data + more, many=many).unread, unread)
+        self.assertEqual([each.path for each in picklestep.size(b'NK\x01].', most=9).paths], ['result', '#0', '#1'])
+        self.assertEqual([each.path for each in picklestep.size(b']N2\x86a.].', many=True).paths][0], '[0]')
+        framed = pickle.dumps(['a' * 30], 4)[:-1]
+        self.assertEqual((picklestep.size(framed).unread, picklestep.size(framed, unframed=True).unread), (len(framed) - 2, 0))
+        views = b'\x97\x94\x98\x980h\x00\x98\x98\x86.'
+        self.assertEqual(sum(each.size for each in picklestep.size(views[:-2] + b'.').opcodes), len(views) - 1)
+
+    def test_the_word(self) -> None:
+        with tempfile.TemporaryDirectory() as folder:
+            data = pickle.dumps({'<&"\u202e\x1b': ['a' * 90, b'b' * 90], ']]>': {}}, 4)
+            Path(folder, 'a').write_bytes(data)
+            Path(folder, 'cut').write_bytes(data[:-20])
+            for words, code, said in ((('a', '--svg', 'a.svg'), 0, "['<&\"\\u202e\\x1b'][1]"), (('cut', '--unframed'), 1, 'not read'), (('none',), 2, ''), (('a', '--rows', '0'), 2, ''),
+                                      (('a', '--svg', 'none/b'), 2, ''), (('a', '--rows', '2', '--json'), 0, '"kind":"end","how":"stopped","status":0')):
+                run = subprocess.run([sys.executable, '-m', 'picklestep', 'size', *words], cwd=folder, env=environment(), capture_output=True, text=True, timeout=60)
+                self.assertEqual((run.returncode, said in run.stdout), (code, True), run)
+                self.assertTrue(all(line.isprintable() for line in run.stdout.splitlines()))
+            lines = [json.loads(line) for line in run.stdout.splitlines()]
+            self.assertEqual(sum(each['size'] for each in lines if each['kind'] == 'opcode'), len(data))
+            drawing = ElementTree.parse(Path(folder, 'a.svg')).getroot()
+            titles = [each.text or '' for each in drawing.iter('{http://www.w3.org/2000/svg}title')]
+            self.assertIn('result: dict, 201 bytes', titles)
+
+
+if __name__ == '__main__':
+    unittest.main()
