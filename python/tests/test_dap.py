@@ -233,6 +233,7 @@ class Breakpoints(DapCase):
         self.assertEqual((stopped['reason'], stopped['hitBreakpointIds'], client.offset()), ('function breakpoint', [found[0]['id']], 2))
         client.go('stepBack')
         self.assertEqual(self.stops(client, 'function breakpoint'), [2, 38])
+        self.assertEqual(client.ask('setFunctionBreakpoints', breakpoints=None), {'breakpoints': []})  # (so go-dap writes an empty array)
         for name, wanted in (('import *', [2]), ('call *.send', [38])):
             client.ask('setFunctionBreakpoints', breakpoints=[{'name': name}])
             self.assertEqual(self.stops(client, 'function breakpoint'), wanted)
@@ -275,6 +276,26 @@ class Breakpoints(DapCase):
         for filters, wanted in ((['import'], [2]), (['call'], [38]), (['import', 'call'], [2, 38]), ([], [])):
             client.ask('setExceptionBreakpoints', filters=filters)
             self.assertEqual(self.stops(client, 'breakpoint'), wanted)
+
+    def test_conditions(self) -> None:
+        """Each kind may have one. One that is none is not set."""
+        client = self.launched(SAMPLE)
+        listing = client.ask('loadedSources')['sources'][0]
+        memo = client.go('continue') and client.scope('Memo')
+        client.variables(memo)
+        key = client.ask('dataBreakpointInfo', variablesReference=memo['variablesReference'], name='1')['dataId']
+        for kind, fields, source in (('Breakpoints', {'line': 9}, {'source': listing}), ('FunctionBreakpoints', {'name': 'call *'}, {}),
+                                     ('InstructionBreakpoints', {'instructionReference': '0x26'}, {}), ('DataBreakpoints', {'dataId': key}, {})):
+            for condition, is_hit in (("top == 'bob' or 3 in stack[-1]", True), ('top == 4', False)):
+                found, = client.ask(f'set{kind}', breakpoints=[{**fields, 'condition': condition}], **source)['breakpoints']
+                self.assertTrue(found['verified'])
+                client.ask('goto', threadId=1, targetId=0)
+                client.event('stopped')
+                stopped = client.go('continue')
+                self.assertEqual(stopped.get('hitBreakpointIds', []), [found['id']] if is_hit else [], kind)
+            found, = client.ask(f'set{kind}', breakpoints=[{**fields, 'condition': 'nothing'}], **source)['breakpoints']
+            self.assertEqual((found['verified'], found['message'][:8]), (False, 'there is'))
+            client.ask(f'set{kind}', breakpoints=[], **source)
 
     def test_those_that_are_typed(self) -> None:
         client = self.launched(SAMPLE)
@@ -371,6 +392,10 @@ class Looks(DapCase):
         self.assertRegex(client.type('info breakpoints'), 'no breaks')
         self.assertEqual(client.type('#1', 'watch'), "'bob'")
         self.assertEqual(client.type('x/2xb @0', 'watch'), client.type('hex @0 2'))
+        self.assertEqual([client.type(line, 'watch') for line in ('top', 'len(stack)', "memo[0] == oldapp.tasks.send", 'memo 0')],
+                         ["'bob'", '2', 'True', client.type('memo 0')])
+        self.assertEqual(client.ask('evaluate', expression='stack[0]', context='hover')['type'], 'global')
+        self.fails(client, 'has no value here', 'evaluate', expression='memo[7]', context='watch')
         self.assertEqual(client.type('reduce', 'hover'), 'Takes arguments and a function, and calls it: this runs code.')
         for line in ('step', 'set 1 to 2', 'save /dev/null', 'quit', 'nonsense'):
             self.fails(client, '.', 'evaluate', expression=line, context='watch')
@@ -500,7 +525,7 @@ class Messages(DapCase):
             status, said, errors = self.answered(first + bad + first)
             self.assertEqual((status, [each['success'] for each in said]), (2, [True, False]), bad[:60])
             self.assertEqual(errors, f'picklestep: {said[1]["message"]}\n')
-        run = subprocess.run([sys.executable, '-m', 'picklestep', 'dap'], input=first + web, capture_output=True, env=environment(), timeout=120, check=False)
+        run = subprocess.run([sys.executable, '-m', 'picklestep', 'dap'], input=first + web, capture_output=True, env=environment(), timeout=600, check=False)
         status, said, errors = self.answered(first + web)
         self.assertEqual((run.returncode, messages_in(run.stdout), run.stderr.decode()), (status, said, errors))
 
@@ -573,7 +598,7 @@ class Messages(DapCase):
             assert match is not None
             port = int(match[1])
             with socket.create_connection(('127.0.0.1', port)) as connection, connection.makefile('rb') as reader, connection.makefile('wb') as writer:
-                client = Client(reader, writer, lambda: process.wait(60))
+                client = Client(reader, writer, lambda: process.wait(600))
                 client.launch('a.pickle')
                 client.go('continue')
                 self.assertEqual(client.leave(), 0)
@@ -582,7 +607,7 @@ class Messages(DapCase):
     def test_ports_that_cannot_be(self) -> None:
         with socket.create_server(('127.0.0.1', 0)) as taken:
             for port, why in ((str(taken.getsockname()[1]), 'cannot listen on 127.0.0.1'), ('x', 'is no port'), ('65536', 'is no port')):
-                run = subprocess.run([sys.executable, '-m', 'picklestep', 'dap', '--port', port], capture_output=True, text=True, env=environment(), timeout=60,
+                run = subprocess.run([sys.executable, '-m', 'picklestep', 'dap', '--port', port], capture_output=True, text=True, env=environment(), timeout=600,
                                      check=False)
                 self.assertEqual((run.returncode, run.stdout), (2, ''))
                 self.assertIn(why, run.stderr)

@@ -21,11 +21,12 @@ from typing import List
 from unittest import mock
 
 import picklestep
-from examples_of_using import stories
+from examples_of_pages import stories
 from picklestep.opcodes import BY_NAME, TABLE
+from picklestep.plain import PLAIN
 from picklestep.shell.complete import completions
+from picklestep.shell.later import Later
 from picklestep.shell.opened import Opened
-from picklestep.shell.plain import PLAIN
 from picklestep.shell.shell import Shell, WordError
 from picklestep.shell.words import OTHERS, SAMPLE, WORDS, whole_word
 from picklestep.view.document import Document
@@ -60,7 +61,7 @@ class AtATerminal(unittest.TestCase):
 
     def test_stories_of_the_page(self) -> None:
         found = list(stories())
-        self.assertEqual(len(found), 3)
+        self.assertEqual(len(found), 4)
         for name, data, words, typed in found:
             self.assertEqual(words[-1], name)
             terminal = self.opened(data, *words)
@@ -74,7 +75,7 @@ class AtATerminal(unittest.TestCase):
                     else:
                         self.assertEqual(terminal.type(line), wanted.rstrip('\n'))
             self.assertEqual(terminal.close(), 0)
-        self.assertEqual(Path(self.folder, 'fixed.pickle').read_bytes(), found[0][1].replace(b'oldapp', b'newapp'))
+        self.assertEqual(Path(self.folder, 'fixed.pickle').read_bytes(), found[1][1].replace(b'oldapp', b'newapp'))
         self.assertEqual(pickle.loads(Path(self.folder, 'new.pickle').read_bytes()), {'user': 'bob', 'size': 2.5})
         self.assertEqual(Path(self.folder, 'new.pickle').read_bytes()[:2], b'\x80\x04')
 
@@ -115,19 +116,22 @@ class AtATerminal(unittest.TestCase):
         self.assertEqual((terminal.type('quit'), terminal.close()), ('', 0))
 
     def test_an_interrupted_answer(self) -> None:
-        """Ctrl-C ends the answer and not the shell: what was edited is still there."""
+        """Ctrl-C ends the answer and not the shell, also while it is shown: what was edited is still there."""
         terminal = self.opened(pickle.dumps([number % 256 for number in range(300_000)], 4))
         terminal.type('insert 5 NONE')
         terminal.type('where')
-        os.write(terminal.master, b'source full\n')
-        time.sleep(0.3)
-        os.write(terminal.master, b'\x03')  # (the system drops what was not read yet, perhaps with the next prompt)
-        self.assertIn('^C', terminal.raw_until('^C'))
-        time.sleep(0.5)
+        for is_shown in (False, True):
+            os.write(terminal.master, b'source full\n')
+            if is_shown:
+                terminal.raw_until('217, 218')  # (the beginning of a long answer, of which the rest waits until it is read)
+            else:
+                time.sleep(0.3)
+            os.write(terminal.master, b'\x03')  # (the system drops what was not read yet, perhaps with the next prompt)
+            self.assertIn('^C', terminal.raw_until('^C'))
         os.write(terminal.master, b'undo\n')
         self.assertNotIn('217, 218', terminal.raw_until('undone 5'))
         os.write(terminal.master, b'quit\n')
-        self.assertEqual(terminal.process.wait(60), 0)
+        self.assertEqual(terminal.process.wait(600), 0)
 
     def test_prompt_toolkit(self) -> None:
         if subprocess.run([sys.executable, '-c', 'import prompt_toolkit'], stderr=subprocess.DEVNULL, check=False).returncode:
@@ -297,6 +301,12 @@ class Words(unittest.TestCase):
                     shell.obey('calls')  # (which waits until the pickle is read)
             self.assertEqual((shell.obey('break'), shell.pickle.content()), (before, SAMPLE), line)
 
+    def test_an_edit_whose_reading_ends_at_once(self) -> None:
+        """That it failed is told by the next word, however early it ended."""
+        start = Later.start
+        with mock.patch.object(Later, 'start', lambda work: [start(work), work.wait()][0]):
+            self.test_breaks_after_an_edit_that_is_taken_back()
+
     def test_words_of_other_debuggers(self) -> None:
         """Each does what the shell's own word does."""
         for typed, own in (('n', 'over'), ('next', 'over'), ('stepi', 'step'), ('si', 'step'), ('finish', 'out'), ('return', 'out'), ('reverse-step', 'back'),
@@ -365,11 +375,12 @@ class Words(unittest.TestCase):
         with self.assertRaisesRegex(WordError, r'C2 at the end, stopped \(You are at the end\.\)$'):
             shell.obey('step')
         # Each code of the page is one that CODES has.
-        known = set(re.findall(r'^- \*\*([A-Z][0-9]+) ', (ROOT / 'docs' / 'CODES.md').read_text(encoding='utf-8'), re.MULTILINE))
+        known = set(re.findall(r'^- \*\*([A-Z][0-9]+) ', (ROOT / 'docs' / 'reference' / 'codes.md').read_text(encoding='utf-8'), re.MULTILINE))
         self.assertLessEqual(set(PLAIN), known)
 
     def test_depth(self) -> None:
         shell = self.shell(b'((N1N0N.')
+        shell.obey(f'break depth {10 ** 30}')
         shell.obey('break depth 2')
         shell.obey('run')
         self.assertEqual(self.place(shell), 2)
@@ -478,10 +489,10 @@ class Words(unittest.TestCase):
                     with self.subTest(name, line=line), Shell(shell.pickle.content(), '', many=True) as fresh:
                         self.assertEqual(shell.pickle.lines.makers.codes, fresh.pickle.lines.makers.codes)
                         self.assertEqual(shell.pickle.lines.text, fresh.pickle.lines.text)
-                        self.assertEqual(shell.pickle.final_text, fresh.pickle.final_text)
+                        self.assertEqual(shell.pickle.final.text, fresh.pickle.final.text)
                         self.assertEqual(shell.pickle.reaches.answer.text, fresh.pickle.reaches.answer.text)
                         self.assertEqual(shell.pickle.lines.closing, fresh.pickle.lines.closing)
-                        made = len(fresh.pickle.final_text.split(b'\n')) - 1
+                        made = len(fresh.pickle.final.text.split(b'\n')) - 1
                         self.assertEqual([*map(shell.pickle.maker, range(made))], [*map(fresh.pickle.maker, range(made))])
 
     def test_undone_and_made_again(self) -> None:

@@ -117,7 +117,7 @@ class Unread(unittest.TestCase):
         event, read = threading.Event(), Opened._read_beside
 
         def waiting(*arguments: object) -> object:
-            event.wait(20)
+            event.wait(600)
             return read(*arguments)  # type: ignore[arg-type]
 
         with mock.patch.object(Opened, '_read_beside', waiting):

@@ -14,6 +14,7 @@ import pickle
 import pickletools
 import subprocess
 import sys
+import tarfile
 import tempfile
 import threading
 import time
@@ -303,8 +304,24 @@ class Alone(InChromium):
         self.browser.wait("document.querySelector('#closing').textContent.includes('begins like a container: zip archive')")
         self.give(self.file('a.pickle.gz', gzip.compress(gzip.compress(SYSTEM))))
         self.assertEqual((self.texts('#name'), self.texts('#where')[0][:9]), (['a.pickle'], 'at 0 of 6'))
-        self.give(self.file('b.tar', b'a'.ljust(257, b'\0') + b'ustar\x0000'.ljust(255, b'\0') + bytes(1024)))
-        self.assertIn('begins like a container: tar archive', self.texts('#closing')[0])
+        packed = io.BytesIO()
+        with tarfile.open(fileobj=packed, mode='w') as tar:
+            member = tarfile.TarInfo('data.pkl')
+            member.size = len(SYSTEM)
+            tar.addfile(member, io.BytesIO(SYSTEM))
+        path = self.file('b.tar', packed.getvalue())
+        self.assertEqual(self.members(path), ['data.pkl  25 bytes '])
+        self.browser.js("document.querySelector('#members .thing').click()")
+        self.browser.wait("document.querySelector('#where').textContent.startsWith('at 0 of 6,')")
+        self.browser.js(SETTLED)
+        self.assertEqual(self.texts('#name'), ['data.pkl'])
+        self.members(path)
+        self.browser.click('#as-pickle')
+        self.browser.wait("document.querySelector('#closing').textContent.includes('begins like a container: tar archive')")
+        # The checksum of this header is not right, so there is no member to show.
+        self.assertEqual(self.members(self.file('c.tar', b'a'.ljust(257, b'\0') + b'ustar\x0000'.ljust(255, b'\0') + bytes(1024))), [])
+        self.browser.click('#as-pickle')
+        self.browser.wait("document.querySelector('#closing').textContent.includes('begins like a container: tar archive')")
         self.assertEqual((self.requests(), self.browser.errors()), ([], []))
 
     def test_what_cannot_be_opened_is_said(self) -> None:
@@ -509,7 +526,7 @@ class Alone(InChromium):
                 for _ in range(40):
                     reached.append(self.browser.js(FOCUS_LINE))
                     self.browser.key('Tab')
-                reached = [each for each in reached if each[0].strip() != 'BODY']
+                reached = [each for each in reached if not each[0].startswith('BODY ')]
                 self.assertEqual([each for each in reached if each[1] < 2 or each[2] > 0.5], [], (width, pane))
                 self.assertGreater(len({each[0] for each in reached}), 8)
 

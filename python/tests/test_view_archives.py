@@ -5,6 +5,7 @@ The archives are those that libraries wrote: torch (whose writer closes each arc
 
 from __future__ import annotations
 
+import gzip
 import hashlib
 import io
 import json
@@ -16,6 +17,7 @@ import tarfile
 import tempfile
 import unittest
 import zipfile
+import zlib
 from pathlib import Path
 from typing import Any, Dict, List
 
@@ -40,6 +42,23 @@ for (const script of process.argv.slice(1)) require('node:vm').runInThisContext(
     }
     console.log(JSON.stringify(answers));
 })();'''
+
+
+# Answers for each file what it holds, its name and the sum of its bytes, or why it holds nothing.
+_UNPACK = _READ.partition('(async')[0] + '''(async () => {
+    const answers = [];
+    for (const path of readFileSync(0, 'utf8').split('\\n')) {
+        const found = await unzipped(new Uint8Array(readFileSync(path)), path).catch((error) => error.message);
+        answers.push(found.bytes ? [found.name, createHash('sha256').update(found.bytes).digest('hex')] : found);
+    }
+    console.log(JSON.stringify(answers));
+})();'''
+
+
+def array_file(descr: str, content: bytes) -> bytes:
+    """A file of numpy."""
+    header = f"{{'descr': {descr}, 'fortran_order': False, 'shape': (1,), }}".encode().ljust(117) + b'\n'
+    return b'\x93NUMPY\x01\x00' + struct.pack('<H', len(header)) + header + content
 
 
 def sums(path: Path) -> Dict[str, str]:
@@ -178,6 +197,42 @@ class Archives(unittest.TestCase):
         none, lost = self.read([self.file('short.pt', bytes(short)), self.file('cut.pt', bytes(cut))])
         self.assertEqual((none['count'], len(none['members']), none['isWhole']), (2, 1, False))
         self.assertEqual(lost['members'][0]['sum'], 'the member is not where the directory says')
+
+
+    def opened(self, paths: List[Path]) -> List[Any]:
+        """What is in files that hold one thing: its name, and the sum of its bytes; or why there is nothing."""
+        done = subprocess.run(['node', '-e', _UNPACK, *map(str, SCRIPTS)], input='\n'.join(map(str, paths)), capture_output=True, text=True, timeout=300, check=False)
+        self.assertEqual(done.stderr, '')
+        found: List[Any] = json.loads(done.stdout)
+        return found
+
+    def test_what_is_packed(self) -> None:
+        objects, numbers = (array_file(descr, HOSTILE) for descr in ("'|O'", "'<f8'"))
+        files = {'a.pkl': HOSTILE, 'a.pkl.gz': gzip.compress(HOSTILE), 'a.pkl.z': zlib.compress(HOSTILE), 'b.zlib': zlib.compress(HOSTILE, 9), 'a.npy': objects,
+                 'a.npy.gz': gzip.compress(objects), 'records.npy': array_file("[('a', '<i4'), ('b', '|O')]", HOSTILE)}
+        found = self.opened([self.file(name, data) for name, data in files.items()])
+        self.assertEqual([each[1] for each in found], [hashlib.sha256(HOSTILE).hexdigest()] * len(files))
+        self.assertEqual([each[0].rpartition('/')[2] for each in found], ['a.pkl', 'a.pkl', 'a.pkl', 'b', 'a', 'a', 'records'])
+        why, = self.opened([self.file('numbers.npy', numbers)])
+        self.assertEqual(why, 'an array of numpy that holds numbers: there is no pickle in it')
+
+    def test_tar(self) -> None:
+        """As tarfile writes them, with long names; and one that is cut."""
+        members = {'a.pkl': HOSTILE, 'folder/b.pkl': b'N.', 'x' * 90 + '/' + 'y' * 120 + '.pkl': b'K\x01.', 'caf\xe9.pkl': b'', 'z' * 300: HOSTILE}
+        for form in (tarfile.GNU_FORMAT, tarfile.PAX_FORMAT):
+            held = io.BytesIO()
+            with tarfile.open(fileobj=held, mode='w', format=form) as archive:
+                for name, data in members.items():
+                    info = tarfile.TarInfo(name)
+                    info.size = len(data)
+                    archive.addfile(info, io.BytesIO(data))
+                archive.addfile(tarfile.TarInfo('folder'))
+            found, = self.read([self.file('a.tar', held.getvalue())])
+            wanted = {name: hashlib.sha256(data).hexdigest() for name, data in members.items()}
+            self.assertEqual({each['name']: each['sum'] for each in found['members'] if each['name'] != 'folder'}, wanted)
+            self.assertEqual((found['kind'], found['isWhole'], found['odd']), ('tar', True, ''))
+            cut, = self.read([self.file('cut.tar', held.getvalue()[:1200])])
+            self.assertEqual((cut['isWhole'], cut['odd']), (False, 'it does not come to its end'))
 
 
 class InThePage(InChromium):

@@ -8,8 +8,8 @@ from typing import Any, Callable, Dict, Optional
 
 from ..addresses import given
 from ..errors import PicklestepError, Refused, reason
+from ..plain import plainly
 from ..shell.edits import EditError
-from ..shell.plain import plainly
 from ..shell.shell import Shell, WordError
 from .arguments import Arguments, RequestError
 from .breakpoints import FILTERS, Breakpoints
@@ -28,9 +28,10 @@ _MOST_COMMAND = 60  # (letters of a command that are shown)
 _CAPABILITIES: Fields = {
     **dict.fromkeys(
         ('supportsConfigurationDoneRequest', 'supportsFunctionBreakpoints', 'supportsInstructionBreakpoints', 'supportsDataBreakpoints',
-         'supportsEvaluateForHovers', 'supportsStepBack', 'supportsSteppingGranularity', 'supportsSetVariable', 'supportsGotoTargetsRequest',
-         'supportsCompletionsRequest', 'supportsDelayedStackTraceLoading', 'supportsLoadedSourcesRequest', 'supportsExceptionInfoRequest',
-         'supportsReadMemoryRequest', 'supportsWriteMemoryRequest', 'supportsDisassembleRequest', 'supportsTerminateRequest'), True),
+         'supportsConditionalBreakpoints', 'supportsEvaluateForHovers', 'supportsStepBack', 'supportsSteppingGranularity', 'supportsSetVariable',
+         'supportsGotoTargetsRequest', 'supportsCompletionsRequest', 'supportsDelayedStackTraceLoading', 'supportsLoadedSourcesRequest',
+         'supportsExceptionInfoRequest', 'supportsReadMemoryRequest', 'supportsWriteMemoryRequest', 'supportsDisassembleRequest',
+         'supportsTerminateRequest'), True),
     'completionTriggerCharacters': [' ', '@'],
     'exceptionBreakpointFilters': [{'filter': name, 'label': label, 'default': False} for name, label in FILTERS.items()]}
 

@@ -14,14 +14,15 @@ class RequestError(Exception):
 
 
 class Arguments:
-    """What a request asks for. Raises RequestError where something is not there, or is of another type.
+    """What a request asks for. Raises RequestError where something is not there, or is of another type. (What is null is not there: so some clients
+    write empty arrays.)
 
     >>> Arguments({'count': 3}).number('count')
     3
     """
 
     def __init__(self, fields: Fields) -> None:
-        self._fields = fields
+        self._fields = {name: value for name, value in fields.items() if value is not None}
 
     def text(self, name: str, otherwise: Optional[str] = None) -> str:
         """A text; `otherwise`, where that is given and there is none."""
@@ -67,4 +68,4 @@ class Arguments:
 
     def has(self, name: str) -> bool:
         """Whether there is something of a name."""
-        return self._fields.get(name) is not None
+        return name in self._fields

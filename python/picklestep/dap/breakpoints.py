@@ -84,15 +84,15 @@ class Breakpoints:
         self._told = self._known()
         return {'breakpoints': answers}
 
-    def _at(self, place: int) -> Tuple[List[Break], Fields]:
-        return [self._target.shell.set_break('at', str(place))], self._place(place)
+    def _at(self, place: int, each: Arguments) -> Tuple[List[Break], Fields]:
+        return [self._target.shell.set_break('at', str(place), each.text('condition', ''))], self._place(place)
 
     def _lines(self, arguments: Arguments) -> Fields:
         given = arguments.inner('source')
 
         def of_line(each: Arguments) -> Tuple[List[Break], Fields]:
             line = each.number('line')
-            found, fields = self._at(self._target.place_of_line(given, line))
+            found, fields = self._at(self._target.place_of_line(given, line), each)
             return found, {**fields, 'line': line} if not is_python else {'line': line, 'instructionReference': fields['instructionReference']}
 
         try:
@@ -109,14 +109,14 @@ class Breakpoints:
                 raise RequestError('a name or a pattern is wanted, as os.*')
             if not any(next(BREAKS[kind](self._target.pickle, pattern, 0, 1), None) is not None for kind in kinds):
                 raise RequestError(f'nothing that the pickle imports or calls is {pattern[:60]!r}')
-            return [self._target.shell.set_break(kind, pattern) for kind in kinds], {}
+            return [self._target.shell.set_break(kind, pattern, each.text('condition', '')) for kind in kinds], {}
 
         return self._anew('function', [_bound(of_name, each) for each in arguments.each('breakpoints')])
 
     def _instructions(self, arguments: Arguments) -> Fields:
         def of_address(each: Arguments) -> Tuple[List[Break], Fields]:
             offset = self._target.offset(each.text('instructionReference')) + each.number('offset', 0)
-            return self._at(self._target.place_at(offset))
+            return self._at(self._target.place_at(offset), each)
 
         return self._anew('instruction', [_bound(of_address, each) for each in arguments.each('breakpoints')])
 
@@ -125,7 +125,7 @@ class Breakpoints:
             what, _, number = each.text('dataId').partition(' ')
             if what not in ('change', 'store'):
                 raise RequestError('this is no dataId of dataBreakpointInfo')
-            return [self._target.shell.set_break(what, number)], {}
+            return [self._target.shell.set_break(what, number, each.text('condition', ''))], {}
 
         return self._anew('data', [_bound(of_datum, each) for each in arguments.each('breakpoints')])
 

@@ -3,10 +3,12 @@
 from __future__ import annotations
 
 import re
-from typing import Callable, Dict
+from typing import Callable, Dict, Optional
 
 from ..opcodes import BY_NAME
+from ..records import Ref
 from ..shell.complete import completions
+from ..shell.expressions import Expression, ExpressionError
 from ..shell.shell import WordError
 from ..shell.words import WORDS, understood
 from .arguments import Arguments, RequestError
@@ -28,6 +30,14 @@ def _is_look(line: str) -> bool:
     return name in WORDS and WORDS[name].group == 'look'
 
 
+def _expression(line: str) -> Optional[Expression]:
+    """The expression that a line is, if it is one."""
+    try:
+        return Expression(line)
+    except ExpressionError:
+        return None
+
+
 class Console:
     """Does what is typed. `moved` is told where the pickle was before a line that let it go elsewhere."""
 
@@ -44,11 +54,25 @@ class Console:
             return self._object(int(found[1]))
         if context == 'hover' and line.upper() in BY_NAME:
             return {'result': BY_NAME[line.upper()].sentence, 'variablesReference': 0}
-        if context != 'repl' and not _is_look(line):
-            raise RequestError('outside of the console only an object (#3) or a word that shows something is evaluated')
+        if context != 'repl':
+            expression = _expression(line)
+            if expression is not None:
+                return self._value(expression)
+            if not _is_look(line):
+                raise RequestError('outside of the console only a value (#3, top) or a word that shows something is evaluated')
         if '\n' in line:
             raise RequestError('one line at a time is done')
         return {'result': self._obey(line), 'variablesReference': 0}
+
+    def _value(self, expression: Expression) -> Fields:
+        self._target.here()
+        try:
+            value = expression.value(self._target.pickle)
+        except ExpressionError as error:
+            raise RequestError(str(error)) from error
+        if isinstance(value, Ref):
+            return self._object(value.number)
+        return {'result': expression.shown(self._target.pickle), 'variablesReference': 0}
 
     def _object(self, number: int) -> Fields:
         self._target.here()

@@ -6,7 +6,7 @@ import base64
 import binascii
 from typing import Callable, Dict, List
 
-from ..shell.opened import Edit
+from ..shell.edits import Edit
 from ..view.lines import CODE_BY_NAME
 from .arguments import Arguments, RequestError
 from .target import Target

@@ -5,10 +5,10 @@ from __future__ import annotations
 from typing import Callable, Dict, List, Sequence
 
 from ..errors import PicklestepError, Refused
+from ..plain import plainly
 from ..replies import is_mark, number_in_word, opcode_refused_in, words_of
 from ..shell.breaks import is_hit
 from ..shell.nests import behind_mark, behind_next
-from ..shell.plain import plainly
 from ..shell.shell import WordError
 from .arguments import Arguments, RequestError
 from .breakpoints import Breakpoints

@@ -10,7 +10,8 @@ from typing import Callable, List, Optional
 from ..errors import PicklestepError
 from ..python_source import source
 from ..records import Where
-from ..shell.opened import Edit, Opened
+from ..shell.edits import Edit
+from ..shell.opened import Opened
 from ..shell.shell import Shell, WordError
 from .arguments import Arguments, RequestError
 from .wire import Fields

@@ -13,7 +13,7 @@ from bisect import bisect_right
 from typing import Any, Dict, List, NamedTuple, Optional, Protocol, Sequence, Tuple
 
 from ..arguments import ArgumentValue, encoded
-from ..listed import offset_of
+from ..printed import offset_of
 from ..opcodes import TABLE
 from ..replies import is_mark
 from ..tasks import listing, objects

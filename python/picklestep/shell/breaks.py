@@ -1,4 +1,5 @@
-"""Breakpoints: on a place, an opcode, an import, a call, a text, a memo key, a change of an object or a key, or a number of open marks."""
+"""Breakpoints: on a place, an opcode, an import, a call, a text, a memo key, a change of an object or a key, or a number of open marks; each where
+a condition is true, if it has one."""
 
 from __future__ import annotations
 
@@ -6,33 +7,65 @@ from bisect import bisect_left, bisect_right
 from dataclasses import dataclass
 from fnmatch import fnmatchcase
 from heapq import merge
-from typing import Callable, Dict, Iterator, Optional
+from typing import Callable, Dict, Iterator, Optional, Tuple
 
-from ..records import Extension, Global, Name, Ref
+from ..errors import Refused
+from ..opcodes import BY_NAME
 from ..texts import has_key
 from ..view.document import around, in_a_line
 from ..view.lines import CODE_BY_NAME
+from .edits import unquoted
+from .expressions import Expression, dotted
 from .opened import Opened
 
-__all__ = ['BREAKS', 'Break', 'OF_NUMBERS', 'is_hit', 'next_break']
+__all__ = ['BREAKS', 'Break', 'BreakError', 'made_break', 'is_hit', 'next_break']
 
 _IMPORTS = ('import', 'inst')
 _CALLS = ('inst', 'call', 'new')
 # The kinds that take a number.
-OF_NUMBERS = frozenset(('at', 'memo', 'store', 'change', 'depth'))
+_OF_NUMBERS = frozenset(('at', 'memo', 'store', 'change', 'depth'))
+_TAKES = {'opcode': 'the name of one', 'import': 'a pattern, as os.*', 'call': 'a pattern, as os.*'}
+# The kind that is at each opcode, which is of use with a condition alone.
+_EACH = 'each'
+
+
+class BreakError(ValueError):
+    """A breakpoint that cannot be set, and why."""
 
 
 @dataclass
 class Break:
-    """A breakpoint. `what` is its kind, `text` what is looked for."""
+    """A breakpoint. `what` is its kind, `text` what is looked for, `condition` what has to be true before the opcode."""
 
     number: int
     what: str
     text: str
     is_on: bool = True
+    condition: Optional[Expression] = None
 
     def __str__(self) -> str:
-        return f'{self.number}: {self.what} {self.text}{"" if self.is_on else " (off)"}'
+        words = ['' if self.what == _EACH else f'{self.what} {self.text}', f'if {self.condition}' if self.condition else '', '' if self.is_on else '(off)']
+        return f'{self.number}: {" ".join(filter(None, words))}'
+
+
+def made_break(pickle: Opened, number: int, what: str, rest: str, condition: str = '') -> Break:
+    """A breakpoint of a kind. Raises BreakError where there can be no such one."""
+    rest = rest.lstrip('#') if what == 'change' else rest.upper() if what == 'opcode' else unquoted(rest) if what == 'text' else rest
+    if what in _OF_NUMBERS and not rest.isdecimal():
+        raise BreakError(f'break {what} takes a number')
+    if what == 'opcode' and rest and rest not in BY_NAME:
+        raise BreakError(f'{rest[:40]!r} is no opcode')
+    if what == 'at' and int(rest) >= len(pickle.lines):
+        raise BreakError(f'there is no opcode at {rest}')
+    if what == _EACH and (rest or not condition):
+        raise BreakError(f"break {_EACH} takes a condition, as in break if top == 'os'")
+    if not rest and what != _EACH:
+        raise BreakError(f'break {what} takes {_TAKES.get(what, "a text")}')
+    return Break(number, what, rest, condition=Expression(condition) if condition else None)
+
+
+def _each(pickle: Opened, text: str, place: int, step: int) -> Iterator[int]:
+    return iter(range(place, len(pickle.lines)) if step > 0 else range(min(place, len(pickle.lines) - 1), -1, -1))
 
 
 def _at_place(pickle: Opened, text: str, place: int, step: int) -> Iterator[int]:
@@ -68,6 +101,8 @@ def _change(pickle: Opened, text: str, place: int, step: int) -> Iterator[int]:
 
 
 def _depth(pickle: Opened, text: str, place: int, step: int) -> Iterator[int]:
+    if int(text) > len(pickle.lines):  # (so many marks are never open, and what is looked for would fill the memory)
+        return iter(())
     found = around(pickle.lines, b' ' * (4 * int(text) + 1), place, step)
     return (at for at in found if pickle.lines.at(at).marks >= int(text))
 
@@ -89,32 +124,40 @@ def _reached(kinds: 'tuple[str, ...]') -> 'Callable[[Opened, str, int, int], Ite
     return found
 
 
-def dotted(name: Name) -> str:
-    """A name as `module.name`. What comes from an object is its number, as in the lines of `calls`.
-
-    >>> dotted(Global(b'os', Ref(3))), dotted(Ref(4)), dotted(Extension(7))
-    ('os.#3', '#4', 'ext 7')
-    """
-    if isinstance(name, Global):
-        return b'.'.join(b'#%d' % part.number if isinstance(part, Ref) else part for part in (name.module, name.name)).decode('utf-8', 'replace')
-    return f'ext {name.code}' if isinstance(name, Extension) else f'#{name.number}'
-
-
 BREAKS: Dict[str, Callable[[Opened, str, int, int], Iterator[int]]] = {
     'at': _at_place, 'opcode': _opcode, 'import': _reached(_IMPORTS), 'call': _reached(_CALLS), 'text': _text, 'memo': _memo, 'store': _store,
-    'change': _change, 'depth': _depth}
+    'change': _change, 'depth': _depth, _EACH: _each}
 
 
-def next_break(pickle: Opened, breaks: 'list[Break]', place: int, step: int) -> Optional[int]:
-    """The nearest place behind this one (before it, where `step` is below 0) at which a breakpoint is."""
-    nearest: Optional[int] = None
-    for point in breaks:
-        found = next(BREAKS[point.what](pickle, point.text, place + step, step), None) if point.is_on and place + step >= 0 else None
-        if found is not None and (nearest is None or (found - nearest) * step < 0):
-            nearest = found
-    return nearest
+def next_break(pickle: Opened, breaks: 'list[Break]', place: int, step: int, most: Optional[int] = None) -> Optional[int]:
+    """The nearest place behind this one (before it, where `step` is below 0) at which a breakpoint is, and none behind `most`.
+
+    Where breakpoints have conditions, the session goes to each place that is asked about, and stays there. Behind an opcode that is refused there is
+    no such place.
+    """
+    points = [point for point in breaks if point.is_on and place + step >= 0]
+    for far, number in merge(*(_ways(pickle, points, number, place + step, step) for number in range(len(points)))):
+        at, point = far * step, points[number]
+        if most is not None and at > most:
+            return None
+        if point.condition is None:
+            return at
+        pickle.tell(f'asking at {at:,}')
+        try:
+            pickle.session.goto(at)
+        except Refused:
+            return None
+        if point.condition.is_true(pickle):
+            return at
+    return None
+
+
+def _ways(pickle: Opened, points: 'list[Break]', number: int, place: int, step: int) -> Iterator[Tuple[int, int]]:
+    """The places of a breakpoint from one on: how far each is on the way, with the breakpoint's number among these."""
+    return ((at * step, number) for at in BREAKS[points[number].what](pickle, points[number].text, place, step))
 
 
 def is_hit(pickle: Opened, point: Break, place: int) -> bool:
-    """Whether a breakpoint is at a place."""
-    return point.is_on and next(BREAKS[point.what](pickle, point.text, place, 1), None) == place
+    """Whether a breakpoint is at a place. One with a condition is asked where the cursor is."""
+    is_there = point.is_on and next(BREAKS[point.what](pickle, point.text, place, 1), None) == place
+    return is_there and (point.condition is None or point.condition.is_true(pickle))

@@ -8,7 +8,8 @@ from typing import Iterable, Iterator, List
 
 from ..addresses import given
 from ..errors import PicklestepError, reason
-from ..python_source.command import print_text
+from ..printing import print_text
+from ..waiting import Waiting
 from ..wording import shown
 from .complete import completions
 from .shell import Shell, WordError
@@ -34,7 +35,9 @@ def main(arguments: List[str]) -> int:
     try:
         pickle, found = given(options.file)
         path, container = (options.file, '') if found is None else ('', found.path)
-        with Shell(pickle, path, options.many, unframed=options.unframed, container=container) as shell:
+        with Waiting() as waiting:
+            opened = Shell(pickle, path, options.many, unframed=options.unframed, container=container, progress=waiting.progress)
+        with opened as shell:
             if options.batch is not None:
                 with open(options.batch, encoding='utf-8') as script:
                     return _obey_all(shell, options.batch, _lines(options.batch, script))
@@ -81,32 +84,41 @@ def _obey_all(shell: Shell, name: str, lines: Iterable[str]) -> int:
     return 0
 
 
-def _answer(shell: Shell, line: str) -> str:
-    """What is shown for a line that is typed."""
-    try:
-        return shell.obey(line)
-    except WordError as error:
-        return str(error)
+def _answer(shell: Shell, terminal: Terminal, line: str) -> str:
+    """What is shown for a line that is typed. After Ctrl-C the shell is where it was, with its edits."""
+    with Waiting() as waiting:
+        def ask(question: str) -> bool:
+            waiting.end()
+            return terminal.ask(question)
+
+        shell.ask, shell.pickle.tell = ask, waiting.progress
+        try:
+            answer = shell.obey(line)
+        except WordError as error:
+            answer = str(error)
+        except KeyboardInterrupt:
+            answer = '^C'
+        if not shell.is_over and not shell.is_open:
+            waiting.progress('opening it again')
+            shell.pickle.reopen()
+        return answer
 
 
 def _converse(shell: Shell) -> int:
     """Runs lines that are typed."""
     terminal = Terminal(lambda before: completions(shell.pickle, before))
-    shell.ask = terminal.ask
     terminal.show('\n'.join([shell.obey('where'), *shell.hints(), '`help` shows the words.']))
     try:
         while not shell.is_over:
             for line in terminal.lines():
                 try:
-                    terminal.show(_answer(shell, line))
-                except KeyboardInterrupt:
-                    if not shell.is_open:
-                        raise
+                    terminal.show(_answer(shell, terminal, line))
+                except KeyboardInterrupt:  # (while the answer was shown: what is left of it is not)
                     terminal.show('^C')
                 if shell.is_over:
                     break
             else:
-                shell.obey('quit')
+                _answer(shell, terminal, 'quit')
     finally:
         terminal.close()
     return 0

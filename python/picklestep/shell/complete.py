@@ -6,9 +6,10 @@ from typing import Dict, List
 
 from ..opcodes import BY_NAME
 from ..records import Global
-from .breaks import BREAKS, dotted
+from .breaks import BREAKS
+from .expressions import NAMES, dotted
 from .opened import Opened
-from .words import WORDS
+from .words import OTHERS, WORDS, whole_word
 
 __all__ = ['completions']
 
@@ -16,18 +17,21 @@ _MOST = 50
 _MOST_NAMES = 2000
 _NAMED = ('import', 'call', 'rename')
 _WITH_OPCODES = ('opcode', 'replace', 'insert', 'explain')
+_WITH_VALUES = ('show', 'display', 'condition')
 
 
 def completions(pickle: Opened, before: str) -> List[str]:
     """What the last word of a line can be, by how it begins."""
     *words, begun = before.split(' ')
     if not words:
-        return [name for name in WORDS if name.startswith(begun)]
+        return [name for name in (*WORDS, *(OTHERS if begun else ())) if name.startswith(begun)]
     if begun.startswith('@'):
         return _offsets(pickle, begun)
     found: List[str] = list(WORDS) if words[0] == 'help' else []
     if words == ['break']:
         found += BREAKS
+    if whole_word(words[0])[0] in _WITH_VALUES or 'if' in words:
+        found += NAMES
     if words[0] in _WITH_OPCODES or words[-1] in _WITH_OPCODES:
         found += BY_NAME
     if words[-1] in _NAMED:

@@ -4,13 +4,17 @@ from __future__ import annotations
 
 import re
 from ast import literal_eval
-from typing import Dict, Sequence
+from typing import TYPE_CHECKING, Dict, NamedTuple, Optional, Sequence, Union
 
 from ..arguments import ArgumentValue, encoded
 from ..opcodes import BY_NAME
-from .opened import Edit, Opened
 
-__all__ = ['EditError', 'of_object', 'of_value', 'of_words', 'unquoted']
+if TYPE_CHECKING:
+    from ..renaming.small import Small
+    from ..view.document import Document
+    from .opened import Opened
+
+__all__ = ['Edit', 'EditError', 'of_object', 'of_value', 'of_words', 'unquoted']
 
 # Opcodes that can hold a value of a type, the shortest first.
 _HOLDERS: Dict[type, Sequence[str]] = {
@@ -22,6 +26,17 @@ _PLAIN = frozenset(name for name, info in BY_NAME.items() if not info.takes and 
 _MADE = re.compile(r'(bytearray|float)\((.*)\)|-?(?:inf|nan)')
 # Texts of Python 2, and what is put in their place where a sign is beyond ASCII: Python 3 would not load its bytes, or another text of them.
 _LEGACY = {'STRING': 'UNICODE', 'BINSTRING': 'BINUNICODE', 'SHORT_BINSTRING': 'BINUNICODE'}
+
+
+class Edit(NamedTuple):
+    """An edit: its word, the place, and for `replace` and `insert` an opcode with its values, or its argument as bytes."""
+
+    word: str
+    place: int
+    name: str = ''
+    values: Sequence[ArgumentValue] = ()
+    raw: Optional[bytes] = None
+    members: int = 0
 
 
 class EditError(ValueError):
@@ -70,7 +85,7 @@ def unquoted(text: str) -> str:
     return value if isinstance(value, str) else text
 
 
-def of_value(pickle: Opened, edit: Edit, now: str) -> Edit:
+def of_value(pickle: 'Union[Document, Small]', edit: Edit, now: str) -> Edit:
     """An edit that names its opcode: the one that is there, or else the shortest of the pickle's protocol that can hold the value."""
     if edit.name:
         return edit
@@ -110,13 +125,13 @@ def _fitting(edit: Edit, name: str, value: ArgumentValue) -> 'Edit | None':
     return edit._replace(name=name)
 
 
-def _protocol(pickle: Opened) -> int:
+def _protocol(pickle: 'Union[Document, Small]') -> int:
     """The protocol of the pickle, by its first opcode."""
     first = pickle.lines.at(0) if len(pickle.lines) else None
     return int(first.argument) if first is not None and first.name == 'PROTO' else 1
 
 
-def of_object(pickle: Opened, number: int, text: str) -> Edit:
+def of_object(pickle: 'Opened', number: int, text: str) -> Edit:
     """The edit of the opcode that made an object."""
     maker = pickle.maker(number)
     if maker is None:

@@ -11,9 +11,10 @@ Answer = TypeVar('Answer')
 
 
 class Later(Generic[Answer]):
-    """Some work, which goes on at once.
+    """Some work, which goes on once it is started. Whoever keeps it where the work itself can see it starts it afterwards: what the work then finds
+    there is no question of time.
 
-    >>> Later(lambda: 6 * 7).result()
+    >>> Later(lambda: 6 * 7).start().result()
     42
     """
 
@@ -22,7 +23,11 @@ class Later(Generic[Answer]):
         self._answers: List[Answer] = []
         self._error: Optional[BaseException] = None
         self._thread = threading.Thread(target=self._run, daemon=True)
+
+    def start(self) -> 'Later[Answer]':
+        """Begins the work, and answers itself."""
         self._thread.start()
+        return self
 
     def _run(self) -> None:
         try:

@@ -5,40 +5,29 @@ from __future__ import annotations
 import contextlib
 import threading
 from itertools import islice
-from typing import Any, Callable, Dict, Iterator, List, NamedTuple, Optional, Sequence, Set, Tuple
+from typing import Any, Callable, Dict, Iterator, List, NamedTuple, Optional, Sequence, Tuple
 
-from ..arguments import ArgumentValue
 from ..changes import changed
 from ..comparing import shown_value
 from ..errors import NoResult, Refused
 from ..python_source.shapes import BRACKETS
-from ..records import Global, Object, Reach, Ref, Where
+from ..records import Global, Object, Ref, Where
 from ..replies import opcode_refused_in, words_of
-from ..session import SHIFTS
+from ..session import SHIFTS, Session
 from ..sources import Input, Source
 from ..texts import LinesError, behind_word, count_held, end_of_texts, held_in, key_in, object_of
 from ..values import PLAIN_KINDS, kind_value
 from ..view.document import Document, Done, Reaches, places_edited
-from ..view.lines import CODE_BY_NAME, Line, Lines, OpcodeLines
+from ..view.lines import CODE_BY_NAME, Line, Lines, OpcodeLines, silent
 from .between import MOST_EDITS, Between, Objects, Put, Unknown, is_known_edit
+from .edits import Edit
 from .history import History
 from .later import Later
 
-__all__ = ['Edit', 'Opened']
+__all__ = ['Opened']
 
 _MOST_ITEMS = 4
 _MOST_KEY = 4  # levels of tuples and frozen sets
-
-
-class Edit(NamedTuple):
-    """An edit: its word, the place, and for `replace` and `insert` an opcode with its values, or its argument as bytes."""
-
-    word: str
-    place: int
-    name: str = ''
-    values: Sequence[ArgumentValue] = ()
-    raw: Optional[bytes] = None
-    members: int = 0
 
 
 class _Base(NamedTuple):
@@ -84,11 +73,23 @@ class Opened(Document):
     _known: Optional[Dict[str, Any]] = None  # what was read before the latest change
     _turn = ''  # the word of that: '' is an edit
 
-    def __init__(self, source: Source, name: str, many: bool = False, *, unframed: bool = False) -> None:
-        """Reads a pickle."""
+    def __init__(self, source: Source, name: str, many: bool = False, progress: Callable[[str], None] = silent, *, unframed: bool = False) -> None:
+        """Reads a pickle. While that goes on, `progress` is given how far it is; later `tell` is, where something takes long."""
+        self._source, self._is_many, self._is_unframed = source, many, unframed
+        self.tell: Callable[[str], None] = silent
         self._free = threading.Event()  # whoever reads beside the prompt may go on
         self._free.set()
-        super().__init__(source, name, many, unframed=unframed)
+        super().__init__(source, name, many, progress, unframed=unframed)
+
+    def reopen(self) -> None:
+        """Has a session anew, after one that was interrupted within an answer: with the edits, and where the cursor was."""
+        edits = self.session._talk.edits()[:len(self._edits)]
+        self.session.close()
+        self.session = Session(self._source, many=self._is_many, unframed=self._is_unframed)
+        for line in edits:
+            self.session._talk.line(line.rstrip(b'\n'))
+        self._undone = []
+        self._return(self.place)
 
     # --- The pickle ---
 
@@ -242,7 +243,7 @@ class Opened(Document):
             return self._edition == edition
 
         until = listed - int(behind_word(lines.closing, 'refused') is not None)
-        return Later(lambda: History(lines, until, is_wanted))
+        return Later(lambda: History(lines, until, is_wanted)).start()
 
     def content(self) -> bytes:
         """The bytes of the pickle as it is."""
@@ -271,6 +272,8 @@ class Opened(Document):
             sent, edition, codes = self.session._talk.edits(), self._edition, self._codes
             self._moving = Later(lambda: self._return(here))
             self._reading = Later(lambda: self._read_beside(sent, edition, codes))
+            self._moving.start()
+            self._reading.start()
             return
 
         def back_and_return() -> None:
@@ -284,6 +287,7 @@ class Opened(Document):
             self._return(here)
             Document._changed(self, edits, undone, back_and_return)
         self._reading = Later(read)
+        self._reading.start()
 
     def _between_of(self, base: _Base, edits: List[Done]) -> Optional[Between]:
         """What is known after edits before the pickle is read anew, if something is."""
@@ -305,26 +309,8 @@ class Opened(Document):
         self._edits, self._undone, self.edited, self._heap = edits, undone, places_edited(edits), None
         self.version, self._content = version, (version if has_content else 0, self._content[1])
         self._reading = Later(lambda: self._return(here))
+        self._reading.start()
         self._follow()
-
-    @property
-    def final_text(self) -> bytearray:
-        """The lines of all objects, as they are at the end."""
-        return self._final.text
-
-    def left(self) -> Optional[Set[int]]:
-        """The results, and the objects on the stack where reading ends early. None where an opcode is refused, behind which there may be more."""
-        where = self.session.where()
-        here, why = where.place, 'end'
-        if here < where.places:
-            try:
-                why = self.session.run().why
-            except Refused:  # (the opcode at the cursor)
-                why = 'refused'
-        where = self.session.where()
-        stack = [] if where.end.is_stopped else [entry.number for entry in self.session.stack() if isinstance(entry, Ref)]
-        self.session.goto(here)
-        return {*where.results, *stack} if why == 'end' else None
 
     @property
     def array_at(self) -> Optional[int]:
@@ -345,7 +331,7 @@ class Opened(Document):
         """The place of the opcode that makes an object, if there is such an object."""
         if self._shown is not None and not self._shown.has_made(number):
             raise Unknown
-        return self._makers.place(number) if 0 <= number < len(self._final) else None
+        return super().maker(number)
 
     def changers(self, number: int) -> List[int]:
         """The places of the opcodes that change an object."""
@@ -367,10 +353,6 @@ class Opened(Document):
         """How many objects these opcodes store in the memo, and the last of them, each with its key."""
         places, objects = self._history.result().stored(begin, end)
         return len(places), [(key_in(self.lines.raw(place)), number) for place, number in zip(places[-most:], objects[-most:])]
-
-    def imports(self) -> Iterator[Reach]:
-        """What is imported, in its order."""
-        return (self.reaches.answer[at] for at, kind in enumerate(self.reaches.kinds) if kind in ('import', 'inst'))
 
     def calls_at(self, place: int, line: Line) -> List[str]:
         """What `calls` says of the opcode at a place, of which this is the line."""
@@ -537,6 +519,14 @@ class Opened(Document):
 
     # --- Objects by their values ---
 
+    def is_plain(self, number: int) -> bool:
+        """Whether an object is a plain value."""
+        return self.final_brief(number).partition(' ')[0] in PLAIN_KINDS
+
+    def is_short(self, number: int) -> bool:
+        """Whether an object holds so little that an expression looks at all of it."""
+        return _size(self._final, number) <= _MOST_HELD
+
     def object_at(self, number: int) -> Optional[Object]:
         """An object, unless its text is so long that it was not kept whole."""
         heap = self._objects()
@@ -546,11 +536,6 @@ class Opened(Document):
             return object_of(heap.raw(number))
         except (LinesError, ValueError):
             return None
-
-    def makes(self, place: int) -> Optional[int]:
-        """The number of the object that the opcode at a place makes, if it makes one."""
-        number = self._makers.before(place)
-        return number if number < min(len(self._final), self._makers.before(place + 1)) else None
 
     def held(self, number: int) -> Iterator[Tuple[Optional[int], str, int]]:
         """What an object holds: for each the object that is its key, if it has one, how it was put in, and its number."""
@@ -663,6 +648,7 @@ _READ = ('lines', '_final', 'reaches', 'listed', '_makers', '_content', 'version
 # Of at most so many bytes of lines it is kept.
 _MOST_KEPT = 1 << 28
 _MOST_LINE = 400
+_MOST_HELD = 20_000  # (letters of its line)
 _CALL = '(', ')'
 _FRAME = CODE_BY_NAME['FRAME']
 _READONLY = CODE_BY_NAME['READONLY_BUFFER']

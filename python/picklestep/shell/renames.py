@@ -1,25 +1,29 @@
-"""Renames a module, or a name in it, in all imports of a pickle, and changes nothing else.
+"""Gives other names to what a pickle imports, and changes nothing else.
 
 Picklers store a text once, also where it is a module's name in one place and data in another. Such a text stays: the import gets one of its own.
 """
 
 from __future__ import annotations
 
-from typing import Dict, Iterator, List, NamedTuple, Optional, Sequence, Set, Tuple
+from typing import TYPE_CHECKING, Dict, Iterable, Iterator, List, NamedTuple, Optional, Sequence, Set, Tuple, Union
 
 from ..opcodes import BY_NAME
-from ..records import Global, Name
+from ..records import Reach
+from ..renaming.pairs import Names, Pairs, encoded_names, names_of
 from ..texts import HELD, NAMED_BY_TEXTS, end_of_texts
-from .edits import EditError, of_value
-from .opened import Edit, Opened
+from .edits import Edit, EditError, of_value
 
-__all__ = ['Renaming', 'names_of', 'renaming']
+if TYPE_CHECKING:
+    from ..renaming.small import Small
+    from ..view.document import Document
+
+__all__ = ['Renaming', 'named_at', 'renamed_of', 'renaming', 'renaming_of']
 
 _STORES = ('MEMOIZE', 'PUT', 'BINPUT', 'LONG_BINPUT')
+# What may stand behind the number of an object.
+_BEHIND = (b' ', b')', b']', b'\n')
 _GETS = ('GET', 'BINGET', 'LONG_BINGET')
 _TEXTS = tuple(name for name in BY_NAME if 'UNICODE' in name or 'STRING' in name)
-
-Names = Tuple[str, str]
 
 
 class Renaming(NamedTuple):
@@ -31,81 +35,66 @@ class Renaming(NamedTuple):
 
 
 class _Import(NamedTuple):
-    """An import whose names are known: those in the pickle, and those that it is to have."""
+    """An import whose names are known, by its offset and its object: the names in the pickle, and those that it is to have."""
 
-    place: int
+    offset: int
+    number: Optional[int]
     names: Names
     wanted: Names
 
 
-def renaming(pickle: Opened, old: str, new: str) -> Renaming:
-    """Renames a module, with what is in it, wherever the pickle imports from it. `module:name` renames one name alone."""
-    new = _whole(old, new)
+def renaming(pickle: 'Document', pairs: Pairs) -> Renaming:
+    """The edits that rename what the pickle imports, wherever it imports it."""
     if pickle.reaches.is_part:
         raise EditError(pickle.reaches.behind[0])
+    return renaming_of(pickle, pairs, pickle.imports())
+
+
+def renaming_of(pickle: 'Union[Document, Small]', pairs: Pairs, reaches: Iterable[Reach]) -> Renaming:
+    """The same for these lines of imports."""
     names: List[Optional[Names]] = []
     imports: List[_Import] = []
-    for reach in pickle.imports():
-        known = names_of(reach.said or reach.name)
-        names.append(known and _renamed([names_of(reach.name), known], old, new) or known)
-        if known and names[-1]:
-            imports.append(_Import(pickle.lines.place_of(reach.offset), known, names[-1]))
+    for reach in reaches:
+        known, wanted = renamed_of(reach, pairs)
+        names.append(wanted)
+        if known and wanted:
+            imports.append(_Import(reach.offset, reach.number, known, wanted))
     if all(each.names == each.wanted for each in imports):
         return Renaming([], [], names)
     edits, stays = _Texts(pickle, imports).edits()
     return Renaming(edits, stays, names)
 
 
-def _whole(old: str, new: str) -> str:
-    """The new module, or for `module:name` the new module and name: a name without a module stays in its module."""
-    if ':' in old and ':' not in new:
-        new = f'{old.partition(":")[0]}:{new}'
-    parts = new.split(':', 1)
-    if not all(parts) or (':' in new) != (':' in old):
-        raise EditError(f'{new[:60]!r} is no new name: give {"MODULE:NAME or NAME" if ":" in old else "a module"}')
-    return new
+def renamed_of(reach: Reach, pairs: Pairs) -> Tuple[Optional[Names], Optional[Names]]:
+    """The names of an import as they are in the pickle, and as they have to be then; None where they are not known."""
+    known = names_of(reach.said or reach.name)
+    return known, known and (pairs.of([names_of(reach.name), known]) or known)
 
 
-def names_of(name: Optional[Name]) -> Optional[Names]:
-    """What is imported as two texts, if both are known. Bytes that are no text are kept by escapes of Python's own."""
-    if not isinstance(name, Global) or not isinstance(name.module, bytes) or not isinstance(name.name, bytes):
-        return None
-    return name.module.decode('utf-8', 'surrogateescape'), name.name.decode('utf-8', 'surrogateescape')
-
-
-def _renamed(known: Sequence[Optional[Names]], old: str, new: str) -> Optional[Names]:
-    """The new names of an import, if it is renamed: by its names in Python 3, or by those in the pickle."""
-    changed = (_changed(names, old, new) for names in known if names)
-    return next((wanted for wanted, names in zip(changed, filter(None, known)) if wanted != names), None)
-
-
-def _changed(names: Names, old: str, new: str) -> Names:
-    module, name = names
-    if ':' in old:
-        return (new.partition(':')[0], new.partition(':')[2]) if f'{module}:{name}' == old else names
-    return (new + module[len(old):], name) if module == old or module.startswith(old + '.') else names
+def named_at(heap: Union[bytes, bytearray], name: bytes) -> Iterator[int]:
+    """Where lines name an object, `#` and its number."""
+    for behind in _BEHIND:
+        at = heap.find(name + behind)
+        while at >= 0:
+            yield at
+            at = heap.find(name + behind, at + 1)
 
 
 class _Texts:
     """The texts that imports take from the stack, and what else each of them is."""
 
-    def __init__(self, pickle: Opened, imports: Sequence[_Import]) -> None:
+    def __init__(self, pickle: 'Union[Document, Small]', imports: Sequence[_Import]) -> None:
         self._pickle = pickle
         self._imports = imports
-        found = NAMED_BY_TEXTS.finditer(pickle.final_text)
+        found = NAMED_BY_TEXTS.finditer(pickle.final.text)
         self._parts = {int(match[1]): (int(match[2]), int(match[3])) for match in found}
-        self._made: Dict[int, int] = {}  # the objects of the imports that take texts, by their places
-        for each in imports:
-            number = pickle.makes(each.place)
-            if number in self._parts:
-                self._made[each.place] = number
         self._uses = self._all_uses()
         self._stays: Set[int] = set()
 
     def _all_uses(self) -> Dict[int, Set[Optional[str]]]:
         """For each text what it is to be: in an import a name, else None, which is to stay as it is."""
         uses: Dict[int, Set[Optional[str]]] = {}
-        by_number = {self._made[each.place]: each.wanted for each in self._imports if each.place in self._made}
+        by_number = {each.number: each.wanted for each in self._imports}
         for number, parts in self._parts.items():
             for part, wanted in zip(parts, by_number.get(number, (None, None))):
                 uses.setdefault(part, set()).add(wanted)
@@ -119,18 +108,17 @@ class _Texts:
         if left is None:
             return texts
         found = texts & left
-        heap, wanted = self._pickle.final_text, {b'%d' % number for number in texts}
-        first = end = 0  # where in a line the objects behind its text and its names begin, and its end
-        for match in HELD.finditer(heap):
-            if match[2] in wanted:
-                if match.start() >= end:
-                    start, end = heap.rfind(b'\n', 0, match.start()) + 1, heap.index(b'\n', match.end())
-                    named = NAMED_BY_TEXTS.match(heap, start)
-                    first = max(end_of_texts(heap, start, end), named.end() if named else 0)
-                if match.start() >= first:
-                    found.add(int(match[2]))
-                    wanted.remove(match[2])
-        return found
+        heap = self._pickle.final.text
+        return found | {number for number in texts - found if self._is_held(heap, b'#%d' % number)}
+
+    def _is_held(self, heap: Union[bytes, bytearray], name: bytes) -> bool:
+        """Whether an object holds another one, and not only as the name of an import."""
+        for at in named_at(heap, name):
+            start = heap.rfind(b'\n', 0, at) + 1
+            named = NAMED_BY_TEXTS.match(heap, start)
+            if at > max(end_of_texts(heap, start, heap.index(b'\n', at)), named.end() if named else 0) and HELD.match(heap, at - 1):
+                return True
+        return False
 
     def edits(self) -> Tuple[List[Edit], List[int]]:
         """The edits, from the first place to the last, and the places of the texts that stay."""
@@ -145,12 +133,12 @@ class _Texts:
 
     def _edits_of(self, each: _Import) -> Iterator[Edit]:
         """The edits for one import: of its own argument, or of the texts that it takes from the stack."""
-        number = self._made.get(each.place)
-        if number is None:
-            yield Edit('replace', each.place, self._pickle.lines.at(each.place).name, [text.encode('utf-8', 'surrogateescape') for text in each.wanted])
+        place, parts = self._pickle.lines.place_of(each.offset), self._parts.get(-1 if each.number is None else each.number)
+        if parts is None:
+            yield Edit('replace', place, self._pickle.lines.at(place).name, encoded_names(each.wanted))
             return
         shared = [False, False]
-        for at, (part, name, wanted) in enumerate(zip(self._parts[number], each.names, each.wanted)):
+        for at, (part, name, wanted) in enumerate(zip(parts, each.names, each.wanted)):
             shared[at] = name != wanted and self._uses[part] != {wanted}
             maker = self._pickle.maker(part)
             assert maker is not None
@@ -159,17 +147,17 @@ class _Texts:
             elif name != wanted:
                 yield self._text('replace', maker, wanted, self._pickle.lines.at(maker).name)
         if any(shared):
-            yield from self._own_texts(each, shared)
+            yield from self._own_texts(place, each.wanted, shared)
 
-    def _own_texts(self, each: _Import, shared: List[bool]) -> Iterator[Edit]:
+    def _own_texts(self, place: int, wanted: Names, shared: List[bool]) -> Iterator[Edit]:
         """The edits that give an import texts of its own, where the opcodes before it push one text each; else both are pushed anew."""
-        name = self._pushed(each.place)
+        name = self._pushed(place)
         module = self._pushed(name[0]) if name else None
         if not name or not module:
-            yield from (Edit('insert', each.place, 'POP') for _ in range(2))
-            yield from (self._text('insert', each.place, text) for text in each.wanted)
+            yield from (Edit('insert', place, 'POP') for _ in range(2))
+            yield from (self._text('insert', place, text) for text in wanted)
             return
-        for (first, end), text, is_shared in zip((module, name), each.wanted, shared):
+        for (first, end), text, is_shared in zip((module, name), wanted, shared):
             if is_shared and end == first + 1 and self._pickle.lines.at(first).name in _GETS:
                 yield self._text('replace', first, text)
             elif is_shared:

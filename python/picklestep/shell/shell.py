@@ -9,28 +9,31 @@ from bisect import bisect_right
 from itertools import accumulate, chain, islice
 from typing import Callable, Dict, List, Optional, Sequence, Tuple
 
-from ..comparing import compare, shown_value
+from ..comparing import compare
 from ..diff import of_reaches
 from ..errors import NoResult, PicklestepError, Refused, reason
 from ..hints import OF_FRAMES, of_array, of_frame
 from ..opcodes import BY_NAME
+from ..plain import plainly
 from ..records import Ref
 from ..python_source import source
+from ..renaming.pairs import names_of, pairs_of
 from ..replies import entry_of, is_mark, last_words, number_in_word, stored_under, words_of
 from ..session import SHIFTS
 from ..sources import Source
-from ..texts import LinesError, opcode_of
 from ..view.document import Done
-from ..view.lines import line_of
-from .breaks import BREAKS, OF_NUMBERS, Break, next_break
+from ..view.lines import silent
+from .breaks import BREAKS, Break, BreakError, is_hit, made_break, next_break
 from .between import Unknown, line_put
-from .edits import EditError, of_object, of_value, of_words, unquoted
+from .displays import Display, made_display
+from .edits import Edit, EditError, of_object, of_value, of_words
 from .explain import taken
+from .expressions import Expression, ExpressionError, split_condition
 from .nests import behind_mark, behind_next
-from .opened import Edit, Opened
-from .plain import plainly
-from .renames import Renaming, names_of, renaming
-from .words import WORDS, help_page, help_pages, understood, whole_word
+from .opened import Opened
+from .renames import Renaming, renaming
+from .shown import MOST_BYTES, latest, shown_argument, shown_bytes, shown_opcode
+from .words import WORDS, help_page, help_pages, no_word, understood, whole_word
 
 __all__ = ['Shell', 'WordError']
 
@@ -38,14 +41,14 @@ _AROUND = 3
 _MOST_LINES = 20
 _MOST_STACK = 3
 _MOST_TAKEN = 4
-_MOST_BYTES = 256
-_TAKES = {'opcode': 'the name of one', 'import': 'a pattern, as os.*', 'call': 'a pattern, as os.*'}
 # The cursor, as a place, and how other places are typed.
 _CURSOR = ('', '.', '$pc')
 _PLACE = re.compile(r'[@*]?(?:0x[0-9a-fA-F]+|[0-9]+)')
+# A name or a pattern, as `break os.system` has it.
+_FUNCTION = re.compile(r'[\w*?]+(?:\.[\w*?]+)+')
 # Words that do nothing without what comes after them.
-_NEED = frozenset('goto until go clear off on find who show replace insert set rename frame'.split())
-_SHOW_OBJECTS = frozenset('step back goto until run go where explain show stack memo objects'.split())
+_NEED = frozenset('goto until go clear off on condition find who show replace insert set rename frame'.split())
+_SHOW_OBJECTS = frozenset('step back goto until run go where explain show stack memo objects display'.split())
 # Words that may do with what is known before the pickle is read after an edit.
 _UNREAD = frozenset('where step back goto until list stack insert replace delete set undo'.split())
 
@@ -66,9 +69,9 @@ class Shell:
     """
 
     def __init__(self, pickle: Source, path: str, many: bool = False, ask: Optional[Callable[[str], bool]] = None, unframed: bool = False,
-                 container: str = '') -> None:
-        """`container` is the file that the pickle was opened in, which is not written over."""
-        self.pickle = Opened(pickle, path, many, unframed=unframed)
+                 container: str = '', progress: Callable[[str], None] = silent) -> None:
+        """`container` is the file that the pickle was opened in, which is not written over. While it is read, `progress` is given how far that is."""
+        self.pickle = Opened(pickle, path, many, progress, unframed=unframed)
         self.pickle.container = container
         self.modes: Dict[str, bool] = {'many': many, 'unframed': unframed}
         self._path = path
@@ -77,6 +80,7 @@ class Shell:
         self._saved: Tuple[Done, ...] = ()
         self._saved_bytes = self._original
         self._breaks: List[Break] = []
+        self._displays: List[Display] = []
         self._hidden: List[List[Break]] = []  # for each edit the breaks whose opcodes went with it, and the same for each that is undone
         self._hidden_back: List[List[Break]] = []
         self._moved: Tuple[List[Tuple[int, int]], List[List[Break]], List[List[Break]]] = [], [], []  # how breaks were moved last
@@ -118,7 +122,7 @@ class Shell:
         except ValueError as error:
             raise WordError(str(error)) from error
         if name not in self._words:
-            raise WordError(f'there is no word {name[:40]!r}; `help` shows them')
+            raise WordError(no_word(name))
         self._last = line if WORDS[name].is_again else ''
         if not text and name in _NEED or text and WORDS[name].usage == name:
             raise WordError(f'it is: {WORDS[name].usage}')
@@ -128,13 +132,18 @@ class Shell:
                     return self._obey_unread(name, text)
             self._settle()
             self._check_names()  # (of a rename that was interrupted)
-            return self._words[name](text) + self._note(name)
+            return self._done(name, text)
         except Refused as error:
             raise WordError(f'refused: {plainly(error.text)}') from error
         except (EditError, ValueError, TypeError, OverflowError, OSError, PicklestepError) as error:
             raise WordError(str(error)) from error
         except Exception as error:  # (edits are not lost for what went wrong in one word)
             raise WordError(f'{name} failed: {type(error).__name__}: {error}') from error
+
+    def _done(self, name: str, text: str) -> str:
+        """What a word answers; behind one that goes somewhere, what is displayed there."""
+        answer = self._words[name](text) + self._note(name)
+        return '\n'.join([answer, *self._displayed()]) if WORDS[name].group == 'go' else answer
 
     def _note(self, name: str) -> str:
         """What is to be known of the objects that a word has shown: where there are many, they are not those at the cursor."""
@@ -147,7 +156,7 @@ class Shell:
         with self.pickle.unread():  # (from here on the cursor is back where it was before the edit)
             here = self.pickle.session.where().place
             try:
-                return self._words[name](text) + self._note(name)
+                return self._done(name, text)
             except Unknown:
                 self._listed = listed
                 self.pickle.session.goto(here)
@@ -201,7 +210,7 @@ class Shell:
         line = self.pickle.lines.at(place)
         marks = '>' if place == here else ' ', '*' if any(point.is_on and point.what == 'at' and int(point.text) == place for point in self._breaks) else ' '
         reached = ''.join(f'   <- {text}' for text in self.pickle.calls_at(place, line))
-        argument = f' {_argument(self.pickle.lines.raw(place), line.argument)}' if line.argument else ''
+        argument = f' {shown_argument(self.pickle.lines.raw(place), line.argument)}' if line.argument else ''
         return f'{"".join(marks)} {place:>6} {line.offset:>5}: {"  " * line.marks}{line.name}{argument}{reached}'
 
     def _rows(self, first: int, last: int, here: int) -> List[str]:
@@ -233,13 +242,13 @@ class Shell:
     def _changed(self, begin: int, known: int, end: int, made: int) -> List[str]:
         """What the opcodes from a place on before another did: the objects that they made, changed and stored, the latest of each."""
         named = [f'#{number} {self.pickle.described(number)}' for number in range(max(known, made - _MOST_STACK), made)]
-        rows = _latest('made:  ', made - known, named)
+        rows = latest('made:  ', made - known, named)
         if not self.pickle.is_followed:
             return [*rows, 'changed: (this is still being found out)']
         changed = [number for number in self.pickle.changed(begin, end) if number < known] if known else []
-        rows += _latest('changed: ', len(changed), [f'#{number} {self.pickle.described(number)}' for number in changed[-_MOST_STACK:]])
+        rows += latest('changed: ', len(changed), [f'#{number} {self.pickle.described(number)}' for number in changed[-_MOST_STACK:]])
         count, stored = self.pickle.stored(begin, end, _MOST_STACK)
-        return rows + _latest('stored: ', count, [f'{key}: #{number} {self.pickle.described(number)}' for key, number in stored])
+        return rows + latest('stored: ', count, [f'{key}: #{number} {self.pickle.described(number)}' for key, number in stored])
 
     def _top(self) -> str:
         """The top of the stack, the highest first."""
@@ -276,17 +285,24 @@ class Shell:
         return self._to(place - self._count(text))
 
     def _do_over(self, text: str) -> str:
-        return self._on(behind_next)
+        return self._on(behind_next, self._count(text))
 
     def _do_out(self, text: str) -> str:
         return self._on(behind_mark)
 
-    def _on(self, behind: Callable[[Opened, int], int]) -> str:
-        """Goes to the place that is behind something, or to a break before it."""
-        before = self._now()
+    def _on(self, behind: Callable[[Opened, int], int], count: int = 1) -> str:
+        """Goes to the place that is behind something, so many times, or to a break before it."""
+        before, why = self._now(), ''
         if before[0] == self.pickle.session.where().places:
             self.pickle.session.step()
-        return self._here(before, self.run(behind(self.pickle, before[0])))
+        for _ in range(count):
+            where = self.pickle.session.where()
+            place = behind(self.pickle, where.place) if where.place < where.places else where.place
+            why = self.run(place) if place > where.place else ''
+            is_stopped = self.pickle.session.where().place != place or place == where.place
+            if is_stopped or count > 1 and any(is_hit(self.pickle, point, place) for point in self._breaks):
+                break
+        return self._here(before, why)
 
     def _do_goto(self, text: str) -> str:
         before = self._now()
@@ -311,12 +327,28 @@ class Shell:
         """Goes on to the next break, to a place if it comes before that, to an opcode that is refused, or to the end. Answers why it did not get there,
         or nothing."""
         where = self.pickle.session.where()
-        ends = [most, next_break(self.pickle, self._breaks, where.place, 1), where.places]
-        return self.pickle.run_to(min(end for end in ends if end is not None))
+        ends = [most, self._next_break(1, most), where.places]
+        end = min(end for end in ends if end is not None)
+        here = self.pickle.session.where().place
+        if here > where.place:  # (conditions were asked up to there)
+            why = '' if here == end else self.pickle.refusal()
+            if here == end or why:
+                return why and f'refused, {why}'
+        return self.pickle.run_to(end)
+
+    def _next_break(self, step: int, most: Optional[int] = None) -> Optional[int]:
+        """The next place of a break on a way. After Ctrl-C the cursor is where it was, as far as the session goes on."""
+        place = self.pickle.session.where().place
+        try:
+            return next_break(self.pickle, self._breaks, place, step, most)
+        except KeyboardInterrupt:
+            with contextlib.suppress(ValueError, PicklestepError):
+                self.pickle.session.goto(place)
+            raise
 
     def run_back(self) -> bool:
         """Goes back to the break before, or to the start. Answers whether there is one."""
-        found = next_break(self.pickle, self._breaks, self.pickle.session.where().place, -1)
+        found = self._next_break(-1)
         self.pickle.session.goto(0 if found is None else found)
         return found is not None
 
@@ -340,28 +372,34 @@ class Shell:
     def _do_break(self, text: str) -> str:
         if not text:
             return '\n'.join(map(str, self._breaks)) or 'no breaks'
-        what, _, rest = text.partition(' ')
-        if what not in BREAKS:
-            what, rest = 'at', str(self._place(text))
-        return str(self.set_break(what, rest.strip()))
+        wanted, condition = split_condition(text)
+        what, _, rest = wanted.partition(' ')
+        if not wanted:
+            what = 'each'
+        elif what not in BREAKS:
+            is_named = wanted not in _CURSOR and _FUNCTION.fullmatch(wanted) is not None
+            what, rest = ('call', wanted) if is_named else ('at', str(self._place(wanted)))
+        return str(self.set_break(what, rest.strip(), condition))
 
-    def set_break(self, what: str, rest: str) -> Break:
-        """Sets a break of a kind."""
-        if what in OF_NUMBERS and not rest.isdecimal():
-            raise WordError(f'break {what} takes a number')
-        if what == 'opcode':
-            rest = rest.upper()
-        if what == 'text':
-            rest = unquoted(rest)
-        if what == 'opcode' and rest and rest not in BY_NAME:
-            raise WordError(f'{rest[:40]!r} is no opcode')
-        if what == 'at' and int(rest) >= len(self.pickle.lines):
-            raise WordError(f'there is no opcode at {rest}')
-        if not rest:
-            raise WordError(f'break {what} takes {_TAKES.get(what, "a text")}')
+    def set_break(self, what: str, rest: str, condition: str = '') -> Break:
+        """Sets a break of a kind. Raises WordError where there can be no such one."""
         known = chain(self._breaks, *self._hidden, *self._hidden_back)
-        self._breaks.append(Break(1 + max([point.number for point in known], default=0), what, rest))
-        return self._breaks[-1]
+        try:
+            point = made_break(self.pickle, 1 + max([point.number for point in known], default=0), what, rest, condition)
+        except (BreakError, ExpressionError) as error:
+            raise WordError(str(error)) from error
+        self._breaks.append(point)
+        return point
+
+    def _do_condition(self, text: str) -> str:
+        number, _, rest = text.partition(' ')
+        point = self._chosen(number)
+        rest = rest.strip()
+        condition = Expression(rest[3:] if rest.startswith('if ') else rest) if rest else None
+        if point.what == 'each' and condition is None:
+            raise WordError(f'break {number} would be at each opcode: clear {number} takes it away')
+        point.condition = condition
+        return str(point)
 
     def clear_break(self, number: int) -> None:
         """Takes a break away, wherever it is: one whose opcode was deleted does not come back with it."""
@@ -390,6 +428,33 @@ class Shell:
         point.is_on = True
         return str(point)
 
+    # --- What is displayed at each stop ---
+
+    def _do_display(self, text: str) -> str:
+        if not text:
+            return '\n'.join(self._displayed()) or 'nothing is displayed'
+        self._displays.append(made_display(1 + max([each.number for each in self._displays], default=0), text))
+        return '\n'.join(self._displayed(self._displays[-1:]))
+
+    def _do_undisplay(self, text: str) -> str:
+        left = [each for each in self._displays if text and each.number != self._count(text)]
+        if text and len(left) == len(self._displays):
+            raise WordError(f'there is no display {text}')
+        self._displays = left
+        return f'display {text} is gone' if text else 'nothing is displayed'
+
+    def _displayed(self, displays: Optional[List[Display]] = None) -> List[str]:
+        """The lines of what is displayed."""
+        rows = []
+        if self._displays:
+            self.pickle.at_cursor()
+        for each in self._displays if displays is None else displays:
+            try:
+                rows.append(f'{each}{each.expression.shown(self.pickle)}' if each.expression else f'{each}{self._words[each.word](each.text)}')
+            except (ValueError, PicklestepError) as error:
+                rows.append(f'{each.number}: {error}')
+        return rows
+
     # --- Looking ---
 
     def _do_where(self, text: str) -> str:
@@ -397,7 +462,7 @@ class Shell:
 
     def _do_list(self, text: str) -> str:
         here = self._now()[0]
-        words = text.split()
+        words = text.replace(',', ' ').split()
         goes_on = not words and self._listed[0] == here and self._listed[1] < len(self.pickle.lines)
         first = self._place(words[0]) if words else self._listed[1] if goes_on else max(0, here - _MOST_LINES // 2)
         last = first + _MOST_LINES if len(words) < 2 else first + self._count(words[1][1:]) if words[1][:1] == '+' else self._place(words[1]) + 1
@@ -439,13 +504,13 @@ class Shell:
             raise WordError(f'it is: {WORDS["hex"].usage}')
         content = self.pickle.content()
         if len(words) > 1 and _PLACE.fullmatch(words[0]) and _is_offset(words[0]):
-            return _bytes(content, _number(words[0]), _number(words[0]) + self._count(words[1]))
+            return shown_bytes(content, _number(words[0]), _number(words[0]) + self._count(words[1]))
         place = self._place(words[0])
         if place >= len(self.pickle.lines):
             raise WordError(f'there is no opcode at {place}')
         start = self.pickle.lines.offset(place)
-        after = self.pickle.lines.offset(place + 1) if place + 1 < len(self.pickle.lines) else min(len(content), start + _MOST_BYTES)
-        return _bytes(content, start, start + self._count(words[1]) if len(words) > 1 else after)
+        after = self.pickle.lines.offset(place + 1) if place + 1 < len(self.pickle.lines) else min(len(content), start + MOST_BYTES)
+        return shown_bytes(content, start, start + self._count(words[1]) if len(words) > 1 else after)
 
     def _do_explain(self, text: str) -> str:
         if text.upper() in BY_NAME:
@@ -495,8 +560,14 @@ class Shell:
         return '\n'.join(rows + ([f'.. {len(changes) - _MOST_LINES} more'] if len(changes) > _MOST_LINES else []))
 
     def _do_show(self, text: str) -> str:
-        number = self._count(text.lstrip('#'))
         self._here()
+        if not text.lstrip('#').isdecimal():
+            expression = Expression(text)
+            value = expression.value(self.pickle)
+            if not isinstance(value, Ref):
+                return expression.shown(self.pickle)
+            text = str(value.number)
+        number = self._count(text.lstrip('#'))
         if number >= self._now()[1]:
             raise WordError(f'object #{number} is not made yet')
         held = self.pickle.holds(number)
@@ -538,7 +609,7 @@ class Shell:
     # --- Edits ---
 
     def _was(self, place: int) -> str:
-        return _shown(self.pickle.lines.raw(place))
+        return shown_opcode(self.pickle.lines.raw(place))
 
     def edit(self, edits: List[Edit]) -> str:
         """Makes edits, all or none, and says what each replaced."""
@@ -567,7 +638,7 @@ class Shell:
             return f'{place}: {old} is gone'
         if edit.word == 'frame':
             self._settle()
-        now = self._was(place) if edit.word == 'frame' else edit.name if not BY_NAME[edit.name].argument else _shown(line_put(edit.name, edit.values, edit.raw))
+        now = self._was(place) if edit.word == 'frame' else edit.name if not BY_NAME[edit.name].argument else shown_opcode(line_put(edit.name, edit.values, edit.raw))
         return f'{place}: {now}' + (f' (was {old})' if old else ' is new')
 
     def _move_breaks(self, moves: Sequence[Tuple[int, int]], shown: List[List[Break]], hidden: List[List[Break]]) -> None:
@@ -601,7 +672,9 @@ class Shell:
         return self.edit([of_words('insert', place, rest)])
 
     def _do_delete(self, text: str) -> str:
-        return self.edit([Edit('delete', self._place(text))])
+        said = self.edit([Edit('delete', self._place(text))])
+        is_break = text.isdecimal() and any(point.number == int(text) for point in self._breaks)
+        return said + (f'\n(`clear {text}` takes break {text} away, and `undo` brings the opcode back.)' if is_break else '')
 
     def _do_frame(self, text: str) -> str:
         words = text.split()
@@ -622,7 +695,7 @@ class Shell:
         words = text.split()
         if len(words) != 2:
             raise WordError(f'it is: {WORDS["rename"].usage}')
-        found = renaming(self.pickle, *words)
+        found = renaming(self.pickle, pairs_of([(words[0], words[1])]))
         end = self.pickle.reaches.answer.end
         if not found.edits:
             ended = '' if end.is_stopped else f' before {end.text}'
@@ -704,8 +777,8 @@ class Shell:
         if not text:
             return help_pages()
         name, _ = whole_word(text)
-        if name not in WORDS:
-            raise WordError(f'there is no word {text[:40]!r}; `help` shows them')
+        if name not in WORDS and name != 'info':
+            raise WordError(no_word(text))
         return help_page(name)
 
 
@@ -720,42 +793,8 @@ def _number(place: str) -> int:
     return int(digits, 16 if digits.startswith('0x') else 10)
 
 
-def _latest(word: str, count: int, shown: List[str]) -> List[str]:
-    """A line of the last of some things, and how many there are besides; none where there are none."""
-    more = [f'{count - len(shown)} more'] if count > len(shown) else []
-    return [word + ', '.join(more + shown)] if count else []
-
-
-def _shown(line: str) -> str:
-    """The opcode that a line of a listing shows, with its argument."""
-    shown = line_of(line)
-    return f'{shown.name} {_argument(line, shown.argument)}'.rstrip()
-
-
-def _argument(line: str, shown: str) -> str:
-    """The argument in a line of a listing as a value of Python, where it is one and was kept whole."""
-    try:
-        opcode = opcode_of(line)
-    except LinesError:
-        return shown
-    is_value = not opcode.note and opcode.argument is not None and not isinstance(opcode.argument, tuple) and ' bytes more' not in shown
-    return shown_value(opcode.value) if is_value else shown
-
-
-def _bytes(content: bytes, start: int, end: int) -> str:
-    """Bytes in hexadecimal and as letters, 16 in a line."""
-    shown = content[start:min(end, start + _MOST_BYTES)]
-    rows = [f'{start + at:>7}: {shown[at:at + 16].hex(" "):47}  {_letters(shown[at:at + 16])}' for at in range(0, len(shown), 16)]
-    more = min(end, len(content)) - start - len(shown)
-    return '\n'.join(rows + ([f'.. {more} bytes more'] if more > 0 else [])) or f'there are {len(content)} bytes'
-
-
 def _names(text: str) -> List[str]:
     """Names of files, which blanks part outside of quotes. A backslash is a sign like others: Windows has it between folders."""
     words = shlex.shlex(text, posix=True)
     words.whitespace_split, words.escape, words.commenters = True, '', ''
     return list(words)
-
-
-def _letters(data: bytes) -> str:
-    return ''.join(chr(byte) if 32 <= byte < 127 else '.' for byte in data)

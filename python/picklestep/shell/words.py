@@ -5,7 +5,7 @@ from __future__ import annotations
 import re
 from typing import Dict, List, NamedTuple, Tuple
 
-__all__ = ['OTHERS', 'SAMPLE', 'WORDS', 'Word', 'examples', 'help_page', 'help_pages', 'understood', 'whole_word']
+__all__ = ['OTHERS', 'SAMPLE', 'WORDS', 'Word', 'examples', 'help_page', 'help_pages', 'no_word', 'understood', 'whole_word']
 
 # The pickle of the examples: a call of a function of a module that was renamed.
 SAMPLE = b'\x80\x02coldapp.tasks\nsend\nq\x00X\x03\x00\x00\x00bobq\x01K\x03\x86q\x02Rq\x03.'
@@ -24,17 +24,21 @@ class Word(NamedTuple):
 WORDS: Dict[str, Word] = {
     'step': Word('go', 'step [N]', 'Goes over one opcode, or N. It stops before an opcode that is refused.', ('step', 'step 5'), True),
     'back': Word('go', 'back [N]', 'Goes back over one opcode, or N: stack, memo and objects are as they were.', ('step 5', 'back 2'), True),
-    'over': Word('go', 'over', 'Goes over one opcode; from one that sets a mark, past the opcode that takes this mark.', ('over',), True),
+    'over': Word('go', 'over [N]', 'Goes over one opcode, or N; from one that sets a mark, past the opcode that takes this mark.', ('over', 'over 2'), True),
     'out': Word('go', 'out', 'Goes past the opcode that takes the mark which was set last.', ('out',), True),
     'goto': Word('go', 'goto PLACE', 'Goes to a place. A place is the number of an opcode, or its offset after @.', ('goto 8', 'goto @2')),
     'until': Word('go', 'until PLACE', 'Goes on to a place ahead, or to an opcode before it that is refused.', ('until @33',)),
     'run': Word('go', 'run, run back', 'Goes on to the next break, a refused opcode or the end; `run back` to the break before, or the start.',
                 ('break call *', 'run', 'run back'), True),
     'go': Word('go', 'go N', 'Goes to the opcode that makes object N.', ('go 3',)),
-    'break': Word('break', 'break [PLACE | opcode NAME | import PATTERN | call PATTERN | text TEXT | memo KEY | store KEY | change N | depth N]',
-                  'Sets a break, or shows all. PATTERN is a module and a name, as os.* (or #4), N an object, or a number of open marks. At `store` '
-                  'the key of the memo is set, at `memo` it is set or read.',
-                  ('break 8', 'break opcode REDUCE', 'break import oldapp.*', 'break change 3', 'break')),
+    'break': Word('break', 'break [PLACE | PATTERN | opcode NAME | import PATTERN | call PATTERN | text TEXT | memo KEY | store KEY | change N | depth N] '
+                  '[if CONDITION]',
+                  'Sets a break, or shows all. PATTERN is a module and a name, as os.* (or #4), alone it is a call; N an object, or a number of open marks. '
+                  'At `store` the key of the memo is set, at `memo` it is set or read. CONDITION is an EXPRESSION of `show`; with it alone each opcode '
+                  'is asked.',
+                  ('break 8', 'break opcode REDUCE', 'break import oldapp.*', 'break change 3', "break if top == 'bob'", 'break', 'run')),
+    'condition': Word('break', 'condition N [CONDITION]', 'Gives break N a condition, or takes it away.',
+                      ('break opcode BINPUT', "condition 1 top == 'bob'", 'run')),
     'clear': Word('break', 'clear N', 'Takes break N away.', ('break 8', 'clear 1')),
     'off': Word('break', 'off N', 'Switches break N off.', ('break 8', 'off 1', 'run')),
     'on': Word('break', 'on N', 'Switches break N on again.', ('break 8', 'off 1', 'on 1')),
@@ -47,7 +51,14 @@ WORDS: Dict[str, Word] = {
     'hex': Word('look', 'hex [PLACE [COUNT]]', 'Shows the bytes of an opcode, or so many from its first.', ('hex 1', 'hex @2 32')),
     'explain': Word('look', 'explain [PLACE | NAME]', 'Says what an opcode does, and what it takes and makes here.', ('goto 8', 'explain')),
     'who': Word('look', 'who N', 'Shows the opcode that made object N, and each that changed it.', ('who 3',)),
-    'show': Word('look', 'show N', 'Shows object N, and what it holds.', ('goto 7', 'show 3')),
+    'show': Word('look', 'show N | EXPRESSION',
+                 'Shows object N and what it holds, or a value. EXPRESSION is as in Python, of top, stack[-2], memo[1], #3, result, opcode, argument, place, '
+                 "offset, marks, len(#3) and kind(top), with ==, !=, <, >, in, and, or, not; a text has quotes, and what is imported none, as in "
+                 'stack[0] == os.system.',
+                 ('goto 7', 'show 3', 'show top', "show stack[0] == oldapp.tasks.send and #1 != 'eve'")),
+    'display': Word('look', 'display [EXPRESSION | WORD]', 'Shows a value, or what a word like `hex` answers, wherever the cursor stops; alone it shows all of '
+                    'them now.', ('display top', 'display hex . 4', 'step 4')),
+    'undisplay': Word('look', 'undisplay [N]', 'Displays N no longer, or nothing.', ('display top', 'undisplay 1')),
     'stack': Word('look', 'stack', 'Shows the stack, the top last.', ('goto 6', 'stack')),
     'memo': Word('look', 'memo [KEY]', 'Shows the memo, or what is under a key.', ('goto 6', 'memo')),
     'objects': Word('look', 'objects [N]', 'Shows the objects that were made before the cursor, from N on.', ('goto 6', 'objects 0')),
@@ -60,8 +71,8 @@ WORDS: Dict[str, Word] = {
     'delete': Word('edit', 'delete [PLACE]', 'Takes an opcode out.', ('delete 9',)),
     'set': Word('edit', 'set N to VALUE', 'Replaces the opcode that makes object N.', ('set 2 to 41',)),
     'rename': Word('edit', 'rename OLD NEW',
-                   'Renames a module in all imports. MODULE:NAME is one name: NEW is a name in that module, or MODULE:NAME. A text that is data '
-                   'too stays, and the import gets its own.',
+                   'Renames a module in all imports. MODULE:NAME is one name: NEW is a name in that module, or MODULE:NAME. MODULE.* is what is below a '
+                   'module. A text that is data too stays, and the import gets its own.',
                    ('rename oldapp newapp', 'rename newapp.tasks:send post')),
     'frame': Word('edit', 'frame PLACE COUNT', 'Puts a frame around opcodes.', ('frame 1 3', 'list 1 2')),
     'unframe': Word('edit', 'unframe [PLACE]', 'Takes a FRAME away, and leaves what is in it.', ('frame 1 3', 'unframe 1')),
@@ -88,16 +99,25 @@ OTHERS: Dict[str, Tuple[str, str]] = {
     **dict.fromkeys(('backtrace', 'bt'), ('stack', '')), 'watch': ('break', 'change'), 'rwatch': ('break', 'memo'), 'disable': ('off', ''),
     'enable': ('on', ''), 'search': ('find', '')}
 
+# Words of gdb and pdb that are none here, and what does something of the kind.
+_NO_WORDS: Dict[str, str] = {
+    'tbreak': '`until PLACE` goes on to a place', 'commands': '`display` shows something wherever the cursor stops', 'kill': '`quit` ends',
+    'ignore': 'a break may have a condition, as `condition 1 place > 8`', 'args': '`explain` shows what an opcode takes',
+    **dict.fromkeys(('up', 'down'), '`stack` shows all of the stack'), **dict.fromkeys(('d', 'del'), '`clear N` takes a break away, `delete PLACE` an opcode')}
+
 # Those that `help` shows.
 _SHOWN = ('next', 'finish', 'reverse-step', 'reverse-continue', 'print', 'disassemble', 'bt', 'watch', 'disable', 'enable')
 # What `info` shows, by the word after it or a beginning of this.
 _INFO: Dict[str, str] = {
-    'breakpoints': 'break', 'watchpoints': 'break', 'stack': 'stack', 'frame': 'where', 'line': 'where', 'program': 'where', 'registers': 'where',
+    'breakpoints': 'break', 'watchpoints': 'break', 'display': 'display', 'stack': 'stack', 'frame': 'where', 'line': 'where', 'program': 'where', 'registers': 'where',
     'locals': 'stack', 'variables': 'memo', 'functions': 'calls', 'source': 'source'}
 _INFO_IS = 'info breakpoints, info stack, info frame, info variables or info functions'
 # Bytes of a unit, as `x/8xw` has it.
 _UNITS = {'b': 1, 'h': 2, 'w': 4, 'g': 8}
 _EXAMINE = re.compile(r'x/([0-9]{0,6})([a-z]{0,2})')
+# A word that prints, with a form, of which there is one and that of opcodes; and a key of the memo, to be watched.
+_PRINT = re.compile(r'(p|print|inspect|display)/([a-z0-9]+)')
+_KEY = re.compile(r'memo ?\[?([0-9]+)\]?')
 
 
 def understood(line: str) -> Tuple[str, str]:
@@ -119,7 +139,13 @@ def understood(line: str) -> Tuple[str, str]:
         if not found:
             raise ValueError(f'it is: {_INFO_IS}')
         return found[0], ''
-    name, before = whole_word(word)
+    printed, key = _PRINT.fullmatch(word), _KEY.match(rest) if word == 'watch' else None
+    if key is not None:
+        return 'break', f'store {key[1]}{rest[key.end():]}'
+    if printed is not None and printed[2].endswith('i'):
+        before = 'display ' if printed[1] == 'display' else ''
+        return (before or 'list').strip(), f'{"list " if before else ""}{rest or "."} +{printed[2][:-1] or 1}'
+    name, before = whole_word(printed[1] if printed is not None else word)
     return name, f'{before} {rest}'.strip()
 
 
@@ -131,6 +157,15 @@ def whole_word(word: str) -> Tuple[str, str]:
         return _SHORT.get(word) or OTHERS[word]
     known = [name for name in WORDS if name.startswith(word)]
     return (known[0], '') if len(known) == 1 else (word, '')
+
+
+def no_word(word: str) -> str:
+    """What is said of a word that is none.
+
+    >>> no_word('tbreak'), no_word('stepp')
+    ("there is no word 'tbreak': `until PLACE` goes on to a place", "there is no word 'stepp'; `help` shows them")
+    """
+    return f'there is no word {word[:40]!r}' + (f': {_NO_WORDS[word]}' if word in _NO_WORDS else '; `help` shows them')
 
 
 def help_pages() -> str:
@@ -146,6 +181,8 @@ def help_pages() -> str:
 
 def help_page(name: str) -> str:
     """The page of a word."""
+    if name == 'info':
+        return f'{_INFO_IS}\n\nAs gdb has them.'
     word = WORDS[name]
     return '\n'.join([word.usage, '', word.page, '', 'Example:', *(f'    {line}' for line in word.example)])
 

@@ -1,5 +1,1 @@
-"""`python -m picklestep view FILE`: the debugger in a browser, and reports as pages of their own."""
-
-from .command import main
-
-__all__ = ['main']
+"""`picklestep view FILE`: the debugger in a browser, and reports as pages of their own. The word is in `command`."""

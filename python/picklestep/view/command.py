@@ -25,6 +25,8 @@ from .server import IDLE, Viewer
 
 __all__ = ['main']
 
+_MOST_LESSON = 1 << 20
+
 
 def _seconds(text: str) -> float:
     try:
@@ -43,6 +45,7 @@ def _parser() -> argparse.ArgumentParser:
                'Ctrl-C while it opens or exports.')
     parser.add_argument('file', metavar='FILE', help='the pickle, or its address')
     parser.add_argument('--many', action='store_true', help='FILE has several pickles that follow one another')
+    parser.add_argument('--unframed', action='store_true', help='ignore the lengths of frames, so that a pickle that was cut off is read to the cut')
     parser.add_argument('--export', metavar='OUT.html', type=Path, help='write a report into this page, and end')
     parser.add_argument('--force', action='store_true', help='let --export replace a file that is there')
     parser.add_argument('--no-browser', action='store_true', help='print the address, and open no browser')
@@ -98,17 +101,26 @@ def _count(text: str) -> None:
     print(f'\r\x1b[K{text}', end='', file=sys.stderr, flush=True)
 
 
+def _lesson(path: str) -> str:
+    """The lesson that is in a file beside the pickle, if there is one."""
+    try:
+        return Path(f'{path}.lesson.txt').read_text(encoding='utf-8', errors='replace')[:_MOST_LESSON]
+    except (OSError, ValueError):
+        return ''
+
+
 def _opened(options: argparse.Namespace) -> Document:
     """The document. A terminal gets a line that says how far it is, which is wiped out at the end."""
     pickle, found = given(options.file)
     path, rest = (options.file, '') if found is None else (found.path, found.address[len(found.path):])
     name, is_told = (path if is_at_server(path) else os.path.basename(path)) + rest, sys.stderr.isatty()
     try:
-        document = Document(pickle, name, options.many, _count if is_told else silent)
+        document = Document(pickle, name, options.many, _count if is_told else silent, options.unframed)
     finally:
         if is_told:
             _count('')
     document.container = '' if found is None else found.path
+    document.lesson = _lesson(path) if found is None else ''
     document.said = zip_behind(options.file) if found is None else list(found.said)
     return document
 

@@ -13,18 +13,17 @@ from ..addresses import is_in
 from ..answers import Calls
 from ..errors import Refused
 from ..python_source import source
+from ..reaches import CHANGES, IMPORTS, Fields, fields_of, said_in
+from ..records import Reach, Ref
 from ..replies import is_mark, last_words, number_in_word, words_of
 from ..session import SHIFTS, Session
 from ..sources import Input, Source
 from ..tasks import modes
 from ..texts import as_made, broken_places, end_of_texts, held_in, holding, without_number
-from ..texts_of_calls import made_by
 from ..wording import shown
 from .lines import Lines, OpcodeLines, add_items, cut_text, lines_of, read_all, read_answers, silent
 
 __all__ = ['MOST_EXACT', 'MOST_TEXT', 'Document', 'Done', 'Fields', 'Reaches', 'around', 'in_a_line', 'places_edited']
-
-Fields = Dict[str, Any]
 
 # Up to this many objects, with texts of this many bytes, are asked of the session at each step. Above that the page shows them as they
 # are at the end.
@@ -44,8 +43,7 @@ _MOST_SOURCE_BYTES = 1 << 26
 _MOST_SOURCE_LINES = 1000
 # The most letters of a line of `calls` that are shown.
 _MOST_SAID = 4000
-_IMPORTS = ('import', 'inst')
-_CALLS = ('inst', 'call', 'new', 'state', 'append', 'set', 'add')
+_CALLS = ('inst', 'call', 'new', *CHANGES)
 # How closing lines begin that say that not all of a file was read.
 _OF_CONTAINER = 'begins like a container: '
 _WARNING = 'warning: '
@@ -64,14 +62,13 @@ class Reaches:
         self._made = array('Q')  # the objects that lines name, which go up, and where these lines are
         self._makers = array('Q')
         self._places = array('Q')
-        for match in answer.matches():
-            made = made_by(match[2])
-            if made is not None:
-                self._made.append(made)
+        for start, fields in zip(answer._find(), answer.fields()):
+            if fields['kind'] not in CHANGES:
+                self._made.append(int(fields['object']))
                 self._makers.append(len(self.kinds))
-            self.offsets.append(int(match[1]))
-            self.kinds.append(match[3])
-            self._places.append(match.start(2))
+            self.offsets.append(int(fields['offset']))
+            self.kinds.append(fields['kind'])
+            self._places.append(start)
 
     @property
     def behind(self) -> List[str]:
@@ -96,14 +93,14 @@ class Reaches:
         kinds = self.kinds[at:bisect_right(self.offsets, offset)]
         if any(kind in _CALLS for kind in kinds):
             return 'call'
-        if any(kind in _IMPORTS for kind in kinds):
+        if any(kind in IMPORTS for kind in kinds):
             return 'import'
         return 'other' if kinds else ''
 
     def text(self, at: int) -> str:
         """A line, without its offset; with its beginning alone where it is long."""
         start = self._places[at]
-        return cut_text(self.answer.text[start:self.answer.text.index('\n', start)], _MOST_SAID)
+        return cut_text(said_in(fields_of(self.answer.json[start:self.answer.json.index(b'\n', start)])), _MOST_SAID)
 
     def texts_at(self, offset: int) -> List[str]:
         """What `calls` says of the opcode at an offset."""
@@ -133,7 +130,7 @@ class Reaches:
         return None
 
 
-def _with_reaches(lines: OpcodeLines, final: Lines, calls: str, is_part: bool) -> Tuple[OpcodeLines, Lines, Reaches]:
+def _with_reaches(lines: OpcodeLines, final: Lines, calls: bytes, is_part: bool) -> Tuple[OpcodeLines, Lines, Reaches]:
     """What the program says, with what is reached."""
     reaches = Reaches(Calls(calls), is_part)
     lines.closing += reaches.behind
@@ -141,7 +138,7 @@ def _with_reaches(lines: OpcodeLines, final: Lines, calls: str, is_part: bool) -
 
 
 def _counted(kinds: List[str]) -> Tuple[int, int]:
-    return sum(map(_IMPORTS.__contains__, kinds)), sum(map(_CALLS.__contains__, kinds))
+    return sum(map(IMPORTS.__contains__, kinds)), sum(map(_CALLS.__contains__, kinds))
 
 
 class Done(NamedTuple):
@@ -169,6 +166,8 @@ class Document:
         self.container = ''
         # What is said of how it was opened.
         self.said: List[str] = []
+        # The text of a lesson about it.
+        self.lesson = ''
         self._progress = progress
         self.session = Session(source, many=many, unframed=unframed)
         self._options = modes(many, unframed)
@@ -270,7 +269,45 @@ class Document:
             'calls': [calls_before, self.reaches.counts[1]], 'reaches': len(self.reaches.offsets),
             'stack': _last(self.session.ask('stack')), 'memo': _last(self.session.ask('memo')), 'made': self._made(),
             'exact': self._is_exact(), 'undo': _latest(self._edits), 'redo': _latest(self._undone), 'breaks': len(self.breaks),
-            'closing': self.lines.closing}
+            'unframed': '--unframed' in self._options, 'closing': self.lines.closing}
+
+    # --- All objects, as they are at the end ---
+
+    @property
+    def final(self) -> Lines:
+        """The lines of all objects, as they are at the end."""
+        return self._final
+
+    def left(self) -> Optional[Set[int]]:
+        """The results, and the objects on the stack where reading ends early. None where an opcode is refused, behind which there may be more."""
+        where = self.session.where()
+        here, why = where.place, 'end'
+        if here < where.places:
+            try:
+                why = self.session.run().why
+            except Refused:  # (the opcode at the cursor)
+                why = 'refused'
+        where = self.session.where()
+        stack = [] if where.end.is_stopped else [entry.number for entry in self.session.stack() if isinstance(entry, Ref)]
+        self.session.goto(here)
+        return {*where.results, *stack} if why == 'end' else None
+
+    def imports(self) -> Iterator[Reach]:
+        """What is imported, in its order."""
+        return (self.reaches.answer[at] for at, kind in enumerate(self.reaches.kinds) if kind in IMPORTS)
+
+    def makes(self, place: int) -> Optional[int]:
+        """The number of the object that the opcode at a place makes, if it makes one."""
+        number = self.numbers_before(place)
+        return number if number < min(len(self._final), self.numbers_before(place + 1)) else None
+
+    def numbers_before(self, place: int) -> int:
+        """How many objects the opcodes before a place make."""
+        return self._makers.before(place)
+
+    def maker(self, number: int) -> Optional[int]:
+        """The place of the opcode that makes an object, if there is such an object."""
+        return self._makers.place(number) if 0 <= number < len(self._final) else None
 
     # --- Objects ---
 
@@ -499,11 +536,13 @@ class Document:
             back()
             raise
 
-    def read_on(self) -> str:
-        """Reads all pickles of the file, as it is, from its start. What was edited cannot be undone any more."""
-        session = Session(self.session.bytes(), many=True)
+    def read_on(self, is_unframed: bool = False) -> str:
+        """Reads all pickles of the file, as it is, from its start; or the one that it shows, without the lengths of its frames. What was edited cannot be
+        undone any more."""
+        is_many = not is_unframed or '--many' in self._options
+        session = Session(self.session.bytes(), many=is_many, unframed=is_unframed)
         self.session.close()
-        self.session, self._options, self.place = session, ['--many'], 0
+        self.session, self._options, self.place = session, modes(is_many, is_unframed), 0
         self._edits, self._undone, self.breaks = [], [], set()
         self._read()
         return 'open'

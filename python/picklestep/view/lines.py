@@ -6,25 +6,27 @@ import contextlib
 import os
 from array import array
 from bisect import bisect_left, bisect_right
-from itertools import accumulate, islice
+from itertools import accumulate, compress, islice
 from typing import Callable, Dict, Iterable, Iterator, List, Optional, Sequence, Tuple
 
 from ..errors import ProgramError
-from ..listed import bounded, in_columns
+from ..printed import bounded, in_columns
 from ..opcodes import TABLE
 from ..program import Process
+from ..reaches import check_texts
 from ..sources import Input
 from ..tasks import left_out
 from ..texts import ITEM_IN_BYTES, Line, begins_with_offset, frames_in, is_object_at, line_of, offset_at, readonly_count, without_left
 
-__all__ = ['CODE_BY_NAME', 'CUT', 'Line', 'Lines', 'OpcodeLines', 'add_items', 'cut_text', 'line_of', 'lines_of', 'read_all', 'read_answers', 'shown_code', 'silent']
+__all__ = ['CODE_BY_NAME', 'CUT', 'Line', 'Lines', 'OpcodeLines', 'add_items', 'cut_text', 'line_of', 'lines_of', 'read_all', 'read_answers', 'read_calls', 'read_lines', 'read_objects', 'shown_code', 'silent']
 
 # The most bytes that are kept of a text.
 CUT = 500
 _BLOCK = 1 << 20
 _PIECE = 1 << 11
 # So many bytes are read of `calls`, in which a long name may stand again and again.
-_MOST_CALLS = 1 << 26
+_MOST_CALLS = 3 << 26
+_LEFT_OUT = b'{"kind":"end"}\n'
 # An input of at most so many bytes is read by three runs of the program at once.
 _MOST_AT_ONCE = 1 << 26
 
@@ -222,8 +224,8 @@ def _read(into: Lines, blocks: Iterable[bytes], progress: Callable[[str], None] 
 
 
 def read_all(given: Input, options: Sequence[str] = (), progress: Callable[[str], None] = silent,
-             codes: Optional[bytes] = None) -> 'Tuple[OpcodeLines, Lines, str, bool]':
-    """The lines of `list`, those of `objects` without its closing lines, the text of `calls`, and whether this is only its first lines. The
+             codes: Optional[bytes] = None) -> 'Tuple[OpcodeLines, Lines, bytes, bool]':
+    """The lines of `list`, those of `objects` without its closing lines, those of `calls --json`, and whether these are only the first. The
     program works on all of them at once where the input is not large. Of a pickle that is read unframed, `calls` comes after `list`, which says
     where the FRAMEs are that it leaves out. `codes` are those of all opcodes, where they are known."""
     *tasks, of_calls = _words(options)
@@ -236,20 +238,21 @@ def read_all(given: Input, options: Sequence[str] = (), progress: Callable[[str]
         started = map(start, [*tasks, of_calls] if is_framed else tasks)  # (it starts each where it is asked for)
         processes = iter(list(started)) if os.stat(given.path).st_size <= _MOST_AT_ONCE else started
         listing = _read_listing(bounded(next(processes).blocks(), os.stat(given.path).st_size), OpcodeLines(codes), progress)
-        objects = _read_objects(next(processes).blocks(), progress)
+        objects = read_objects(next(processes).blocks(), progress)
         progress('calls ..')
         holes = running.enter_context(left_out(() if is_framed else frames_in(listing.text)))
-        calls, is_part = _read_calls((next(processes) if is_framed else start([*of_calls, *holes])).blocks())
+        calls, is_part = read_calls((next(processes) if is_framed else start([*of_calls, *holes])).blocks(),
+                                    lambda: start([word for word in (*of_calls, *holes) if word != '--json']).blocks())
     return listing, objects, calls, is_part
 
 
 def _words(options: Sequence[str]) -> List[List[str]]:
     """What the program is asked about a pickle: `list`, `objects` and `calls`."""
-    return [['list', *options], ['objects', *options], ['calls', *([] if '--many' in options else ['--first'])]]
+    return [['list', *options], ['objects', *options], ['calls', '--json', *([] if '--many' in options else ['--first'])]]
 
 
 def read_answers(answer: Callable[[List[str]], Optional[bytes]], options: Sequence[str] = (),
-                 codes: Optional[bytes] = None) -> 'Optional[Tuple[OpcodeLines, Lines, str, bool]]':
+                 codes: Optional[bytes] = None) -> 'Optional[Tuple[OpcodeLines, Lines, bytes, bool]]':
     """The same of what is answered at once. None where something is not, and of a pickle that is read unframed."""
     if '--unframed' in options:
         return None
@@ -260,7 +263,8 @@ def read_answers(answer: Callable[[List[str]], Optional[bytes]], options: Sequen
             return None
         texts.append([text])
     listing, objects, calls = texts
-    return (_read_listing(listing, OpcodeLines(codes), silent), _read_objects(objects, silent), *_read_calls(calls))
+    of_calls = read_calls(calls, lambda: [answer([word for word in _words(options)[2] if word != '--json']) or b''])
+    return (_read_listing(listing, OpcodeLines(codes), silent), read_objects(objects, silent), *of_calls)
 
 
 def _read_listing(blocks: Iterable[bytes], listing: OpcodeLines, progress: Callable[[str], None]) -> OpcodeLines:
@@ -278,14 +282,14 @@ def _read_listing(blocks: Iterable[bytes], listing: OpcodeLines, progress: Calla
     return listing
 
 
-def _read_calls(blocks: Iterable[bytes]) -> Tuple[str, bool]:
-    """The text of `calls`, or its first lines where these are very long, and whether it is cut so."""
-    text = bytearray()
+def read_calls(blocks: Iterable[bytes], printed: Callable[[], Iterable[bytes]]) -> Tuple[bytes, bool]:
+    """The lines of `calls --json`, or the first where these are very long, and whether others are left out so. `printed` gives what `calls` prints."""
+    lines = bytearray()
     for block in blocks:
-        text += block
-        if len(text) > _MOST_CALLS:
-            return text[:text.rfind(b'\n') + 1].decode('ascii'), True
-    return text.decode('ascii'), False
+        lines += block
+        if len(lines) > _MOST_CALLS:
+            return bytes(lines[:lines.rfind(b'\n') + 1]) + _LEFT_OUT, True
+    return check_texts(bytes(lines), lambda: b''.join(printed())), False
 
 
 def add_items(listing: OpcodeLines, given: Input, options: Sequence[str] = ()) -> None:
@@ -302,9 +306,16 @@ def add_items(listing: OpcodeLines, given: Input, options: Sequence[str] = ()) -
         begin = end
 
 
-def _read_objects(blocks: Iterable[bytes], progress: Callable[[str], None]) -> Lines:
+def read_lines(blocks: Iterable[bytes], progress: Callable[[str], None] = silent) -> Lines:
+    """The lines of `objects`."""
     objects = Lines()
     _read(objects, blocks, progress, 'objects')
+    return objects
+
+
+def read_objects(blocks: Iterable[bytes], progress: Callable[[str], None] = silent) -> Lines:
+    """The lines of `objects` without the closing lines."""
+    objects = read_lines(blocks, progress)
     while len(objects) and not is_object_at(objects.text, objects.start(len(objects) - 1)):
         objects.drop_last()
     return objects
@@ -331,6 +342,10 @@ MAKE_NONE = frozenset(opcode.name for opcode in TABLE if not opcode.makes)
 CODE_BY_NAME: Dict[str, int] = {opcode.name: opcode.code for opcode in TABLE}
 # The codes of opcodes, as they stand in a line with the blanks behind them.
 _CODE_OF: Dict[bytes, int] = {f'{shown_code(opcode.letter):4}'.encode('ascii'): opcode.code for opcode in TABLE}
+# What a line of an opcode begins with, and the first sign of a code that is no letter.
+_BEFORE_CODES = b' 0123456789'
+_ESCAPE = ord('\\')
+_SAMPLED = 64
 # What an opcode makes, by its code: none, an object, or perhaps one.
 _NONE, _ONE, _PERHAPS = range(3)
 _MAKES = bytearray(256)
@@ -350,10 +365,14 @@ class Makers:
 
     def take(self, lines: List[bytes]) -> None:
         """Takes the next lines of a listing. Those that show no opcode have no place."""
-        try:
-            self.codes += bytes(map(_CODE_OF.__getitem__, _codes_of(lines)))
-        except KeyError:
-            self.codes += bytes(map(_CODE_OF.__getitem__, _codes_of([line for line in lines if not line[:1].isalpha()])))
+        if bytes([line[0] for line in lines]).translate(None, _BEFORE_CODES):
+            lines = [line for line in lines if not line[:1].isalpha()]
+        for column, batch in in_columns(lines, b':'):
+            are_letters = not any([line[column] == _ESCAPE for line in batch[:_SAMPLED]])
+            codes = bytes([line[column] for line in batch]) if are_letters else b''
+            if not are_letters or _ESCAPE in codes:  # (of a code that is no letter the line has the digits)
+                codes = bytes(map(_CODE_OF.__getitem__, [line[column:column + 4] for line in batch]))
+            self.codes += codes
 
     def finish(self, objects: Lines, makes_view: Callable[[int, int], bool]) -> None:
         """Settles what is open when all lines were taken.
@@ -378,6 +397,10 @@ class Makers:
         """Whether the opcode at a place makes an object."""
         return self._makes[place] == _ONE
 
+    def of_makers(self, column: Iterable[int]) -> List[int]:
+        """The entries of a column by places that are those of opcodes which make objects: by the numbers of these."""
+        return list(compress(column, self._makes))  # (what is settled is _ONE, which is 1, or _NONE, which is 0)
+
     def before(self, place: int) -> int:
         """How many objects are made before a place."""
         step = min(place, len(self._makes)) // _STEP
@@ -396,8 +419,3 @@ def _found(data: bytearray, byte: int, begin: int = 0) -> Iterator[int]:
     while at >= 0:
         yield at
         at = data.find(byte, at + 1)
-
-
-def _codes_of(lines: List[bytes]) -> List[bytes]:
-    """The codes in lines of a listing, each with the blanks behind it. Of another line it is none."""
-    return [line[column:column + 4] for column, batch in in_columns(lines, b':') for line in batch]

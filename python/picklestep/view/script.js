@@ -5,7 +5,7 @@ const SLOW = 300; // milliseconds, after which the page says that it waits
 
 const by = (id) => document.getElementById(id);
 const view = {
-  state: null, opcodes: {}, rows: [], top: 0, selected: 0, chunks: new Map(), waiting: new Set(), objects: 0, reaches: 0,
+  state: null, opcodes: {}, plain: {}, story: null, rows: [], top: 0, selected: 0, chunks: new Map(), waiting: new Set(), objects: 0, reaches: 0,
   asks: 0, pending: 0, busy: Promise.resolve(), // questions and commands that are not answered
 };
 
@@ -27,7 +27,8 @@ function command(word, asked) {
     const slow = setTimeout(say, SLOW, 'working ..');
     const answer = await host.ask(word, asked).finally(() => clearTimeout(slow));
     if (answer.said !== undefined) say(answer.said, answer.failed);
-    if (answer.opcodes) view.opcodes = answer.opcodes;
+    if (answer.opcodes) [view.opcodes, view.plain] = [answer.opcodes, answer.plain];
+    if (answer.lesson) view.story = lessonOf(answer.lesson);
     if (answer.version !== undefined) await show(answer);
     return answer;
   }).finally(() => { view.pending -= 1; });
@@ -35,8 +36,10 @@ function command(word, asked) {
   return done;
 }
 
+// What the program says, with what its code means.
 function say(text, failed) {
-  by('said').textContent = plain(text);
+  const code = /(?:^refused: |, )(?:C3 item \d+: |C9 )?([A-Z]+\d+) /.exec(text), meaning = code && view.plain[code[1]];
+  by('said').textContent = plain(text) + (meaning ? ` (${meaning})` : '');
   by('said').classList.toggle('failed', Boolean(failed));
 }
 
@@ -54,6 +57,7 @@ function element(tag, name, text) {
 async function show(state) {
   const old = view.state;
   view.state = state;
+  document.body.classList.add('opened');
   if (old === null || old.version !== state.version || old.breaks !== state.breaks) view.chunks.clear();
   if (old === null) {
     view.pointed = null;
@@ -70,6 +74,7 @@ async function show(state) {
   if (old === null || old.version !== state.version) view.reaches = 0;
   draw();
   host.shown();
+  showStory();
   await things();
 }
 
@@ -83,6 +88,7 @@ function showHeader(state) {
     (state.unknown ? ` in this part: ${state.unknown}` : '');
   by('closing').textContent = state.closing.join('; ');
   by('read-on').hidden = !keptOf(state.closing);
+  by('unframe-all').hidden = !/^F[678] /.test(state.end) || Boolean(state.part);
   by('edit').disabled = by('save').disabled = Boolean(state.part);
   for (const word of ['undo', 'redo']) {
     by(word).disabled = !state[word];
@@ -110,9 +116,12 @@ async function openEdit(what) {
   by('edit-what').value = what || 'replace';
   by('edit-place').value = view.selected;
   by('edit-count').value = 1;
+  const never = offer();
+  if (never.includes(by('edit-what').value)) by('edit-what').value = never.includes('unframe') ? 'insert' : 'unframe';
   by('edit-error').textContent = '';
+  const puts = shape();
   by('edit-dialog').showModal();
-  by('edit-name').focus();
+  by(puts ? 'edit-name' : 'edit-place').focus(); // (what is hidden would lose it at the next frame)
   await fillEdit();
 }
 
@@ -129,16 +138,27 @@ async function fillEdit() {
   by('edit-as').value = typed === null ? 'hex' : 'value';
   by('edit-argument').value = typed === null ? answer.raw : typed;
   by('edit-argument').placeholder = form && answer.raw === null ? 'too long to be shown' : '';
-  shape();
-  by('edit-name').select();
+  if (shape()) by('edit-name').select();
 }
 
+// Shows the fields of what is done, and answers whether that puts an opcode.
 function shape() {
   const what = by('edit-what').value, name = by('edit-name').value.trim().toUpperCase();
   const puts = what === 'replace' || what === 'insert';
   document.querySelectorAll('.put').forEach((label) => { label.hidden = !puts; });
   if (view.opcodes[name] && !formOf(name)) document.querySelectorAll('.valued').forEach((label) => { label.hidden = true; });
   document.querySelectorAll('.framed').forEach((label) => { label.hidden = what !== 'frame'; });
+  return puts;
+}
+
+// Offers only what may be done at the place, and answers what may not: a STOP stays, and a FRAME is taken off, or others come before it. Where the
+// lengths of frames are ignored, there are none to be put or taken off.
+function offer() {
+  const line = lineAt(Number(by('edit-place').value)), word = line ? line[2] : '';
+  const frames = view.state.unframed ? ['frame', 'unframe'] : word === 'FRAME' ? [] : ['unframe'];
+  const never = [...frames, ...({ STOP: ['replace', 'delete'], FRAME: ['replace', 'delete'] }[word] || [])];
+  for (const option of by('edit-what').options) option.disabled = never.includes(option.value);
+  return never;
 }
 
 function editAsked() {
@@ -183,7 +203,7 @@ const KEYS = {
   ArrowRight: () => step('step'), ArrowLeft: () => step('back'), Home: () => go(0), End: () => go(view.state.places), ' ': () => move('run'),
   n: () => move('next'), p: () => move('previous'), '/': () => by('sought').select(), u: () => command('undo'), r: () => command('redo'),
   '?': () => by('help-dialog').showModal(), b: () => toggle(view.selected), e: () => openEdit('replace'), s: openSave,
-  w: () => by('slow').click(), Delete: () => command('edit', { what: 'delete', place: view.selected, name: '', raw: '', count: 0 }),
+  w: () => by('slow').click(), a: () => play(!isPlaying()), Delete: () => command('edit', { what: 'delete', place: view.selected, name: '', raw: '', count: 0 }),
 };
 const LIST_KEYS = {
   ArrowDown: () => select(view.selected + 1), ArrowUp: () => select(view.selected - 1), PageDown: () => select(view.selected + seen()),
@@ -221,7 +241,8 @@ function turn(name, count) {
 function wire() {
   const clicks = {
     home: KEYS.Home, back: KEYS.ArrowLeft, step: KEYS.ArrowRight, run: KEYS[' '], end: KEYS.End, there: LIST_KEYS.Enter, previous: KEYS.p, next: KEYS.n,
-    undo: KEYS.u, redo: KEYS.r, edit: KEYS.e, save: KEYS.s, help: KEYS['?'], 'read-on': () => command('again', { many: true }),
+    undo: KEYS.u, redo: KEYS.r, edit: KEYS.e, save: KEYS.s, help: KEYS['?'], 'read-on': () => command('again', { many: true }), play: KEYS.a,
+    'unframe-all': () => command('again', { unframed: true }),
     'objects-back': () => turn('objects', -PAGE), 'objects-on': () => turn('objects', PAGE),
     'reaches-back': () => turn('reaches', -PAGE), 'reaches-on': () => turn('reaches', PAGE),
   };
@@ -230,13 +251,14 @@ function wire() {
   document.querySelectorAll('.close').forEach((button) => button.addEventListener('click', () => button.closest('dialog').close()));
   by('edit-what').addEventListener('change', shape);
   by('edit-name').addEventListener('input', shape);
-  by('edit-place').addEventListener('change', fillEdit);
+  by('edit-place').addEventListener('change', () => { offer(); fillEdit(); });
   by('edit-form').addEventListener('submit', sendEdit);
   by('save-form').addEventListener('submit', sendSave);
   by('find').addEventListener('submit', (event) => { event.preventDefault(); find(by('sought').value); });
   wireListing();
   wirePanes();
   wireBar();
+  wirePlay();
 }
 
 function wireBar() {

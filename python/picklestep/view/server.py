@@ -15,6 +15,7 @@ from pathlib import Path
 from typing import Any, Callable, ContextManager, Dict, Optional
 
 from ..errors import ProgramError, Refused
+from ..plain import PLAIN
 from .document import Document, Fields
 from .opcodes import opcode_table
 
@@ -53,6 +54,7 @@ class Viewer(ContextManager['Viewer']):
 
     def serve(self) -> None:
         """Serves until no page was open for a while."""
+        self.heard()  # (to start a browser may have taken long)
         self._server.timeout = 0.2
         while not self._is_stopped and time.monotonic() < self._until:
             self._server.handle_request()
@@ -209,7 +211,7 @@ def _after(said: str, document: Document) -> Fields:
 
 
 def _open(document: Document, asked: Fields) -> Fields:
-    return {'said': 'open', 'opcodes': opcode_table(), **document.state()}
+    return {'said': 'open', 'opcodes': opcode_table(), 'plain': PLAIN, 'lesson': document.lesson, **document.state()}
 
 
 def _lines(document: Document, asked: Fields) -> Fields:
@@ -247,7 +249,7 @@ _ANSWERS: Dict[str, Callable[[Document, Fields], Fields]] = {
     'reached': lambda document, asked: {'reached': document.reached(_number(asked, 'start'), _number(asked, 'count'))},
     'source': lambda document, asked: document.source(),
     'argument': lambda document, asked: document.argument(_number(asked, 'place')),
-    'again': lambda document, asked: _after(document.read_on(), document),
+    'again': lambda document, asked: _after(document.read_on(is_unframed=asked.get('unframed') is True), document),
     'break': lambda document, asked: _after(document.toggle_break(_number(asked, 'place')), document),
     'undo': lambda document, asked: _after(document.undo(), document),
     'redo': lambda document, asked: _after(document.redo(), document),

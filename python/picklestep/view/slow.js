@@ -45,3 +45,51 @@ async function leave({ shown, box }, to) {
 function arrive({ shown }) {
   return shown.animate([{ opacity: 0 }, { opacity: 0.2, offset: 0.6 }, { opacity: 1 }], { duration: FLIGHT }).finished;
 }
+
+// --- By itself ---
+
+const PAUSE = 900; // milliseconds between two steps,
+const TO_READ = 35; // and for each letter that is said there
+
+let playing = 0;
+
+const isPlaying = () => playing !== 0;
+
+// Steps on by itself, or no longer. At the end it begins anew.
+async function play(isOn) {
+  clearTimeout(playing);
+  playing = isOn ? setTimeout(playOn, PAUSE + TO_READ * by('story').textContent.length) : 0;
+  by('play').setAttribute('aria-pressed', String(isOn));
+  by('play').textContent = isOn ? 'Pause' : 'Play';
+  if (isOn && view.state.place === view.state.places) await go(0);
+}
+
+async function playOn() {
+  const { pickle, version, place } = view.state || {};
+  await view.busy;
+  await slowStep('step');
+  const { state } = view, goesOn = state && state.place > place && state.place < state.places;
+  if (isPlaying()) play(Boolean(goesOn && state.version === version && state.pickle === pickle));
+}
+
+// A key or a click ends it, but for those that do so themselves.
+function wirePlay() {
+  const ends = (event) => event.key !== 'a' && !(event.target.closest?.('#play') && [undefined, ' ', 'Enter'].includes(event.key));
+  for (const kind of ['keydown', 'pointerdown']) document.addEventListener(kind, (event) => { if (isPlaying() && ends(event)) play(false); }, true);
+}
+
+// --- Lessons ---
+
+// What a lesson says from a place on. Each part of its text begins with the place in a line of its own: `4: A mark is set.`
+function lessonOf(text) {
+  const parts = text.replace(/\r/g, '').split(/^(\d+):[ \t]*/m).slice(1), found = [];
+  for (let at = 0; at < parts.length; at += 2) found.push([Number(parts[at]), parts[at + 1].trim()]);
+  return { text: found.sort(([one], [other]) => one - other) };
+}
+
+// What the example or the lesson says of the place where the cursor is.
+function showStory() {
+  const part = view.story && view.state ? view.story.text.filter(([place]) => place <= view.state.place).at(-1) : null;
+  by('story').hidden = !part;
+  by('story').textContent = part ? part[1] : '';
+}

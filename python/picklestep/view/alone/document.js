@@ -20,6 +20,7 @@ const MOST_READ = 8000000; // where these are not more
 const MOST_LINE = 100; // bytes of a line besides texts and the blanks for open marks,
 const MOST_DEEP = 1 << 28; // and of all these blanks
 const MOST_CALLS = 1 << 26; // bytes that are read of `calls`, in which a long name may stand again and again
+const MOST_HOLES = 2000; // words for FRAMEs that are left out
 const SHIFTS = { replace: 0, insert: 1, delete: -1, frame: 1, unframe: -1 };
 
 let versions = 0; // (of all documents, so that the page never shows the lines of one in another)
@@ -39,23 +40,24 @@ class TooLong extends Error {}
 
 class Document {
   // Opens a pickle. Where it has many opcodes, only the first of them are opened unless it is `isWhole`: the document is a part.
-  static async open(program, file, name, many, isWhole, progress, reaches) {
-    const document = Document.of(program, file, many, progress);
+  static async open(program, file, name, many, isWhole, progress, reaches, isUnframed) {
+    const document = Document.of(program, file, many, progress, isUnframed);
     Object.assign(document, { name, reaches, breaks: new Set(), edits: [], undone: [], version: 0, place: 0 });
     progress('opening');
     document.lines = isWhole ? document.list(MOST_READ) : document.listFirst();
     document.isPart = document.content.length < file.length;
     document.unknown = document.isPart ? 'what the rest imports and calls is not known yet' : '';
     progress('debug: reading the opcodes');
-    document.session = new Session(program, document.content, many);
+    document.session = new Session(program, document.content, many, isUnframed);
     await document.read();
     document.pickle = document.version; // (its edits have others)
     if (document.isPart) document.lines.closing = [document.said()];
     return document;
   }
 
-  static of({ module, opcodes, facts }, content, many, progress) {
-    return Object.assign(new Document(), { module, opcodes, facts, content, options: many ? ['--many'] : [], progress });
+  static of({ module, opcodes, facts }, content, many, progress, isUnframed) {
+    const options = [many && '--many', isUnframed && '--unframed'].filter(Boolean);
+    return Object.assign(new Document(), { module, opcodes, facts, content, options, progress });
   }
 
   // What the whole of a pickle imports and calls.
@@ -130,12 +132,21 @@ class Document {
     const calls = new Lines(Infinity);
     const check = ({ whole }) => { if (whole > MOST_CALLS) throw new TooLong(); };
     try {
-      this.run(['calls', ...(this.options.length ? [] : ['--first'])], calls, check);
+      this.run(['calls', ...(this.options.includes('--many') ? [] : ['--first']), ...this.holes()], calls, check);
     } catch (error) {
       if (!(error instanceof TooLong)) throw error;
       return new Reaches(calls, true);
     }
     return new Reaches(calls, false);
+  }
+
+  // The words for the FRAMEs, which `calls` leaves out where the lengths of frames are ignored.
+  holes() {
+    const words = [];
+    for (let place = 0; this.options.includes('--unframed') && place < this.lines.length; place += 1)
+      if (this.lines.at(place).name === 'FRAME') words.push('--skip', `${this.lines.offset(place)}:9`);
+    if (words.length > MOST_HOLES) throw new Error('too many frames to be left out (picklestep view --unframed reads them)');
+    return words;
   }
 
   // The bytes of the pickle as it is: after an edit they are made when they are asked for.
@@ -218,7 +229,8 @@ class Document {
       imports: [imports, this.reaches.counts[0]], calls: [calls, this.reaches.counts[1]], reaches: this.reaches.length, unknown: this.unknown,
       stack: lastWords(stack, MOST_ENTRIES), memo: lastWords(memo, MOST_ENTRIES), pickle: this.pickle, part: this.isPart, made: this.made(), exact: this.isExact(),
       edits: this.edits.length, undone: this.undone.length,
-      undo: describeEdit(this.edits.at(-1)), redo: describeEdit(this.undone.at(-1)), breaks: this.breaks.size, closing: this.lines.closing };
+      undo: describeEdit(this.edits.at(-1)), redo: describeEdit(this.undone.at(-1)), breaks: this.breaks.size,
+      unframed: this.options.includes('--unframed'), closing: this.lines.closing };
   }
 
   // --- Objects ---

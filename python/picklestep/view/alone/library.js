@@ -3,7 +3,7 @@
 
 const FIRST_ROOM = 1 << 16;
 const DONE = 0, TOO_LARGE = 2, NO_ROOM = 3, LOST = 5;
-const MANY = 1;
+const MANY = 1, UNFRAMED = 2;
 const SIZE_OF_SESSION = 16, SIZE_OF_WRITTEN = 16;
 
 // An instance of the module: its memory never shrinks.
@@ -36,7 +36,7 @@ class Library {
 
 // A session in an instance of its own, whose memory goes with it.
 class Kept {
-  constructor(module, file, isMany) {
+  constructor(module, file, isMany, isUnframed) {
     this.library = new Library(module);
     this.session = this.library.take(SIZE_OF_SESSION);
     this.written = this.library.take(SIZE_OF_WRITTEN);
@@ -44,7 +44,7 @@ class Kept {
     this.out = this.library.take(this.room);
     this.library.bytes(this.session, SIZE_OF_SESSION).fill(0); // (none is open in it)
     const { exports } = this.library;
-    const answer = this.library.withInput(file, (at, length) => exports.picklestep_open(isMany ? MANY : 0, 0n, at, length, this.session));
+    const answer = this.library.withInput(file, (at, length) => exports.picklestep_open((isMany ? MANY : 0) | (isUnframed ? UNFRAMED : 0), 0n, at, length, this.session));
     if (answer !== DONE) throw new Error(answer === TOO_LARGE ? 'too large' : 'out of memory');
   }
 

@@ -26,8 +26,7 @@ const host = {
   shown() {
     by('welcome').hidden = true;
     by('opening-note').hidden = true;
-    if (!view.story) by('example').value = '';
-    showStory();
+    if (!EXAMPLES.includes(view.story)) by('example').value = '';
     if (worker.shown === view.state.pickle) return;
     worker.shown = view.state.pickle;
     endReader();
@@ -37,7 +36,7 @@ const host = {
   async begin() {
     wireOpening();
     worker.code = URL.createObjectURL(new Blob([by('worker-code').textContent], { type: 'text/javascript' }));
-    view.opcodes = JSON.parse(by('opcodes').textContent);
+    [view.opcodes, view.plain] = ['opcodes', 'plain'].map((id) => JSON.parse(by(id).textContent));
     worker.program = { opcodes: view.opcodes, facts: JSON.parse(by('source-facts').textContent) };
     try {
       [worker.program.module, worker.program.library] = await Promise.all(['module', 'library'].map(compiled));
@@ -49,6 +48,7 @@ const host = {
     by('where').textContent = '';
     say('Open a pickle, or choose an example.');
     by('opening').dataset.ready = 'yes';
+    openLink();
   },
 };
 
@@ -146,12 +146,22 @@ function endReader() {
 
 // --- Opening ---
 
-async function openFile(file) {
+// A pickle, and a lesson beside it: a file whose name ends in .lesson.txt. A lesson alone is one of the pickle that is open.
+async function openFiles(files) {
+  const isLesson = (file) => file.name.endsWith('.lesson.txt'), lesson = files.find(isLesson), file = files.find((each) => !isLesson(each));
+  const story = lesson && lessonOf(await lesson.text());
+  if (file || !story) { await openFile(file, story); return; }
+  view.story = story;
+  showStory();
+  say(view.state ? `lesson ${lesson.name}` : 'Open the pickle of this lesson together with it.', !view.state);
+}
+
+async function openFile(file, story) {
   if (!file) return;
   if (file.size > MOST_SIZE) { say(`too large: ${file.size.toLocaleString('en')} bytes, and at most ${MOST_SIZE.toLocaleString('en')} are read`, true); return; }
   say(`reading ${file.name} ..`);
   try {
-    await openBytes(new Uint8Array(await file.arrayBuffer()), file.name);
+    await openBytes(new Uint8Array(await file.arrayBuffer()), file.name, false, story);
   } catch (error) {
     say(`not opened: ${error.message}`, true);
   }
@@ -211,19 +221,38 @@ async function sendPaste(event) {
   }
 }
 
+// --- Links ---
+
+const MOST_LINKED = 16384; // bytes
+
+// A link has the pickle itself behind its sharp, so that nobody is asked for it: #pickle=HEX&name=NAME&at=PLACE&lesson=TEXT
+async function openLink() {
+  const link = new URLSearchParams(location.hash.slice(1));
+  if (!link.get('pickle')) return;
+  try {
+    const story = link.get('lesson') ? lessonOf(link.get('lesson')) : null;
+    await openBytes(pastedBytes(link.get('pickle')), link.get('name') || 'of a link', true, story);
+    if (view.state && Number(link.get('at'))) await go(Number(link.get('at')));
+  } catch (error) {
+    say(`not opened: ${error.message}`, true);
+  }
+}
+
+// Puts the pickle as it is and the place into the address of the page.
+async function makeLink() {
+  const answer = await host.ask('bytes');
+  if (answer.failed || answer.bytes.length > MOST_LINKED) { say(answer.said || `too long for a link: at most ${MOST_LINKED.toLocaleString('en')} bytes`, true); return; }
+  const lesson = view.story ? { lesson: view.story.text.map(([place, text]) => `${place}: ${text}`).join('\n') } : {};
+  history.replaceState(null, '', `#${new URLSearchParams({ pickle: hexOf(answer.bytes), name: view.state.name, at: view.state.place, ...lesson })}`);
+  say('the address of this page has the pickle and the place now: copy it');
+}
+
 // --- Worked examples ---
 
 function openExample(number) {
   const example = EXAMPLES[number];
   by('example').value = number;
-  openBytes(bytesOfHex(example.hex), example.name, true, example);
-}
-
-// What the example says of the place where the cursor is.
-function showStory() {
-  const part = view.story && view.state ? view.story.text.filter(([place]) => place <= view.state.place).at(-1) : null;
-  by('story').hidden = !part;
-  by('story').textContent = part ? part[1] : '';
+  return openBytes(bytesOfHex(example.hex), example.name, true, example);
 }
 
 // --- Beginning ---
@@ -231,7 +260,10 @@ function showStory() {
 function wireOpening() {
   const openPaste = () => { by('paste-error').textContent = ''; by('paste-dialog').showModal(); };
   by('open').addEventListener('click', () => by('file').click());
-  by('file').addEventListener('change', () => { openFile(by('file').files[0]); by('file').value = ''; });
+  by('file').addEventListener('change', () => { openFiles([...by('file').files]); by('file').value = ''; });
+  by('link').addEventListener('click', () => { if (view.state) makeLink(); });
+  by('watch').addEventListener('click', async () => { await openExample(0); play(true); });
+  addEventListener('hashchange', openLink);
   by('paste').addEventListener('click', openPaste);
   by('paste-form').addEventListener('submit', sendPaste);
   by('as-pickle').addEventListener('click', () => { by('members-dialog').close(); openBytes(worker.file.bytes, worker.file.name, true); });
@@ -248,7 +280,7 @@ function wireOpening() {
   document.addEventListener('drop', (event) => {
     event.preventDefault();
     document.body.classList.remove('dropping');
-    openFile(event.dataTransfer.files[0]);
+    openFiles([...event.dataTransfer.files]);
   });
   document.addEventListener('keydown', (event) => {
     const isTyped = event.ctrlKey || event.metaKey || event.altKey || event.target.matches('input:not([type=range], [type=checkbox]), textarea, select');

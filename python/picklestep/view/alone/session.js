@@ -12,8 +12,8 @@ function runTask(module, words, file, output) {
 
 // A pickle that is stepped, looked at and edited. What the program refuses is thrown as Refused, and changes nothing.
 class Session {
-  constructor({ library }, file, many) {
-    this.kept = new Kept(library, file, many);
+  constructor({ library }, file, many, unframed) {
+    this.kept = new Kept(library, file, many, unframed);
   }
 
   // The answer to a line, as bytes.

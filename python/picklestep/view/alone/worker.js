@@ -36,7 +36,7 @@ const ANSWERS = {
     const { bytes, members } = page.archive;
     return load(await memberBytes(bytes, members[number]), members[number].name, false);
   },
-  again: async ({ many }) => open(page.document.bytes(), page.document.name, many),
+  again: async ({ many, unframed }) => open(page.document.bytes(), page.document.name, many || page.document.options.includes('--many'), false, unframed),
   open: () => after('open'),
   lines: ({ start, count }) => ({ version: page.document.version, lines: page.document.slice(start, count) }),
   objects: ({ start, count }) => ({ objects: page.document.objects(start, count) }),
@@ -59,8 +59,8 @@ const ANSWERS = {
   },
 };
 
-async function open(bytes, name, many, isWhole = false) {
-  page.document = await Document.open(page.program, bytes, name, many, isWhole, progress, isWhole ? page.reaches : null);
+async function open(bytes, name, many, isWhole = false, isUnframed = false) {
+  page.document = await Document.open(page.program, bytes, name, many, isWhole || isUnframed, progress, isWhole ? page.reaches : null, isUnframed);
   page.whole = page.document.isPart ? { bytes, name, many } : null;
   return after('open');
 }
@@ -70,10 +70,10 @@ async function load(bytes, name, isPickle) {
   if (isPickle) return open(bytes, name, false);
   const inner = await unzipped(bytes, name), directory = directoryOf(inner.bytes);
   if (!directory) return open(inner.bytes, inner.name, false);
-  const { members, odd } = directory;
+  const { kind, members, odd } = directory;
   page.archive = { bytes: inner.bytes, members };
   const shown = members.slice(0, MOST_MEMBERS).map((member) => ({ name: member.name, size: member.size, note: member.note }));
-  const said = `a zip archive with ${members.length} members${odd && `, and ${odd} (picklestep scan says what is odd)`}`;
+  const said = `a ${kind} archive with ${members.length} members${odd && `, and ${odd} (picklestep scan says what is odd)`}`;
   return { said, members: shown, more: members.length - shown.length };
 }
 
