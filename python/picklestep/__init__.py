@@ -9,27 +9,31 @@ Every answer comes from the proved program, which runs as a process of its own.
 What is public is imported when it is first used: the entrance starts faster, and it imports nothing before it knows from where.
 """
 
-__version__ = '1.0.0'
+__version__ = '1.1.0'
 
-__all__ = ['Answer', 'Argument', 'Brief', 'Briefs', 'Call', 'Calls', 'Change', 'Difference', 'End', 'Extension', 'FoundPickle', 'FoundPickles',
-           'GateAnswer', 'Global', 'Heap', 'Item', 'Items', 'Listing', 'Mark', 'Name', 'NoResult', 'NotAllowed', 'NotOpened', 'Object', 'Objects', 'Opcode',
-           'OtherForm', 'OutOfMemory', 'Part', 'PicklestepError', 'PlainValue', 'ProgramError', 'PythonSource', 'Ran', 'Reach', 'ReachAnswer', 'Reached', 'Ref',
-           'Refused', 'Session', 'Shown', 'ShownObjects', 'TimedOut', 'TooLarge', 'Value', 'Where', 'calls', 'check', 'compare', 'form', 'gate',
-           'listing', 'objects', 'pickles_in', 'reach', 'source', 'tree']
+__all__ = ['Again', 'Answer', 'Argument', 'Brief', 'Briefs', 'Call', 'Calls', 'Change', 'Difference', 'End', 'Extension', 'FoundPickle', 'FoundPickles',
+           'GateAnswer', 'Global', 'Heap', 'Item', 'Items', 'Listing', 'Mark', 'Member', 'MemoSize', 'Name', 'NoResult', 'NotAllowed', 'NotConverted', 'NotOpened', 'NotRenamed', 'Object', 'Objects',
+           'Opcode', 'OtherForm', 'OutOfMemory', 'Part', 'PathSize', 'PicklestepError', 'PlainValue', 'ProgramError', 'PythonSource', 'Ran', 'Reach', 'ReachAnswer', 'Reached', 'Ref',
+           'Refused', 'Renamed', 'RenamedImport', 'Saving', 'Session', 'Shown', 'ShownObjects', 'Sized', 'Sizes', 'TimedOut', 'TooLarge', 'Value', 'Where', 'calls', 'check', 'compare', 'convert', 'form', 'gate',
+           'listing', 'members', 'objects', 'optimize', 'pickles_in', 'reach', 'rename', 'size', 'source', 'tree']
 
 TYPE_CHECKING = False  # (`typing` would be an import)
 if TYPE_CHECKING:
     from .addresses import FoundPickle, FoundPickles, pickles_in
     from .answers import Answer, Calls, Heap, Items, Listing, Objects, Part, Reached, ShownObjects
     from .comparing import Difference, compare
-    from .errors import NoResult, NotAllowed, NotOpened, OutOfMemory, PicklestepError, ProgramError, Refused, TimedOut, TooLarge
+    from .converting import convert
+    from .errors import NoResult, NotAllowed, NotConverted, NotOpened, NotRenamed, OutOfMemory, PicklestepError, ProgramError, Refused, TimedOut, TooLarge
+    from .optimizing import optimize
     from .python_source import PythonSource, source
-    from .records import (Argument, Brief, Briefs, Change, End, Extension, GateAnswer, Global, Item, Mark, Name, Object, Opcode, OtherForm, Ran,
-                          Reach, ReachAnswer, Ref, Shown, Value, Where)
+    from .records import (Argument, Brief, Briefs, Change, End, Extension, GateAnswer, Global, Item, Mark, Member, Name, Object, Opcode, OtherForm,
+                          Ran, Reach, ReachAnswer, Ref, Shown, Value, Where)
+    from .renaming.one import Renamed, RenamedImport, rename
     from .scan.checking import check
     from .scan.gating import gate
     from .session import Session
-    from .tasks import calls, form, listing, objects, reach
+    from .sizing import Again, MemoSize, PathSize, Saving, Sized, Sizes, size
+    from .tasks import calls, form, listing, members, objects, reach
     from .trees import Call, tree
     from .values import PlainValue
 
@@ -39,14 +43,18 @@ _MODULES = {
     'addresses': ('FoundPickle', 'FoundPickles', 'pickles_in'),
     'answers': ('Answer', 'Calls', 'Heap', 'Items', 'Listing', 'Objects', 'Part', 'Reached', 'ShownObjects'),
     'comparing': ('Difference', 'compare'),
-    'errors': ('NoResult', 'NotAllowed', 'NotOpened', 'OutOfMemory', 'PicklestepError', 'ProgramError', 'Refused', 'TimedOut', 'TooLarge'),
+    'converting': ('convert',),
+    'errors': ('NoResult', 'NotAllowed', 'NotConverted', 'NotOpened', 'NotRenamed', 'OutOfMemory', 'PicklestepError', 'ProgramError', 'Refused', 'TimedOut', 'TooLarge'),
+    'optimizing': ('optimize',),
     'python_source': ('PythonSource', 'source'),
-    'records': ('Argument', 'Brief', 'Briefs', 'Change', 'End', 'Extension', 'GateAnswer', 'Global', 'Item', 'Mark', 'Name', 'Object', 'Opcode', 'OtherForm',
-                'Ran', 'Reach', 'ReachAnswer', 'Ref', 'Shown', 'Value', 'Where'),
+    'records': ('Argument', 'Brief', 'Briefs', 'Change', 'End', 'Extension', 'GateAnswer', 'Global', 'Item', 'Mark', 'Member', 'Name', 'Object', 'Opcode',
+                'OtherForm', 'Ran', 'Reach', 'ReachAnswer', 'Ref', 'Shown', 'Value', 'Where'),
+    'renaming.one': ('Renamed', 'RenamedImport', 'rename'),
     'scan.checking': ('check',),
     'scan.gating': ('gate',),
     'session': ('Session',),
-    'tasks': ('calls', 'form', 'listing', 'objects', 'reach'),
+    'sizing': ('Again', 'MemoSize', 'PathSize', 'Saving', 'Sized', 'Sizes', 'size'),
+    'tasks': ('calls', 'form', 'listing', 'members', 'objects', 'reach'),
     'trees': ('Call', 'tree'),
     'values': ('PlainValue',),
 }

@@ -20,7 +20,7 @@ from .wording import shown
 if TYPE_CHECKING:
     from .scan.finder import Finding, Found
 
-__all__ = ['FoundPickle', 'FoundPickles', 'Opened', 'arrays_of', 'ends_early', 'given', 'holes_of', 'is_in', 'left_out', 'opened', 'opened_in',
+__all__ = ['FoundPickle', 'FoundPickles', 'Opened', 'arrays_of', 'bytes_at', 'ends_early', 'given', 'holes_of', 'is_in', 'left_out', 'opened', 'opened_in',
            'pickles_in', 'quoted', 'ranges', 'zip_behind']
 
 # So many addresses are shown, and so many lines of what was not looked at.
@@ -147,6 +147,23 @@ def opened(word: str) -> Optional[Opened]:
     return _Choice(file, address, finding).opened()
 
 
+def bytes_at(word: str) -> bytes:
+    """The bytes at an address, whatever they are. Raises NotOpened."""
+    parts = split(word)
+    assert parts is not None
+    file, address = parts
+    finding = _finder().find_at_server(file, address) if is_at_server(word) else _finder().find(file, address, of_any=True)
+    if finding.error is not None:
+        raise NotOpened(f'cannot read {shown(file)}: {finding.error}')
+    found = [each.content for each in finding.found if each.name == address]
+    if finding.is_of_several or len(found) > 1:
+        raise NotOpened(f'{shown(address)} in {shown(file)} is the address of several, and loaders differ in which they take')
+    content: Optional[bytes] = finding.content if finding.content is not None else found[0] if len(found) == 1 else None
+    if content is None:
+        raise NotOpened(f'nothing in {shown(file)} has the address {address!a}, or it is too large to be opened')
+    return content
+
+
 def _of_server(url: str, address: str) -> Opened:
     """A value of a server, or what is in it. Raises NotOpened. (All of its values are not listed: there may be millions.)"""
     if not address:
@@ -182,10 +199,11 @@ class _Choice:
         what = f'{self._name} is a container ({", ".join(self.finding.kinds)})' if self.finding.kinds else f'{self._name} is no pickle itself'
         if not self.below:
             raise NotOpened('\n'.join([f'{what}, and no pickle is found in it', *self._too(), *self._missed()]))
-        if len(self.below) > 1:
+        if len(self.below) > 1 or self.here:
+            # (What is said of the one in it would not be what a loader does that takes the bytes of the file.)
             head = f'{what} with {_pickles(len(self.below))}: give the address of one'
-            raise NotOpened('\n'.join([head, *_shown(self.file, self.below), *self._missed()]))
-        return self._of(self.below[0], [f'{what}: the one pickle in it is opened, {_quoted(self.file, self.below[0])}', *self._too()])
+            raise NotOpened('\n'.join([head, *_shown(self.file, self.below), *self._too(), *self._missed()]))
+        return self._of(self.below[0], [f'{what}: the one pickle in it is opened, {_quoted(self.file, self.below[0])}'])
 
     def _of_here(self) -> Opened:
         if len(self.here) > 1:

@@ -15,18 +15,21 @@ import sys
 from dataclasses import dataclass
 from typing import Iterator, List, Optional, Tuple
 
-from .entrance import explains
+from .entrance import explains, gathers, saves
 from .errors import PicklestepError, reason
 from .hints import Watch
-from .opens import has_zip_behind, is_archive, is_taken_apart, may_have_arrays
+from .opens import has_zip_behind, is_archive, is_taken_apart, may_have_arrays, split
 from .place import NOT_FOR_NODE, find_program, program_words
 from .wording import shown
 
 __all__ = ['main']
 
 _BLOCK = 1 << 16
+_HEAD = 1 << 10
 # Options of the program whose value is a word of its own.
 _WITH_VALUES = ('--memo', '--save', '--skip', '--window')
+# Words that are about the bytes of a file, whatever these hold.
+_OF_BYTES = ('assemble', 'members')
 _SIGNALS = ('SIGINT', 'SIGTERM', 'SIGHUP')  # (Windows has not all of them)
 
 
@@ -35,10 +38,16 @@ def main(words: List[str]) -> int:
     if explains(words):
         from .scan.explaining import main as explain
         return explain(words[1:])
+    if saves(words):
+        from .assembling import main as assemble
+        return assemble(words[1:])
     with contextlib.ExitStack() as held:
         try:
+            if gathers(words):
+                from .scan.listing import with_one_list
+                words = with_one_list(words, held)
             given = _given(words, held)
-        except PicklestepError as error:
+        except (PicklestepError, OSError) as error:
             return _complain(reason(error))
         for line in given.said:
             print(line if line.startswith('  ') else f'picklestep: {line}', file=sys.stderr)
@@ -67,9 +76,21 @@ def _run(given: _Given) -> int:
     if watch is None and status != 2:  # (the program had written all before its reader left)
         return _complain('cannot write')
     hints = () if watch is None else watch.hints_of_frames if given.leaves_out else watch.hints
-    for why in _unread(given.words[1:]) if status == 2 else hints:
+    for why in _unread(given.words[1:]) if status == 2 else (*hints, *(_kinds(given) if status and is_watched else ())):
         _complain(why)
     return status
+
+
+def _kinds(given: _Given) -> Iterator[str]:
+    """What a file begins like that nothing here opens."""
+    at = _place_of_file(given.words)
+    if at is None or given.said or not os.path.isfile(given.words[at]):
+        return
+    from .unread import kind_of_long
+    with contextlib.suppress(OSError), open(given.words[at], 'rb') as file:
+        kind = kind_of_long(file.read(_HEAD))
+        if kind is not None:
+            yield f'{shown(given.words[at])} begins like {kind}, which is not opened here'
 
 
 def _complain(text: str) -> int:
@@ -97,7 +118,9 @@ class _Given:
 def _given(words: List[str], held: contextlib.ExitStack) -> _Given:
     """What the program is given: the file, or the bytes that are opened in it, for as long as they are held. Raises NotOpened."""
     at = _place_of_file(words)
-    if at is None or words[0] == 'members' or words[0] == 'gate' and is_archive(words[at]):  # (these look at an archive themselves)
+    if words[0] in _OF_BYTES and at is not None and split(words[at]) is not None:
+        return _at_address(words, at, held)
+    if at is None or words[0] in _OF_BYTES or words[0] == 'gate' and is_archive(words[at]):  # (gate looks at an archive itself)
         return _Given(words)
     if is_taken_apart(words[at]):
         given = _opened(words, at, held)
@@ -109,22 +132,33 @@ def _given(words: List[str], held: contextlib.ExitStack) -> _Given:
 def _opened(words: List[str], at: int, held: contextlib.ExitStack) -> Optional[_Given]:
     """The same where something is opened."""
     from . import addresses  # (it takes longer to import than most answers take)
-    from .sources import Input
     found = addresses.opened(words[at])
     if found is None:
         return None
     out = _value_of(words, '--save')
     if out and addresses.is_in(out, found.path):
         raise PicklestepError(f'cannot write {shown(out)}: nothing is written into a container')
-    given = held.enter_context(Input(found.content))
-    for file in given.files:
-        os.set_inheritable(file, True)
-    made = _Given([*words[:at], given.path, *words[at + 1:]], said=found.said)
+    made = _Given(_with_content(words, at, found.content, held), said=found.said)
     if not found.skip or _value_of(words, '--skip'):
         return made
     if words[0] == 'calls':
         return made.without(found.skip, held, addresses.left_out(found.address, found.skip))
     return _Given(made.words, said=(*made.said, addresses.ends_early(found)))
+
+
+def _at_address(words: List[str], at: int, held: contextlib.ExitStack) -> _Given:
+    """The same where the bytes at an address are what is asked about, whatever is in them."""
+    from . import addresses
+    return _Given(_with_content(words, at, addresses.bytes_at(words[at]), held), said=(f'opened {addresses.quoted(words[at])}',))
+
+
+def _with_content(words: List[str], at: int, content: bytes, held: contextlib.ExitStack) -> List[str]:
+    """The words with these bytes in the place of a file."""
+    from .sources import Input
+    given = held.enter_context(Input(content))
+    for file in given.files:
+        os.set_inheritable(file, True)
+    return [*words[:at], given.path, *words[at + 1:]]
 
 
 def _beside(words: List[str], path: str, held: contextlib.ExitStack) -> _Given:

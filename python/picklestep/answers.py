@@ -2,28 +2,33 @@
 
 from __future__ import annotations
 
+import abc
 import html
 import re
 from array import array
 from functools import cached_property
-from itertools import chain
-from typing import Any, ClassVar, Iterator, List, Optional, Sequence, Tuple, TypeVar, Union, overload
+from itertools import chain, islice
+from typing import Any, ClassVar, Dict, Iterator, List, Optional, Sequence, Tuple, TypeVar, Union, overload
 
-from . import reaches, texts, texts_of_calls
+from . import listed, reaches, texts
 from .hints import Watch
 from .records import End, Item, Object, Opcode, Reach, Shown
 
-__all__ = ['Answer', 'Calls', 'Heap', 'Items', 'Listing', 'Objects', 'Part', 'Reached', 'ShownObjects']
+__all__ = ['Answer', 'Calls', 'Heap', 'Items', 'Listing', 'Objects', 'Part', 'Printed', 'Reached', 'ShownObjects']
 
 Line = TypeVar('Line')
 
 _SHOWN_LINES = 200
+_BLOCK = 1 << 16
+# How lines of `calls --json` begin that do not come from opcodes.
+_HEADING, _UNSURE = b'{"kind":"heading"', b'{"kind":"unsure"'
+_CLOSING = b'{"kind":"begins"', b'{"kind":"counts"', b'{"kind":"hole"'
 
 
 class Answer(Sequence[Line]):
-    """An answer of the program: a sequence over the lines of `text`, which is the program's own.
+    """An answer of the program: a sequence over lines, and the program's `text`.
 
-    Only the text is kept, and 8 bytes for each line once there was an index or a length: a line is read each time it is asked for.
+    What the program printed is kept, and 8 bytes for each line once there was an index or a length: a line is read each time it is asked for.
 
     >>> import picklestep
     >>> answer = picklestep.listing(b'N.')
@@ -31,27 +36,21 @@ class Answer(Sequence[Line]):
     '    0: N    NONE\\n    1: .    STOP\\nhighest protocol among opcodes = 0\\n'
     """
 
-    _lines: ClassVar['texts.LineReader[Any]']
     _what: ClassVar[str] = 'lines'
-
-    def __init__(self, text: str, refused_at: Optional[int] = None) -> None:
-        self.text = text
-        self._span = (0, len(text))  # where its lines are in the text
-        self._refused_at = refused_at  # the offset of a refused opcode, where the text does not show it
+    text: str
 
     @cached_property
     def _starts(self) -> 'array[int]':
         """Where the lines begin."""
-        return array('Q', (match.start() for match in self.matches()))
+        return array('Q', self._find())
 
-    def matches(self) -> Iterator['re.Match[str]']:
-        """The lines as they stand in the text.
+    @abc.abstractmethod
+    def _find(self) -> Iterator[int]:
+        """Where the lines begin, one after another."""
 
-        >>> import picklestep
-        >>> [match[0] for match in picklestep.objects(b'N.').matches()]
-        ['#0 none']
-        """
-        return self._lines.pattern.finditer(self.text, *self._span)
+    @abc.abstractmethod
+    def _at(self, start: int) -> Line:
+        """The line that begins at a place."""
 
     def __len__(self) -> int:
         return len(self._starts)
@@ -67,6 +66,49 @@ class Answer(Sequence[Line]):
             return [self._at(start) for start in self._starts[index]]
         return self._at(self._starts[index])
 
+    def __iter__(self) -> Iterator[Line]:
+        return map(self._at, self._find())
+
+    def _summary(self) -> str:
+        return f'{len(self)} {self._what}'
+
+    def __repr__(self) -> str:
+        return f'<{type(self).__name__}: {self._summary()}>'
+
+    def _shown(self) -> Tuple[List[str], int]:
+        """The first lines of the text, and how many there are besides."""
+        *lines, more = self.text.split('\n', _SHOWN_LINES)
+        return lines, more.count('\n')
+
+    def _repr_html_(self) -> str:
+        """The first lines of the text, for notebooks."""
+        lines, count = self._shown()
+        shown = html.escape('\n'.join(line if len(line) <= texts.TAIL else line[:texts.TAIL] + ' ..' for line in lines))
+        return f'<pre>{shown}{f"{chr(10)}.. {count} lines more" if count else ""}</pre><p>{html.escape(self._summary())}</p>'
+
+
+class Printed(Answer[Line]):
+    """An answer whose lines are those of its text."""
+
+    _lines: ClassVar['texts.LineReader[Any]']
+
+    def __init__(self, text: str, refused_at: Optional[int] = None) -> None:
+        self.text = text
+        self._span = (0, len(text))  # where its lines are in the text
+        self._refused_at = refused_at  # the offset of a refused opcode, where the text does not show it
+
+    def matches(self) -> Iterator['re.Match[str]']:
+        """The lines as they stand in the text.
+
+        >>> import picklestep
+        >>> [match[0] for match in picklestep.objects(b'N.').matches()]
+        ['#0 none']
+        """
+        return self._lines.pattern.finditer(self.text, *self._span)
+
+    def _find(self) -> Iterator[int]:
+        return (match.start() for match in self.matches())
+
     def _at(self, start: int) -> Line:
         match = self._lines.pattern.match(self.text, start)
         assert match is not None
@@ -81,20 +123,6 @@ class Answer(Sequence[Line]):
         """The closing lines. A line of which only a part was looked at is none of them."""
         return texts.closing_in(self.text, *self._span)
 
-    def _summary(self) -> str:
-        return f'{len(self)} {self._what}'
-
-    def __repr__(self) -> str:
-        return f'<{type(self).__name__}: {self._summary()}>'
-
-    def _repr_html_(self) -> str:
-        """The first lines of the text, for notebooks."""
-        lines = self.text.split('\n', _SHOWN_LINES)
-        more = lines.pop()
-        shown = html.escape('\n'.join(line if len(line) <= texts.TAIL else line[:texts.TAIL] + ' ..' for line in lines))
-        count = more.count('\n')
-        return f'<pre>{shown}{f"{chr(10)}.. {count} lines more" if count else ""}</pre><p>{html.escape(self._summary())}</p>'
-
 
 class Listing(Answer[Opcode]):
     """The opcodes of a pickle.
@@ -105,8 +133,52 @@ class Listing(Answer[Opcode]):
     ('NONE', 2, 'stopped', 0)
     """
 
-    _lines = texts.OPCODES
     _what = 'opcodes'
+
+    def __init__(self, json: bytes) -> None:
+        """Takes the lines of `list --json`. Raises ProgramError where they are not whole."""
+        self.json = listed.check_whole(json)
+
+    def _find(self) -> Iterator[int]:
+        return listed.starts_in(self.json)
+
+    def _at(self, start: int) -> Opcode:
+        return listed.opcode_of(self._fields(start))
+
+    def _fields(self, start: int) -> listed.Fields:
+        return listed.fields_of(self.json[start:self.json.index(b'\n', start)])
+
+    @cached_property
+    def _end(self) -> listed.Fields:
+        return self._fields(self.json.rfind(b'\n', 0, -1) + 1)
+
+    @property
+    def text(self) -> str:  # type: ignore[override]
+        """What `list` prints. It is made of the lines of JSON each time it is asked for.
+
+        >>> import picklestep
+        >>> picklestep.listing(b'K').text
+        'fault: F3 truncated at 0\\n'
+        """
+        return ''.join(f'{line}\n' for line in self._printed())
+
+    def _blocks(self) -> Iterator[bytes]:
+        return (self.json[at:at + _BLOCK] for at in range(0, len(self.json), _BLOCK))
+
+    def _all(self) -> Iterator[listed.Fields]:
+        """The fields of all lines."""
+        for lines in listed.whole_lines(self._blocks()):
+            yield from listed.fields_in(lines)
+
+    def __iter__(self) -> Iterator[Opcode]:
+        return listed.opcodes_of(self._blocks())
+
+    def _printed(self) -> Iterator[str]:
+        return chain.from_iterable(map(listed.printed, self._all()))
+
+    def _shown(self) -> Tuple[List[str], int]:
+        lines = list(islice(self._printed(), _SHOWN_LINES))
+        return lines, max(0, self.json.count(b'\n') + len(listed.closing_of(self._end)) - 1 - len(lines))
 
     @cached_property
     def end(self) -> End:
@@ -116,7 +188,7 @@ class Listing(Answer[Opcode]):
         >>> picklestep.listing(b'N0.').end
         End(how='refused', code='S2', text='S2 stack underflow', offset=2, item=2)
         """
-        return self._closing.end_of_listing(lambda: (self[-1].offset, len(self) - 1))
+        return listed.end_of(self._end, (self[-1].offset, len(self) - 1) if self._end['how'] == 'refused' else (None, None))
 
     @property
     def protocol(self) -> Optional[int]:
@@ -126,7 +198,8 @@ class Listing(Answer[Opcode]):
         >>> picklestep.listing(b']K\\x01a.').protocol, picklestep.listing(b'').protocol
         (1, None)
         """
-        return self._closing.protocol
+        protocol: Optional[int] = self._end.get('protocol')
+        return protocol
 
     @property
     def kept(self) -> int:
@@ -136,7 +209,7 @@ class Listing(Answer[Opcode]):
         >>> picklestep.listing(b'N.N.').kept, picklestep.listing(b'N.N.', many=True).kept
         (2, 0)
         """
-        return self._closing.kept
+        return int(self._end.get('kept', 0))
 
     @property
     def left(self) -> List[Tuple[int, int]]:
@@ -146,13 +219,13 @@ class Listing(Answer[Opcode]):
         >>> picklestep.listing(b'NN(N.').left
         [(2, 1)]
         """
-        return texts.left_in(self.text)
+        return listed.left_of(self.json)
 
     def _summary(self) -> str:
         return f'{len(self)} opcodes, {self.end.text}'
 
 
-class Heap(Answer[Object]):
+class Heap(Printed[Object]):
     """Objects, in the order in which they were made.
 
     >>> import picklestep
@@ -206,12 +279,66 @@ class Reached(Answer[Reach]):
     True
     """
 
-    _lines = reaches.REACHES
+    def __init__(self, json: bytes, start: int, end: int, refused_at: Optional[int] = None) -> None:
+        """Takes lines of `calls --json`, of which these are its own."""
+        self.json = json
+        self._refused_at = refused_at
+        self._start, self._end = start, end
 
     @cached_property
-    def _totals(self) -> Tuple[int, int]:
-        start, end = self._span
-        return texts_of_calls.counts_in(self.text, max(start, end - texts.TAIL), end)
+    def _behind(self) -> int:
+        """Where its lines end that come from opcodes."""
+        return min((at for at in (self.json.find(sign, self._start, self._end) for sign in _CLOSING) if at >= 0), default=self._end)
+
+    @property
+    def text(self) -> str:  # type: ignore[override]
+        """What `calls` prints of this and of all parts. It is made of the lines of JSON each time it is asked for.
+
+        >>> import picklestep
+        >>> picklestep.calls(b'N.').text
+        '0 imports, 0 calls\\n'
+        """
+        return ''.join(f'{line}\n' for line in self._printed())
+
+    def _printed(self) -> Iterator[str]:
+        return filter(None, map(reaches.text_of, self._fields(0, len(self.json))))
+
+    def _shown(self) -> Tuple[List[str], int]:
+        lines = list(islice(self._printed(), _SHOWN_LINES + 1))
+        return lines[:_SHOWN_LINES], 0 if len(lines) <= _SHOWN_LINES else self.json.count(b'\n') - 1 - _SHOWN_LINES
+
+    def _fields(self, start: int, end: int) -> Iterator[reaches.Fields]:
+        blocks = (self.json[at:min(at + _BLOCK, end)] for at in range(start, end, _BLOCK))
+        return chain.from_iterable(map(reaches.fields_in, listed.whole_lines(blocks)))
+
+    def fields(self) -> Iterator[reaches.Fields]:
+        """The fields of the lines that come from opcodes.
+
+        >>> import picklestep
+        >>> [fields['kind'] for fields in picklestep.calls(b'cos\\ngetcwd\\n.').fields()]
+        ['import']
+        """
+        return self._fields(self._start, self._behind)
+
+    def _find(self) -> Iterator[int]:
+        at = self._start
+        while at < self._behind:
+            yield at
+            at = self.json.index(b'\n', at) + 1
+
+    def _at(self, start: int) -> Reach:
+        return reaches.reach_of(reaches.fields_of(self.json[start:self.json.index(b'\n', start)]))
+
+    def __iter__(self) -> Iterator[Reach]:
+        return map(reaches.reach_of, self.fields())
+
+    @cached_property
+    def _closing(self) -> Dict[str, reaches.Fields]:
+        """The lines behind those of opcodes, by their kinds."""
+        return {fields['kind']: fields for fields in self._fields(self._behind, self._end)}
+
+    def _count(self, name: str) -> int:
+        return int(self._closing.get('counts', {}).get(name, 0))
 
     @property
     def imports(self) -> int:
@@ -221,7 +348,7 @@ class Reached(Answer[Reach]):
         >>> picklestep.calls(b'(ios\\ngetcwd\\n.').imports
         1
         """
-        return self._totals[0]
+        return self._count('imports')
 
     @property
     def calls(self) -> int:
@@ -231,7 +358,7 @@ class Reached(Answer[Reach]):
         >>> picklestep.calls(b'cos\\ngetcwd\\n)R.').calls
         1
         """
-        return self._totals[1]
+        return self._count('calls')
 
     @cached_property
     def end(self) -> End:
@@ -241,18 +368,19 @@ class Reached(Answer[Reach]):
         >>> picklestep.calls(b'cos\\ngetcwd\\nR.').end
         End(how='refused', code='S2', text='S2 stack underflow', offset=11, item=1)
         """
-        return self._closing.end(self._refused_at)
+        return reaches.end_of(self._closing, self._refused_at)
 
     @property
     def warning(self) -> Optional[str]:
-        """What the program warns of: that an import leads to the unpickler itself, so that what stands behind its line may do what no line shows.
-        None where no import does.
+        """What the program warns of: that an import leads to the unpickler itself, so that what stands behind its line may do what no line shows;
+        or else that a tuple is nested so deep that to hash it may take without end. None where neither is so.
 
         >>> import picklestep
         >>> picklestep.calls(b'cgc\\nget_objects\\n.').warning
         '#0 leads to the unpickler'
         """
-        return self._closing.warning
+        fields = self._closing.get('warning')
+        return None if fields is None else f'#{fields["object"]} {fields["words"]}'
 
     def _summary(self) -> str:
         return f'{self.imports} imports, {self.calls} calls, {self.end.text}{f", {self.warning}" if self.warning else ""}'
@@ -267,10 +395,10 @@ class Part(Reached):
     ('a loader may go on', "call 'os' 'getcwd' string 'a' as #2", 1, 'stopped')
     """
 
-    def __init__(self, text: str, heading: str, start: int, end: int) -> None:
-        super().__init__(text)
-        self.heading = heading
-        self._span = (start, end)
+    def __init__(self, json: bytes, start: int, end: int) -> None:
+        begin = json.index(b'\n', start) + 1
+        super().__init__(json, begin, end)
+        self.heading = reaches.text_of(reaches.fields_of(json[start:begin - 1]))[:-1]
 
 
 class Calls(Reached):
@@ -282,15 +410,19 @@ class Calls(Reached):
     (1, 1, 'call', Global(module=b'os', name=b'getcwd'))
     """
 
-    def __init__(self, text: str, refused_at: Optional[int] = None) -> None:
-        super().__init__(text, refused_at)
+    def __init__(self, json: bytes, refused_at: Optional[int] = None) -> None:
+        """Takes the lines of `calls --json`. Raises ProgramError where they are not whole."""
+        last = listed.check_whole(json).rfind(b'\n', 0, -1) + 1
+        mixed = json.rfind(b'\n', 0, max(0, last - 1)) + 1
+        fields = reaches.fields_of(json[mixed:last - 1]) if json.startswith(_UNSURE, mixed) else {}
+        # What the last line says where frames may be mixed.
+        self._mixed = listed.words_of(fields) if fields.get('code') == 'U3' else None
+        last = last if self._mixed is None else mixed
+        headings = [*listed.starts_in(json, _HEADING), last]
+        super().__init__(json, 0, headings[0], refused_at)
         # The bytes that were left out, each with its offset and its length.
         self.skipped: Tuple[Tuple[int, int], ...] = ()
-        self._mixed, last = texts_of_calls.mixed_in(text)
-        headings = texts_of_calls.headings_in(text)
-        ends = [heading.start for heading in headings[1:]] + [last]
-        self._parts = tuple(Part(text, heading.words, heading.end + 1, end) for heading, end in zip(headings, ends))
-        self._span = (0, headings[0].start if headings else last)
+        self._parts = tuple(Part(json, start, end) for start, end in zip(headings, headings[1:]))
 
     @property
     def mixed(self) -> Optional[str]:
@@ -330,8 +462,8 @@ class Calls(Reached):
         >>> picklestep.calls(b'PK\\x03\\x04').container
         'zip archive'
         """
-        start, end = self._span
-        return texts.container_in(self.text, max(start, end - texts.TAIL), end)
+        fields = self._closing.get('begins')
+        return None if fields is None else str(fields['like']).partition(' ')[2]
 
     @cached_property
     def _watch(self) -> Watch:
@@ -367,10 +499,10 @@ class Calls(Reached):
         >>> picklestep.calls(b'N.cos\\ngetcwd\\n.', first=True).kept
         12
         """
-        return self._closing.kept
+        return int(self._closing['ending'].get('kept', 0)) if 'ending' in self._closing else 0
 
 
-class Items(Answer[Item]):
+class Items(Printed[Item]):
     """The opcodes of a session, with their places.
 
     >>> import picklestep
@@ -383,7 +515,7 @@ class Items(Answer[Item]):
     _what = 'items'
 
 
-class ShownObjects(Answer[Shown]):
+class ShownObjects(Printed[Shown]):
     r"""An object and all that it holds, each with its depth.
 
     >>> import picklestep

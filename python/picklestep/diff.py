@@ -17,17 +17,21 @@ from .alike import paired
 from .answers import Calls
 from .comparing import Comparison, Difference, shown_line, shown_pair, shown_value
 from .errors import NoResult, PicklestepError, reason
-from .python_source.command import print_text
+from .printing import print_text
 from .records import Opcode, Reach
 from .sources import Source, rereadable
 from .tasks import calls, frames, listing
-from .texts_of_calls import unnumbered
+from .texts import renumbered
 from .trees import Values, objects_to_stop, values
+from .waiting import Waiting
 from .wording import shown
 
 __all__ = ['main', 'of_opcodes', 'of_reaches']
 
 _BLOCK = 1 << 20
+_MADE = ' as #'
+# What is said of bytes that differ, where their opcodes and arguments do not.
+_SPELLINGS = 'opcodes: the same, with arguments that are spelled otherwise'
 _T = TypeVar('_T')
 
 
@@ -44,19 +48,26 @@ def main(arguments: List[str]) -> int:
     parser.add_argument('--full', action='store_true', help='print whole arguments of imports and calls: they are not cut')
     options = parser.parse_args(arguments)
     try:
-        old, new = (rereadable(given(name)[0]) for name in (options.old, options.new))
-        if _has_same_bytes(old, new):
-            _named(options.old, lambda: objects_to_stop(old, options.many, options.unframed))
-            return 0
-        comparison = Comparison(_values(options.old, old, options), _values(options.new, new, options))
-        lines = [*map(str, comparison.of_results()), *of_reaches(old, new, options.unframed, comparison, options.full)]
-        lines += of_opcodes(old, new, options.many, options.unframed) if options.opcodes else []
-        lines += [] if options.many else _of_what_is_behind(old, new, options.unframed)
+        with Waiting():
+            lines = _lines(options)
     except (OSError, PicklestepError) as error:
         print(f'picklestep: {reason(error)}', file=sys.stderr)
         return 2
     print_text(''.join(f'{line}\n' for line in lines))
     return 1 if lines else 0
+
+
+def _lines(options: argparse.Namespace) -> List[str]:
+    """A line for each difference."""
+    old, new = (rereadable(given(name)[0]) for name in (options.old, options.new))
+    if _has_same_bytes(old, new):
+        _named(options.old, lambda: objects_to_stop(old, options.many, options.unframed))
+        return []
+    comparison = Comparison(_values(options.old, old, options), _values(options.new, new, options))
+    lines = [*map(str, comparison.of_results()), *of_reaches(old, new, options.unframed, comparison, options.full)]
+    lines += of_opcodes(old, new, options.many, options.unframed) if options.opcodes else []
+    lines += [] if options.many else _of_what_is_behind(old, new, options.unframed)
+    return lines or [_SPELLINGS] * options.opcodes
 
 
 def _values(name: str, pickle: Source, options: argparse.Namespace) -> Tuple[Values, Any]:
@@ -87,7 +98,7 @@ def of_reaches(old: Source, new: Source, unframed: bool = False, comparison: Opt
     readings end otherwise. Long lines are cut, unless they are wanted in full."""
     answers = [calls(source, full=True, skip=frames(source, many=True) if unframed else ()) for source in (old, new)]
     known = [list(answer) for answer in answers]
-    texts = [[unnumbered(reach.text) for reach in chain(reaches, *answer.parts)] for reaches, answer in zip(known, answers)]
+    texts = [[_unnumbered(reach.text) for reach in chain(reaches, *answer.parts)] for reaches, answer in zip(known, answers)]
     removed, added = list(_only_in(texts[0], texts[1])), list(_only_in(texts[1], texts[0]))
     for sign, some, others in (('-', removed, added), ('+', added, removed)):
         yield from (f'{sign} {text if full else shown_line(text, beside)}' for text, beside in zip(some, chain(others, repeat(''))))
@@ -134,12 +145,23 @@ def of_opcodes(old: Source, new: Source, many: bool = False, unframed: bool = Fa
             yield from (f'+ opcode at {other[rights[to]].offset}: {_shown_opcode(other[rights[to]])}' for to in more)
             if pair is not None:
                 first, second = one[lefts[pair[0]]], other[rights[pair[1]]]
-                yield f'opcode at {first.offset}: {first.name} {" -> ".join(shown_pair(_argument(first), _argument(second)))}'
+                yield f'opcode at {first.offset}: {first.name} {" -> ".join(shown_pair(*_arguments(first, second)))}'
 
 
 def _key(argument: Any) -> Any:
     """What an argument is compared by: of a number its digits, since a pickle can choose many numbers of one hash."""
     return f'{argument:x}' if type(argument) is int else argument
+
+
+def _arguments(one: Opcode, other: Opcode) -> Tuple[Any, Any]:
+    """The values of arguments that differ; where one value is spelled in two ways, the bytes of both."""
+    values = _argument(one), _argument(other)
+    is_spelled = values[0] == values[1] and one.argument != other.argument
+    return (_spelled(one.argument), _spelled(other.argument)) if is_spelled else values
+
+
+def _spelled(argument: Any) -> Any:
+    return b' '.join(argument) if isinstance(argument, tuple) else argument
 
 
 def _argument(opcode: Opcode) -> Any:
@@ -157,7 +179,17 @@ def _shown_opcode(opcode: Opcode) -> str:
 
 def _ends(answer: Calls) -> Tuple[str, ...]:
     """How the readings of a pickle end, without the places."""
-    return tuple(unnumbered(reading.end.text) for reading in (answer, *answer.parts))
+    return tuple(_unnumbered(reading.end.text.partition(' at ')[0]) for reading in (answer, *answer.parts))
+
+
+def _unnumbered(text: str) -> str:
+    """A line of `calls` without the numbers of objects, which every edit before it moves.
+
+    >>> _unnumbered("call 'os' 'system' ('#1') as #3"), _unnumbered('state #1 to #0')
+    ("call 'os' 'system' ('#1')", 'state # to #')
+    """
+    text = renumbered(text, lambda _: '')
+    return text[:-len(_MADE)] if text.endswith(_MADE) else text
 
 
 def _of_what_is_behind(old: Source, new: Source, unframed: bool) -> Iterator[str]:

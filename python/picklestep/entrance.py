@@ -11,13 +11,14 @@ import io
 import os
 import sys
 
-__all__ = ['explains', 'main', 'run', 'run_scan']
+__all__ = ['explains', 'gathers', 'main', 'run', 'run_scan', 'saves']
 
 _HERE = os.path.dirname(os.path.realpath(__file__))
 # Each word of the program has a page here, by which it is known.
 _PAGES = os.path.join(_HERE, 'help')
 # The words of this package, and the modules that do them.
-_OWN = {'dap': 'dap', 'diff': 'diff', 'mend': 'mend', 'policy': 'scan.policy.command', 'scan': 'scan', 'shell': 'shell', 'source': 'python_source', 'view': 'view'}
+_OWN = {'convert': 'converting', 'dap': 'dap', 'diff': 'diff', 'mend': 'mend', 'optimize': 'optimizing', 'policy': 'scan.policy.command', 'rename': 'renaming.command',
+        'scan': 'scan', 'shell': 'shell.command', 'size': 'sizing', 'source': 'python_source', 'view': 'view.command'}
 _MOST_WRONG = 2  # letters that are taken for a slip
 _ASKS_HELP = ('--help', '-h')
 
@@ -27,7 +28,7 @@ def main(words: 'list[str]') -> int:
     if sys.version_info < (3, 8):
         if words and _is_of_program(words[0]):
             return _hand_over(words)
-        return _complain('python3 is older than 3.8: only list, objects, calls, form, gate, reach, members and debug work with it')
+        return _complain('python3 is older than 3.8: only list, objects, calls, form, gate, reach, members, assemble and debug work with it')
     if not words or words[0] in _ASKS_HELP:
         return _print_page('picklestep', to_output=bool(words))
     first, rest = words[0], words[1:]
@@ -45,7 +46,7 @@ def main(words: 'list[str]') -> int:
         return _do_apart(['scan', os.path.join('.', first) if first.startswith('-') else first, *rest])
     from .opens import split
     if split(first) is not None:
-        return _complain(f'{first!r} is the address of a pickle, which a word opens: picklestep calls ADDRESS')
+        return _do_apart(['scan', *words])
     return _complain(f'{first!r} is neither a word of picklestep nor a file that is there: {_meant(first)}see picklestep --help')
 
 
@@ -107,9 +108,9 @@ def _slips(one: str, other: str) -> int:
 def _is_told_more(words: 'list[str]') -> bool:
     """Whether something stands beside the program's own lines: where else to look, or which file cannot be read; or something is opened, an
     address or a container (help/start.sh asks the same)."""
-    if words[0] == 'calls' or '--' in words:  # (behind that a file may have a name like an option)
+    if words[0] == 'calls' or saves(words) or '--' in words:  # (behind that a file may have a name like an option)
         return True
-    if explains(words):
+    if explains(words) or gathers(words):
         return True
     from .opens import holds_others
     opens = words[0] != 'gate' or len(words) <= 3  # (LIST and FILE: among several files none is opened)
@@ -122,8 +123,45 @@ def explains(words: 'list[str]') -> bool:
     >>> explains(['gate', '--explain', 'a.b']), explains(['gate', '--explain=a.b', 'c']), explains(['gate', 'c', '--', '--explain'])
     (True, True, False)
     """
+    return _has_option(words, '--explain')
+
+
+def saves(words: 'list[str]') -> bool:
+    """Whether `assemble` is to save what it makes, which this package does.
+
+    >>> saves(['assemble', 'a', '--save', 'b']), saves(['assemble', '--save=b', 'a']), saves(['debug', 'a', '--save', 'b'])
+    (True, True, False)
+    """
+    return _has_option(words, '--save', 'assemble')
+
+
+def gathers(words: 'list[str]') -> bool:
+    """Whether `gate` is given sets, several lists, or one that includes others: this package puts them together for the program.
+
+    >>> gathers(['gate', '--list', 'a', 'b']), gathers(['gate', 'numpy', 'b']), gathers(['gate', './numpy', 'b'])
+    (True, True, False)
+    """
+    if _has_option(words, '--list'):
+        return True
+    listed = next((word for word in words[1:] if not word.startswith('-')), '')
+    return words[0] == 'gate' and (_is_set(listed) or _includes(listed))
+
+
+def _has_option(words: 'list[str]', option: str, task: str = 'gate') -> bool:
     options = words[:words.index('--')] if '--' in words else words
-    return words[0] == 'gate' and any(word.partition('=')[0] == '--explain' for word in options)
+    return words[0] == task and any(word.partition('=')[0] == option for word in options)
+
+
+def _is_set(word: str) -> bool:
+    return '/' not in word and os.path.isfile(os.path.join(_HERE, 'scan', 'allow', f'{word}.txt'))
+
+
+def _includes(path: str) -> bool:
+    """Whether a list has a line that begins with `include`. (What is read once is left to the program.)"""
+    if not os.path.isfile(path) or not os.access(path, os.R_OK):
+        return False
+    with open(path, 'rb') as file:
+        return any(line.split(None, 1)[:1] == [b'include'] for line in file)
 
 
 def _hand_over(words: 'list[str]') -> int:
@@ -183,7 +221,11 @@ def _do_apart(words: 'list[str]') -> int:
         return _print_version()
     from importlib import import_module
     own = _OWN.get(words[0])
-    status: int = import_module(f'picklestep.{own}').main(words[1:]) if own else import_module('picklestep.answering').main(words)
+    try:
+        status: int = import_module(f'picklestep.{own}').main(words[1:]) if own else import_module('picklestep.answering').main(words)
+    except KeyboardInterrupt:
+        _complain('interrupted')
+        return 130
     return status
 
 
@@ -258,6 +300,9 @@ def _finish(words: 'list[str]') -> int:
             sys.stdout.flush()
     except (_Unwritten, BrokenPipeError) as error:
         return _complain(f'cannot write: {getattr(error, "strerror", None) or error}')
+    except KeyboardInterrupt:  # (a word that has more to say at Ctrl-C catches it itself)
+        print('picklestep: interrupted', file=sys.stderr)
+        return 130
 
 
 def run() -> None:

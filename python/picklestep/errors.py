@@ -7,7 +7,7 @@ from typing import List, Optional, Sequence
 from .texts import code_of
 from .wording import shown
 
-__all__ = ['NoResult', 'NotAllowed', 'NotOpened', 'OutOfMemory', 'PicklestepError', 'ProgramError', 'Refused', 'TimedOut', 'TooLarge']
+__all__ = ['NoResult', 'NotAllowed', 'NotConverted', 'NotOpened', 'NotRenamed', 'OutOfMemory', 'PicklestepError', 'ProgramError', 'Refused', 'TimedOut', 'TooLarge']
 
 
 # What reads on where reading ended at a frame: in Python, and on the command line.
@@ -122,6 +122,34 @@ class TimedOut(ProgramError, TimeoutError):
     >>> issubclass(TimedOut, TimeoutError)
     True
     """
+
+
+class NotRenamed(PicklestepError):
+    """`rename` cannot give other names to the imports of a pickle, and to nothing else. The text says why.
+
+    >>> import picklestep
+    >>> try:
+    ...     picklestep.rename(b'cold\\nA\\n', {'old': 'new'})
+    ... except picklestep.NotRenamed as error:
+    ...     print(error)
+    reading ends early: F1 ended at 7
+    """
+
+
+class NotConverted(PicklestepError):
+    """`convert` cannot make a pickle of another kind that loads alike. `lines` says why, with the offset of each opcode that stands against it.
+
+    >>> import picklestep
+    >>> try:
+    ...     picklestep.convert(b'U\\x01\\xe9.')
+    ... except picklestep.NotConverted as error:
+    ...     print(error)
+    0: SHORT_BINSTRING b'\\xe9': 'ascii' codec can't decode byte 0xe9 in position 0: ordinal not in range(128)
+    """
+
+    def __init__(self, lines: Sequence[str]) -> None:
+        super().__init__('\n'.join(lines))
+        self.lines = tuple(lines)
 
 
 class NotAllowed(PicklestepError):

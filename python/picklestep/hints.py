@@ -2,8 +2,7 @@
 
 from __future__ import annotations
 
-import re
-from typing import Optional, Set, Tuple
+from typing import Iterator, Optional, Set, Tuple
 
 __all__ = ['ARRAY', 'AT_FRAMES', 'FRAME', 'IN_FRAMES', 'OF_FRAMES', 'OLD_TORCH', 'PAST_END', 'WRAPPER', 'Watch', 'is_array_wrapper', 'of_array', 'of_frame']
 
@@ -24,12 +23,9 @@ _WRAPPER = 'NumpyArrayWrapper'
 WRAPPER = _WRAPPER.encode('ascii')
 # The number at the beginning of torch's layout before 1.6, in protocols 2 and later: LONG1 and its bytes. Its tensors are behind five pickles.
 OLD_TORCH = b'\x8a\x0al\xfc\x9cF\xf9 j\xa8P\x19'
-# A line of `calls` that makes one, or gets its class, and one that gives an object its state. (A line with --full may have the name a hundred
-# thousand times: it is looked for once.)
-_MADE = re.compile(rf"^ *[0-9]+: (?!import )[a-z]+ (?=.*{_WRAPPER}').* as #([0-9]+)$", re.MULTILINE)
-_STATE = re.compile(r'^ *([0-9]+): state .* to #([0-9]+)$', re.MULTILINE)
+_STATE, _MADE, _TO = ': state ', ' as #', ' to #'
 _FAULT = 'fault: F'
-_ENDED = re.compile(rf'^fault: ({"|".join(OF_FRAMES)}) ', re.MULTILINE)
+_ENDED = tuple(f'\nfault: {code} ' for code in OF_FRAMES)
 _HEADING = ' may go on:\n'
 
 
@@ -60,6 +56,15 @@ def of_frame(word: str = 'source') -> str:
     return FRAME.format(word)
 
 
+def _lines_with(sign: str, text: str) -> Iterator[str]:
+    """The lines in which a sign stands. (A line may have it a hundred thousand times: it is looked for once.)"""
+    at = text.find(sign)
+    while at >= 0:
+        end = text.find('\n', at)
+        yield text[text.rfind('\n', 0, at) + 1:end]
+        at = text.find(sign, end) if end >= 0 else end
+
+
 class Watch:
     """Reads an answer of `calls` as it comes, in pieces of whole lines. `array_at` is where joblib's first array begins.
 
@@ -77,14 +82,14 @@ class Watch:
     def feed(self, text: str) -> None:
         """Reads some lines."""
         if self.array_at is None:
-            if f"{_WRAPPER}'" in text:
-                self._wrappers.update(_MADE.findall(text))
-            if self._wrappers:
-                self.array_at = next((int(match[1]) + 1 for match in _STATE.finditer(text) if match[2] in self._wrappers), None)
+            made = (line.partition(': ')[2] for line in _lines_with(f"{_WRAPPER}'", text))
+            self._wrappers.update(said.rpartition(_MADE)[2] for said in made if not said.startswith('import ') and _MADE in said)
+            states = _lines_with(_STATE, text) if self._wrappers else ()
+            self.array_at = next((int(line.partition(': ')[0]) + 1 for line in states if line.rpartition(_TO)[2] in self._wrappers), None)
         if not self._is_behind:
             heading = text.find(_HEADING)
             self._is_behind, end = heading >= 0, heading if heading >= 0 else len(text)
-            if text.find(_FAULT, 0, end) >= 0 and _ENDED.search(text, 0, end) is not None:
+            if text.find(_FAULT, 0, end) >= 0 and any(f'\n{text}'.find(sign, 0, end) >= 0 for sign in _ENDED):
                 self._is_at_frame = True
 
     @property

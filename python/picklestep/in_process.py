@@ -96,7 +96,7 @@ class _Room:
 
     def taken(self) -> bytes:
         """The text."""
-        return self.text[:self.written.size]
+        return cast(bytes, self.text[:self.written.size])
 
 
 class _Sessions:

@@ -118,8 +118,8 @@ def gate(entries: bytes, content: bytes, memory: Optional[int] = None) -> Option
 
 
 def reach(content: bytes, granted: int = 0, memory: Optional[int] = None) -> Optional[bytes]:
-    """What the program says of whether a loader of these bytes reaches something. `granted` is the sum of what it was given besides: 1 extension
-    codes, 2 a persistent_load, 4 buffers. None where the program has to be asked.
+    """What the program says with `--json` of whether a loader of these bytes reaches something. `granted` is the sum of what it was given besides:
+    1 extension codes, 2 a persistent_load, 4 buffers. None where the program has to be asked.
 
     >>> reach(b'N' * 10_000_000) is None
     True

@@ -1,155 +1,572 @@
-"""The lines of a listing as the program writes them, for what reads each opcode of a large pickle once.
+"""The lines of `list --json`, read: each opcode, what a STOP left, and how reading ended. docs/reference/json.md has their fields.
 
-A listing's lines have their columns from the left: the offset, a colon, the code, and the name behind four blanks for each open mark. All
-lines whose offsets have as many digits begin their codes in the same column, so a batch of lines has one column.
+An object of such a line is called its fields here. `line_of` and `closing_of` write what `list` prints of them for people.
 """
 
 from __future__ import annotations
 
-from typing import AnyStr, Dict, Iterable, Iterator, List, Optional, Sequence, Tuple
+import json
+import struct
+from typing import Any, Collection, Dict, Generator, Iterable, Iterator, List, NamedTuple, Optional, Sequence, Tuple, Union
 
 from . import library
 from .errors import ProgramError
+from .opcodes import BY_NAME
 from .program import Process
-from .records import End
+from .records import Argument, End, Opcode
 from .sources import Input
-from .texts import Closing
 
-__all__ = ['Listed', 'TooDeep', 'bounded', 'in_columns', 'offset_of']
+__all__ = ['Batch', 'FRAME_SIZE', 'Fields', 'Line', 'Listed', 'argument_of', 'batch_of', 'check_whole', 'closing_of', 'codes_in', 'content_of', 'cut',
+           'end_of', 'fields_in', 'fields_of', 'fields_of_tails', 'frames_in', 'is_whole', 'joined', 'key_at', 'key_of', 'last_opcode', 'left_of',
+           'line_at', 'line_of', 'made_of', 'name_in', 'names_of', 'offset_at', 'offset_in', 'offsets_in', 'opcode_of', 'opcodes_of', 'packed', 'printed',
+           'shown_argument', 'shown_code', 'sign_of', 'sign_of_marks', 'signs_of_key', 'starts_in', 'unpacked', 'whole_lines', 'words_of']
 
-# So many bytes has a line besides texts and the blanks for open marks, and so many all these blanks.
-_MOST_LINE = 100
-_MOST_DEEP = 1 << 28
+Fields = Dict[str, Any]
+
+_Said = Tuple[bytes, str, Argument, str, int]
+# So many second parts of lines are kept at most behind a batch, and none behind one of so many bytes.
+_MOST_KNOWN = 10_000
+_MOST_OF_LINES = 4 << 20
+
+# How many bytes FRAME has.
+FRAME_SIZE = 9
+# How lines begin: the first field is the kind. No text in a line has a newline or a quote that is not escaped.
+_OPCODE, _LEFT, _END = b'{"kind":"opcode"', b'{"kind":"left"', b'{"kind":"end"'
+_NO_END = 'the program gave no whole answer'
 
 
-class TooDeep(ProgramError):
-    """A listing that is hardly more than blanks: there are four for each open mark in each line."""
-
-    def __init__(self) -> None:
-        super().__init__('too many marks are open at once to be shown')
+# (it does not look for blanks before and behind, as `json.loads` does)
+_read = json.JSONDecoder().raw_decode
 
 
-def bounded(blocks: Iterable[bytes], size: int) -> Iterator[bytes]:
-    """The blocks of a listing as they come, of an input of so many bytes. Raises TooDeep where too much of them is blanks for open marks.
+def fields_of(line: bytes) -> Fields:
+    """The fields of a line.
 
-    >>> sum(map(len, bounded([b'    0: N    NONE\\n', b'    1: .    STOP\\n'], 2)))
-    34
+    >>> fields_of(b'{"kind":"left","objects":1,"marks":0}')['objects']
+    1
     """
-    left = 4 * size + _MOST_DEEP  # (a byte of a text has up to four letters)
+    fields: Fields = _read(line.decode('ascii'))[0]
+    return fields
+
+
+def fields_in(lines: bytes) -> List[Fields]:
+    """The fields of lines, each with its newline.
+
+    >>> [each['kind'] for each in fields_in(b'{"kind":"left"}\\n{"kind":"end"}\\n')]
+    ['left', 'end']
+    """
+    found: List[Fields] = json.loads(f'[{lines[:-1].decode("ascii")}]'.replace('\n', ','))
+    return found
+
+
+# --- Lines among others ---
+
+def starts_in(lines: bytes, begins: bytes = _OPCODE) -> Iterator[int]:
+    """Where the lines of opcodes begin.
+
+    >>> list(starts_in(b'{"kind":"opcode"}\\n{"kind":"left"}\\n{"kind":"opcode"}\\n'))
+    [0, 34]
+    """
+    if lines.startswith(begins):
+        yield 0
+    sought = b'\n' + begins
+    at = lines.find(sought)
+    while at >= 0:
+        yield at + 1
+        at = lines.find(sought, at + 1)
+
+
+def left_of(lines: bytes) -> List[Tuple[int, int]]:
+    """How many objects and marks each STOP left, of those that left any."""
+    return [(int(left['objects']), int(left['marks'])) for left in (fields_of(lines[at:lines.index(b'\n', at)]) for at in starts_in(lines, _LEFT))]
+
+
+def is_whole(lines: bytes) -> bool:
+    """Whether a listing is whole: then its last line says how reading ended."""
+    return lines.endswith(b'\n') and lines.startswith(_END, lines.rfind(b'\n', 0, -1) + 1)
+
+
+def check_whole(lines: bytes) -> bytes:
+    """The same lines. Raises ProgramError where they are not whole."""
+    if not is_whole(lines):
+        raise ProgramError(_NO_END)
+    return lines
+
+
+def frames_in(lines: bytes) -> Iterator[Tuple[int, int]]:
+    """The offset and the length of each FRAME in a listing: `calls` that leaves these bytes out reads a pickle unframed.
+
+    >>> list(frames_in(b'{"kind":"opcode","offset":2,"opcode":"FRAME","argument":2,"marks":0}\\n'))
+    [(2, 9)]
+    """
+    found = (fields_of(line) for line in lines.split(b'\n') if b'"FRAME"' in line)
+    return ((int(each['offset']), FRAME_SIZE) for each in found if each['opcode'] == 'FRAME')
+
+
+def whole_lines(blocks: Iterable[bytes]) -> Iterator[bytes]:
+    """The lines of blocks, some at a time."""
+    parts: List[bytes] = []
     for block in blocks:
-        left += _MOST_LINE * block.count(b'\n') - len(block)
-        if left < 0:
-            raise TooDeep
-        yield block
+        end = block.rfind(b'\n') + 1
+        if end:
+            parts.append(block[:end])
+            yield _taken_from(parts)
+        parts.append(block[end:])
+
+
+def _taken_from(parts: List[bytes]) -> bytes:
+    """The parts as one. The list has none of them then: they may be long."""
+    lines = b''.join(parts)
+    parts.clear()
+    return lines
+
+
+def last_opcode(blocks: Iterable[bytes]) -> Optional[Fields]:
+    """The last opcode of a listing, of which no more is kept than its end."""
+    parts: List[bytes] = []
+    for block in blocks:
+        if block.count(b'\n') > 2:
+            parts.clear()
+        parts.append(block)
+    lines = b''.join(parts).split(b'\n')[-3:-1]
+    return fields_of(lines[0]) if len(lines) == 2 and lines[0].startswith(_OPCODE) else None
+
+
+# --- Many opcodes ---
+
+class Batch(NamedTuple):
+    """Lines of opcodes, each in two parts: `heads` have the offsets, and `tails` what stands from the name on. Many tails are the same."""
+
+    heads: List[str]
+    tails: List[str]
+
+
+_HEAD, _TAIL = '{"kind":"opcode","offset":', ',"opcode":"'
+# (To replace a text by another one of its length takes half the time.)
+_BREAK = '\n'.rjust(len(_TAIL))
+_TAIL_BEGINS, _TAIL_BETWEEN = '{"opcode":"', ',{"opcode":"'
+
+
+def batch_of(lines: str) -> Batch:
+    """The opcodes among lines, each with its newline. No text in a line has the signs by which they are parted, since its quotes are escaped.
+
+    >>> batch_of('{"kind":"opcode","offset":2,"opcode":"NONE","marks":0}\\n{"kind":"left","objects":1,"marks":0}\\n')
+    Batch(heads=['{"kind":"opcode","offset":2          '], tails=['NONE","marks":0}'])
+    """
+    parts = lines.replace(_TAIL, _BREAK).split('\n')
+    if len(parts) != 2 * lines.count(_HEAD) + 1:  # (some are of another kind)
+        opcodes = [f'{line}\n' for line in lines.split('\n') if line.startswith(_HEAD)]
+        parts = ''.join(opcodes).replace(_TAIL, _BREAK).split('\n')
+    return Batch(parts[0:-1:2], parts[1::2])
+
+
+def offset_in(head: str) -> int:
+    """The offset in the first part of a line.
+
+    >>> offset_in('{"kind":"opcode","offset":2')
+    2
+    """
+    return int(head[len(_HEAD):].strip('" '))
+
+
+def offsets_in(heads: Sequence[str]) -> List[int]:
+    """The offsets in the first parts of many lines.
+
+    >>> offsets_in(['{"kind":"opcode","offset":2', '{"kind":"opcode","offset":13 '])
+    [2, 13]
+    """
+    return list(map(int, ' '.join(heads).replace(_HEAD, '').replace('"', '').split()))
+
+
+def name_in(tail: str) -> str:
+    """The name in the second part of a line.
+
+    >>> name_in('NONE","marks":0}')
+    'NONE'
+    """
+    return tail[:tail.index('"')]
+
+
+def fields_of_tails(tails: Collection[str]) -> List[Fields]:
+    """The fields in the second parts of lines.
+
+    >>> fields_of_tails(['NONE","marks":0}', 'BININT1","argument":7,"marks":0}'])[1]
+    {'opcode': 'BININT1', 'argument': 7, 'marks': 0}
+    """
+    if not tails:
+        return []
+    found: List[Fields] = _read(f'[{_TAIL_BEGINS}{_TAIL_BETWEEN.join(tails)}]')[0]
+    return found
+
+
+# What stands in each line of an opcode, and the control characters that stand for it where lines are kept: no line of JSON has one of its own.
+_BEGINS, _ENDS = b'{"kind":"opcode","offset":', b'}'
+_KEPT = (b'\t', b',"opcode":"'), (b'\v', b'","argument":'), (b'\f', b',"marks":')
+
+
+def packed(lines: bytes) -> bytes:
+    """Lines of opcodes, each with its newline, as they are kept: a third as long. What stands in texts stays as it is.
+
+    >>> packed(b'{"kind":"opcode","offset":2,"opcode":"BINGET","argument":7,"marks":0}\\n')
+    b'2\\tBINGET\\x0b7\\x0c0\\n'
+    """
+    for sign, words in _KEPT:
+        lines = lines.replace(words, sign)
+    return lines.replace(_BEGINS, b'').replace(_ENDS + b'\n', b'\n')
+
+
+def unpacked(line: bytes) -> Fields:
+    """The fields of a line that is kept so, without its newline.
+
+    >>> unpacked(b'2\\tBINGET\\x0b7\\x0c0')
+    {'kind': 'opcode', 'offset': 2, 'opcode': 'BINGET', 'argument': 7, 'marks': 0}
+    """
+    for sign, words in _KEPT:
+        line = line.replace(sign, words, 1)
+    return fields_of(_BEGINS + line + _ENDS)
+
+
+def signs_of_key(key: int) -> Tuple[bytes, ...]:
+    """What stands in the line, as it is kept, of an opcode that stores an object under this key or gets one; and in a few others."""
+    return b'\v%d\f' % key, b'"memo":%d' % key, b'"%d"' % key
+
+
+def sign_of(name: str, key: int) -> bytes:
+    """The same of an opcode of this name, whose argument is the key."""
+    return b'\t%b\v%d\f' % (name.encode('ascii'), key)
+
+
+def sign_of_marks(count: int) -> bytes:
+    """The same of so many open marks, and of as many as begin with these digits."""
+    return b'\f%d' % count
+
+
+def key_at(line: bytes) -> Optional[int]:
+    """The key in a line as it is kept.
+
+    >>> key_at(b'2\\tBINGET\\x0b7\\x0c0'), key_at(b'2\\tNONE"\\x0c0')
+    (7, None)
+    """
+    begin, end = line.find(b'\v') + 1, line.find(b'\f')
+    return int(line[begin:end]) if begin and line[begin:end].isdigit() else key_of(unpacked(line))
+
+
+def codes_in(lines: bytes) -> bytes:
+    """The codes of the opcodes in lines of which there may be millions.
+
+    >>> codes_in(b'{"kind":"opcode","offset":0,"opcode":"NONE","marks":0}\\n')
+    b'N'
+    """
+    return b''.join([_CODE_OF[rest[:rest.index(b'"')]] for rest in lines.split(b',"opcode":"')[1:]])
+
+
+def offset_at(lines: Union[bytes, bytearray], start: int) -> int:
+    """The offset in a line, as it is kept, that begins at a place.
+
+    >>> offset_at(b'12\\tNONE"\\x0c0', 0)
+    12
+    """
+    return int(lines[start:lines.index(b'\t', start)].strip(b'"'))
+
+
+# --- An opcode ---
+
+def opcode_of(fields: Fields) -> Opcode:
+    """The opcode of a line.
+
+    >>> opcode_of({'offset': 11, 'opcode': 'GLOBAL', 'module': 'os', 'name': 'getcwd', 'marks': 1})
+    Opcode(offset=11, code=b'c', name='GLOBAL', argument=(b'os', b'getcwd'), note='', marks=1)
+    """
+    return Opcode(int(fields['offset']), *_said(fields))
+
+
+def opcodes_of(blocks: Iterable[bytes]) -> Iterator[Opcode]:
+    """The opcodes of a listing that comes in blocks. What many lines say behind their offsets is read once.
+
+    >>> [opcode.offset for opcode in opcodes_of([b'{"kind":"opcode","offset":2,"opcode":"NONE","marks":0}\\n'])]
+    [2]
+    """
+    known: Dict[str, _Said] = {}
+    for lines in whole_lines(blocks):
+        batch = batch_of(lines.decode('ascii'))
+        new = set(batch.tails).difference(known)
+        known.update(zip(new, map(_said, fields_of_tails(new))))
+        for head, said in zip(batch.heads, map(known.__getitem__, batch.tails)):
+            yield Opcode(offset_in(head), *said)
+        if len(known) > _MOST_KNOWN or len(lines) > _MOST_OF_LINES:
+            known.clear()
+
+
+def _said(fields: Fields) -> _Said:
+    """What an opcode has besides its offset."""
+    name = fields['opcode']
+    return _CODES[name], name, argument_of(fields), _note(fields), fields['marks']
+
+
+def made_of(offset: int, name: str, argument: Argument) -> Fields:
+    """The fields of an opcode, of which it is not known how many marks are open before it."""
+    fields: Fields = {'kind': 'opcode', 'offset': offset, 'opcode': name}
+    for key, value in zip(('module', 'name'), argument) if isinstance(argument, tuple) else [('argument', argument)]:
+        if isinstance(value, bytes):
+            _put(fields, key, value)
+        elif isinstance(value, float):
+            fields['argument_f8_hex'] = struct.pack('>d', value).hex()
+        elif value is not None:
+            fields['argument' if abs(value) < _MOST_EXACT else 'argument_digits'] = value if abs(value) < _MOST_EXACT else str(value)
+    return {**fields, 'marks': 0}
+
+
+def _put(fields: Fields, name: str, content: bytes) -> None:
+    """Puts bytes into a field, as text if they are that."""
+    try:
+        fields[name] = content.decode('utf-8')
+    except UnicodeDecodeError:
+        fields[f'{name}_hex'] = content.hex()
+
+
+def argument_of(fields: Fields) -> Argument:
+    """The argument of an opcode: a number, bytes, two texts, or none.
+
+    >>> argument_of({'argument': 'id'}), argument_of({'argument_f8_hex': '3ff0000000000000'}), argument_of({'argument_le_hex': '0001'})
+    (b'id', 1.0, 256)
+    """
+    found = fields.get('argument')
+    if isinstance(found, int):
+        return found
+    if found is not None or 'argument_hex' in fields:
+        return content_of(fields)
+    if 'argument_digits' in fields:
+        return int(fields['argument_digits'])
+    if 'argument_f8_hex' in fields:
+        value: float = struct.unpack('>d', bytes.fromhex(fields['argument_f8_hex']))[0]
+        return value
+    if 'argument_le_hex' in fields:
+        return int.from_bytes(bytes.fromhex(fields['argument_le_hex']), 'little', signed=True)
+    return names_of(fields) if 'module' in fields or 'module_hex' in fields else None
+
+
+def content_of(fields: Fields, name: str = 'argument') -> bytes:
+    """The bytes of a field.
+
+    >>> content_of({'module': 'caf\\xe9'}, 'module'), content_of({'argument_hex': 'ff'})
+    (b'caf\\xc3\\xa9', b'\\xff')
+    """
+    text = fields.get(name)
+    return bytes.fromhex(fields[f'{name}_hex']) if text is None else str(text).encode('utf-8')
+
+
+def names_of(fields: Fields) -> Tuple[bytes, bytes]:
+    """The two texts of GLOBAL or INST."""
+    return content_of(fields, 'module'), content_of(fields, 'name')
+
+
+def key_of(fields: Fields) -> Optional[int]:
+    """The key of the memo under which an opcode stores an object, or gets one; None of an opcode that does neither.
+
+    >>> key_of({'opcode': 'BINPUT', 'argument': 17}), key_of({'opcode': 'MEMOIZE', 'memo': 0}), key_of({'opcode': 'BININT1', 'argument': 17})
+    (17, 0, None)
+    """
+    if 'memo' in fields:
+        return int(fields['memo'])
+    return int(fields.get('argument', fields.get('argument_digits', 0))) if fields['opcode'].endswith(('PUT', 'GET')) else None
+
+
+def _note(fields: Fields) -> str:
+    return f'MARK at {fields["mark"]}' if 'mark' in fields else f'as {fields["memo"]}' if 'memo' in fields else ''
+
+
+# --- How reading ended ---
+
+def end_of(fields: Fields, refused: Tuple[Optional[int], Optional[int]]) -> End:
+    """How reading ended, by the last line. Of an opcode that is refused its offset and its place are given.
+
+    >>> end_of({'how': 'fault', 'code': 'F2', 'words': 'unknown opcode', 'byte': 127, 'offset': 3}, (None, None)).text
+    'F2 unknown opcode 0x7f at 3'
+    """
+    how = fields['how']
+    if how == 'stopped':
+        return End(how)
+    offset, place = (int(fields['offset']), None) if how == 'fault' else refused
+    return End(how, fields['code'], words_of(fields), offset, place)
+
+
+def words_of(fields: Fields) -> str:
+    """What the program says of a refusal or a fault, or of where loaders disagree."""
+    signs = ('byte', ' 0x{:02x}'), ('object', ' #{}'), ('memo', ' {}'), ('number', ' {}'), ('offset', ' at {}')
+    return f'{fields["code"]} {fields["words"]}' + ''.join(form.format(fields[name]) for name, form in signs if name in fields)
+
+
+# --- The same as `list` prints it ---
+
+class Line(NamedTuple):
+    """An opcode as `list` prints it. `marks` is how many marks are open before it, `mark` the offset of the mark that it takes, and `key` that under
+    which it stores an object in the memo or gets one."""
+
+    offset: int
+    code: str
+    name: str
+    argument: str
+    marks: int
+    mark: Optional[int] = None
+    key: Optional[int] = None
+
+
+def line_at(fields: Fields) -> Line:
+    """The same of the fields of a line.
+
+    >>> line_at({'offset': 11, 'opcode': 'TUPLE', 'marks': 1, 'mark': 2})
+    Line(offset=11, code='t', name='TUPLE', argument='(MARK at 2)', marks=1, mark=2, key=None)
+    """
+    name, note, mark = fields['opcode'], _note(fields), fields.get('mark')
+    argument = ' '.join(filter(None, (shown_argument(fields), note and f'({note})')))
+    return Line(int(fields['offset']), _SHOWN_CODES[name], name, argument, fields['marks'], None if mark is None else int(mark), key_of(fields))
+
+
+def line_of(fields: Fields) -> str:
+    """The line of an opcode.
+
+    >>> line_of({'offset': 11, 'opcode': 'TUPLE', 'marks': 1, 'mark': 2})
+    '   11: t        TUPLE      (MARK at 2)'
+    """
+    line = line_at(fields)
+    begins = f'{line.offset:>5}: {line.code:4} {"    " * line.marks}'
+    return f'{begins}{line.name:10} {line.argument}' if line.argument else begins + line.name
+
+
+def shown_argument(fields: Fields) -> str:
+    """The argument of an opcode; nothing where it has none.
+
+    >>> shown_argument({'module_hex': 'ff', 'name': "it's"}), shown_argument({'argument_le_hex': '0001'})
+    ("'\\\\xff' 'it\\\\'s'", 'le:0001')
+    """
+    argument = fields.get('argument', fields.get('argument_digits'))
+    if isinstance(argument, int) or 'argument_digits' in fields:
+        return str(argument)
+    if argument is not None or 'argument_hex' in fields:
+        return _quoted(fields)
+    short = next((form for form in ('f8', 'le') if f'argument_{form}_hex' in fields), None)
+    if short is not None:
+        return f'{short}:{fields[f"argument_{short}_hex"]}'
+    return f'{_quoted(fields, "module")} {_quoted(fields, "name")}' if 'module' in fields or 'module_hex' in fields else ''
+
+
+def _quoted(fields: Fields, name: str = 'argument') -> str:
+    more = f' .. {fields[f"{name}_more"]} bytes more' if f'{name}_more' in fields else ''
+    return f"'{content_of(fields, name).decode('latin-1').translate(_ESCAPES)}{more}'"
+
+
+def printed(fields: Fields) -> List[str]:
+    """The lines that `list` prints of a line of JSON; none of a kind that is not known."""
+    return [line_of(fields)] if fields['kind'] == 'opcode' else closing_of(fields) if fields['kind'] in ('left', 'end') else []
+
+
+def closing_of(fields: Fields) -> List[str]:
+    """The lines of what a STOP left, or of the end.
+
+    >>> closing_of({'kind': 'end', 'how': 'stopped', 'kept': 3, 'protocol': 2})
+    ['kept: 3 bytes after STOP', 'highest protocol among opcodes = 2']
+    """
+    if fields['kind'] == 'left':
+        return [f'left: {fields["objects"]} objects, {fields["marks"]} marks']
+    ended = [f'{fields["how"]}: {words_of(fields)}'] if fields['how'] != 'stopped' else [f'kept: {fields["kept"]} bytes after STOP'] * bool(fields['kept'])
+    return ended + ([f'highest protocol among opcodes = {fields["protocol"]}'] if 'protocol' in fields else [])
+
+
+def shown_code(code: str) -> str:
+    """The code of an opcode.
+
+    >>> shown_code('c'), shown_code(chr(0x94))
+    ('c', '\\\\x94')
+    """
+    return code if '!' <= code <= '~' else f'\\x{ord(code):02x}'
+
+
+_MOST_EXACT = 1 << 53
+_LONGEST_ESCAPE = len('\\uXXXX') + 1
+_CODES = {name: bytes((opcode.code,)) for name, opcode in BY_NAME.items()}
+_CODE_OF = {name.encode('ascii'): code for name, code in _CODES.items()}
+_SHOWN_CODES = {name: shown_code(opcode.letter) for name, opcode in BY_NAME.items()}
+_ESCAPES = {**{code: f'\\x{code:02x}' for code in range(256) if not 32 <= code <= 126}, ord("'"): "\\'", ord('\\'): '\\\\'}
+
+
+# --- Long texts ---
+
+def cut(line: bytes, most: int) -> bytes:
+    """The line of an opcode, whose texts have at most so many bytes. How many there are more is in a field that the program does not write.
+
+    >>> cut(b'{"opcode":"BINUNICODE","argument":"abcdefgh","marks":0}', 5)
+    b'{"opcode":"BINUNICODE","marks":0,"argument":"abcde","argument_more":3}'
+    """
+    if len(line) <= most:
+        return line
+    fields = fields_of(line)
+    for name in ('argument', 'module', 'name'):
+        content = content_of(fields, name) if isinstance(fields.get(name), str) or f'{name}_hex' in fields else b''
+        if len(content) > most:
+            fields.pop(name, None), fields.pop(f'{name}_hex', None)
+            _put(fields, name, content[:most])
+            fields[f'{name}_more'] = fields.get(f'{name}_more', 0) + len(content) - most
+    return json.dumps(fields, separators=(',', ':')).encode('ascii')
+
+
+def joined(begins: bytes, left_out: int, ends: bytes) -> bytes:
+    """The line of an opcode with one text, out of whose midst so many letters were left.
+
+    >>> joined(b'{"opcode":"BINUNICODE","argument":"ab\\\\u00', 20, b'fgh","marks":0}')
+    b'{"opcode":"BINUNICODE","argument":"ab","marks":0,"argument_more":20}'
+    """
+    ends = ends[ends.rindex(b'","marks":'):]
+    for less in range(_LONGEST_ESCAPE):
+        try:
+            fields = fields_of(begins[:len(begins) - less] + ends)
+        except ValueError:
+            continue
+        if '\ud800' <= fields.get('argument', '')[-1:] <= '\udbff':  # (the first half of a sign)
+            fields['argument'] = fields['argument'][:-1]
+        return json.dumps({**fields, 'argument_more': left_out}, separators=(',', ':')).encode('ascii')
+    raise ProgramError(_NO_END)
 
 
 class Listed:
-    """The opcodes of an input, in batches of lines. How reading ended is known after the last batch.
+    """The opcodes of an input, in batches. How reading ended is known after the last batch.
 
-    A refused opcode is in no batch, since it does nothing; `refused` is its line then.
+    A refused opcode is in no batch, since it does nothing; `refused_at` is its offset then.
     """
 
     def __init__(self, given: Input, words: Sequence[str] = (), timeout: Optional[float] = None, memory: Optional[int] = None) -> None:
         """Starts a listing, or has that of a small input in this process; `words` say how the input is read."""
         content = given.small_content(library.MOST_BYTES) if timeout is None else None
-        text = None if content is None else library.answer(['list', *words], content, memory)
-        self._blocks = iter([text]) if text is not None else bounded(
-            Process(['list', given.path, *words], given.files, memory).blocks(timeout), given.size())
-        self._many = '--many' in words
-        self._closing: Dict[str, str] = {}
-        self._is_whole = False
-        self.refused = ''
+        lines = None if content is None else library.answer(['list', '--json', *words], content, memory)
+        self._blocks: Iterable[bytes] = [lines] if lines is not None else Process(['list', '--json', given.path, *words], given.files, memory).blocks(timeout)
+        self._end: Fields = {}
+        self.refused_at: Optional[int] = None
 
-    def batches(self) -> Iterator[Tuple[int, str]]:
-        """The text of lines, each with its newline, and the column in which their codes begin. A line of what STOP left comes in no batch."""
-        parts: List[bytes] = []  # from the last line on, which may be refused as only the next one says
-        for block in self._blocks:
-            end = block.rfind(b'\n') + 1
-            last = block.rfind(b'\n', 0, max(0, end - 1)) + 1
-            if not last:
-                parts.append(block)
-                continue
-            if block[last:last + 1].isalpha():
-                text = self._without_closing(b''.join([*parts, block[:end]]).decode('ascii'))
-                last = text.rfind('\n', 0, -1) + 1
-                parts = [text[last:].encode('ascii'), block[end:]]
-                text = text[:last]
-            else:
-                text = b''.join([*parts, memoryview(block)[:last]]).decode('ascii')
-                parts = [block[last:]]
-                if self._many and 'left: ' in text:
-                    text = self._without_closing(text)
-            yield from self._in_columns(text)
-        yield from self._in_columns(self._before_refused(b''.join(parts).decode('ascii')))
-
-    def _before_refused(self, text: str) -> str:
-        """The last lines, without the opcode that is refused, if one is."""
-        is_ended = text[-1:] in ('', '\n')
-        text = self._without_closing(text)
-        if not (is_ended and self._is_whole):
-            raise ProgramError('the program gave no whole answer')
-        if 'refused' not in self._closing:
-            return text
-        last = text.rfind('\n', 0, -1) + 1
-        self.refused = text[last:]
-        return text[:last]
-
-    def _without_closing(self, text: str) -> str:
-        """The lines of opcodes. What else there is, is kept by its words."""
-        found = []
-        for line in text.split('\n'):
-            if line[:1].isalpha():
-                word, _, rest = line.partition(' = ' if line.startswith('highest') else ': ')
-                self._closing[word] = rest
-                self._is_whole = self._is_whole or word not in ('left', 'kept')
-            else:
-                found.append(line)
-        return '\n'.join(found)
-
-    def _in_columns(self, text: str) -> Iterator[Tuple[int, str]]:
-        if not text:
-            return
-        last = text.rfind('\n', 0, -1) + 1
-        column = text.index(':') + 2
-        if text.index(':', last) + 2 - last == column:
-            yield column, text
-        else:
-            for column, lines in in_columns(text[:-1].split('\n'), ':'):
-                yield column, '\n'.join(lines) + '\n'
+    def batches(self) -> Generator[Batch, None, None]:
+        """The opcodes. Raises ProgramError where the listing is not whole."""
+        last = Batch([], [])  # (it may be refused, as only the end says)
+        for lines in whole_lines(self._blocks):
+            at = lines.rfind(b'\n', 0, -1) + 1
+            if lines.startswith(_END, at):
+                self._end = fields_of(lines[at:])
+            text = lines.decode('ascii')
+            del lines  # (they may be long)
+            batch = batch_of(text)
+            del text
+            batch.heads[:0], batch.tails[:0] = last
+            last = Batch(batch.heads[-1:], batch.tails[-1:])
+            del batch.heads[-1:], batch.tails[-1:]
+            yield batch
+        if not self._end:
+            raise ProgramError(_NO_END)
+        if self._end['how'] == 'refused':
+            self.refused_at, last = offset_in(last.heads[0]), Batch([], [])
+        yield last
 
     def end(self, places: int) -> End:
         """How reading ended, behind so many opcodes."""
-        return Closing(self._closing).end_of_listing(lambda: (offset_of(self.refused), places))
+        return end_of(self._end, (self.refused_at, places))
 
     @property
     def kept(self) -> int:
         """How many bytes are after STOP."""
-        return Closing(self._closing).kept
-
-
-def in_columns(lines: List[AnyStr], colon: AnyStr) -> Iterator[Tuple[int, List[AnyStr]]]:
-    """Lines in batches, each with the column in which its codes begin. Columns only grow.
-
-    >>> list(in_columns(['99999: N    NONE', '100000: .    STOP'], ':'))
-    [(7, ['99999: N    NONE']), (8, ['100000: .    STOP'])]
-    """
-    while lines:
-        column = lines[0].find(colon) + 2
-        if lines[-1].find(colon) + 2 == column:
-            yield column, lines
-            return
-        low, high = 0, len(lines) - 1
-        while low < high:
-            middle = (low + high) // 2
-            low, high = (middle + 1, high) if lines[middle].find(colon) + 2 == column else (low, middle)
-        yield column, lines[:low]
-        lines = lines[low:]
-
-
-def offset_of(line: str) -> int:
-    """The offset that a line begins with.
-
-    >>> offset_of('   11: N    NONE')
-    11
-    """
-    return int(line[:line.index(':')])
+        return int(self._end.get('kept', 0))

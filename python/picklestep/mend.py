@@ -3,14 +3,14 @@
 from __future__ import annotations
 
 import argparse
-import os
 import sys
 from typing import List, Optional
 
 from .addresses import Opened, given, is_in
 from .errors import PicklestepError, reason
 from .mending import mended
-from .python_source.command import print_text
+from .printing import print_text
+from .saving import is_same_file
 from .session import Session
 from .wording import shown
 
@@ -31,7 +31,7 @@ def main(arguments: List[str]) -> int:
     if options.out is not None and options.save is not None:
         parser.error('OUT is given twice')
     out = options.save if options.out is None else options.out
-    if _is_same(options.file, out):
+    if is_same_file(options.file, out):
         print('picklestep: OUT is FILE, which stays as it is', file=sys.stderr)
         return 2
     try:
@@ -54,8 +54,3 @@ def _check_out(out: Optional[str], found: Optional[Opened]) -> None:
     """Raises PicklestepError where the result would be written into a container, or in its place."""
     if out is not None and is_in(out, '' if found is None else found.path):
         raise PicklestepError(f'cannot write {shown(out)}: nothing is written into a container')
-
-
-def _is_same(file: str, out: Optional[str]) -> bool:
-    """Whether both are one file."""
-    return out is not None and os.path.exists(file) and os.path.exists(out) and os.path.samefile(file, out)

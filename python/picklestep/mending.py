@@ -17,6 +17,7 @@ from .addresses import opened_in
 from .answers import Heap
 from .errors import PicklestepError, Refused
 from .hints import OF_FRAMES
+from .listed import FRAME_SIZE
 from .opcodes import BY_NAME
 from .program import run_program
 from .records import End, Mark, Object
@@ -24,7 +25,7 @@ from .replies import opcode_refused_in, ran_of, refused_in
 from .session import Session
 from .sources import Input, OwnFile, Source, content_of
 from .tasks import modes
-from .texts import FRAME_SIZE, refused
+from .texts import refused
 
 __all__ = ['Mended', 'TooCrooked', 'mended']
 

@@ -49,6 +49,7 @@ _GROUP: int = getattr(subprocess, 'CREATE_NEW_PROCESS_GROUP', 0)  # (Windows has
 _HAS_LIFELINES = hasattr(fcntl, 'F_SETSIG')
 _HAS_LIMITS = hasattr(resource, 'prlimit')  # (of another process: only Linux has them)
 _WAITING, _STARTING = 5, 3
+_ENDING = 30  # (seconds that a program may take to end once it takes or gives no more, where others have the processor)
 _LIMITED = ['/bin/sh', '-c', 'ulimit -v "$1" && shift && exec "$@"', 'sh']
 
 
@@ -202,7 +203,7 @@ class Process:
     def fail(self) -> NoReturn:
         """Raises why the program gave no answer, which ends it where it runs."""
         try:
-            output = self._popen.communicate(timeout=1)
+            output = self._popen.communicate(timeout=_ENDING)
         except subprocess.TimeoutExpired:
             output = (b'', b'')
         self.close()

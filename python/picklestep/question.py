@@ -13,11 +13,14 @@ _TASKS = ('list', 'objects', 'calls')
 # How many options and inputs come before the room for the text. (Holes are an input of `calls`.)
 FUNCTIONS = {
     'picklestep_form': (0, 1),
+    'picklestep_form_json': (0, 1),
     'picklestep_gate': (0, 2),
     'picklestep_reach': (1, 1),
+    'picklestep_reach_json': (1, 1),
     'picklestep_members': (0, 1),
     **{f'picklestep_{task}_with': (1, 2 if task == 'calls' else 1) for task in _TASKS},
     'picklestep_list_json': (1, 1),
+    'picklestep_calls_json': (1, 2),
 }
 _MANY, _UNFRAMED = 1, 2
 # What a loader was given besides the bytes, for `reach`.
@@ -42,6 +45,8 @@ def question(words: Sequence[str], content: bytes) -> Optional[Question]:
     (16,)
     >>> question(['list', '--many', '--json'], b'N.').function
     'picklestep_list_json'
+    >>> question(['calls', '--json', '--skip', '3:2'], b'N.').function
+    'picklestep_calls_json'
     >>> question(['scan'], b'N.') is None
     True
     """
@@ -53,18 +58,19 @@ def question(words: Sequence[str], content: bytes) -> Optional[Question]:
 def _asked_by(words: Tuple[str, ...]) -> Optional[Question]:
     """What words ask, before it is known of what."""
     task, *rest = words
-    if task in ('form', 'members') and not rest:
-        return Question(f'picklestep_{task}', (), ())
-    if task == 'reach' and len({*rest}) == len(rest) and {*rest} <= {*_GRANTED}:
-        return Question('picklestep_reach', (granted(rest),), ())
-    if task == 'list' and '--json' in rest:
+    is_json = '--json' in rest
+    if is_json:
         rest.remove('--json')
-        options = _options(rest)
-        return None if options is None or options.holes else Question('picklestep_list_json', (options.number,), ())
+    if not rest and (task == 'form' or task == 'members' and not is_json):
+        return Question('picklestep_form_json' if is_json else f'picklestep_{task}', (), ())
+    if task == 'reach' and len({*rest}) == len(rest) and {*rest} <= {*_GRANTED}:
+        return Question('picklestep_reach_json' if is_json else 'picklestep_reach', (granted(rest),), ())
     options = _options(rest)
     if task not in _TASKS or options is None or (options.holes and task != 'calls'):
         return None
-    return Question(f'picklestep_{task}_with', (options.number,), ((options.holes, _SIZE_OF_HOLE),) if task == 'calls' else ())
+    function = f'picklestep_{task}_{"json" if is_json else "with"}'
+    holes = ((options.holes, _SIZE_OF_HOLE),) if task == 'calls' else ()
+    return Question(function, (options.number,), holes) if function in FUNCTIONS else None
 
 
 def reading(many: bool, unframed: bool) -> int:
@@ -91,8 +97,8 @@ def granted(words: Sequence[str]) -> int:
 
 
 def question_of_reach(content: bytes, granted: int) -> Question:
-    """Whether a loader of these bytes reaches something, that was given this besides."""
-    return Question('picklestep_reach', (granted,), ((content, _BYTE),))
+    """Whether a loader of these bytes reaches something, that was given this besides, as JSON."""
+    return Question('picklestep_reach_json', (granted,), ((content, _BYTE),))
 
 
 class _Options(NamedTuple):

@@ -1,265 +1,225 @@
-"""The program's lines of `calls`, read: what is imported and called, and the values in a line."""
+"""The lines of `calls --json`, read: what is imported and called, and how reading ended. docs/reference/json.md has their fields.
+
+An object of such a line is called its fields here, as in `listed`.
+"""
 
 from __future__ import annotations
 
-from typing import Callable, Dict, Iterator, List, Match, Optional, Pattern, Tuple, Union
+import codecs
+import json
+import struct
+from typing import Any, Callable, Dict, List, Optional, Tuple, Union
 
-from .records import Brief, Briefs, Extension, Global, Name, Reach, Ref, Value
-from .texts import LineReader, LinesError, number_of, unquoted
-from .texts_of_calls import BYTES_CUT, REACH, REACH_BEGINS, REACH_WORD, TEXT_NEXT, UNIT, VALUES_CUT
+from .listed import Fields, fields_in, fields_of, words_of
+from .records import Brief, Briefs, End, Extension, Global, Name, Reach, Ref, Value
 
-__all__ = ['LineKey', 'REACHES', 'line_of', 'number_in', 'offset_of', 'reach_of', 'reached_lines', 'text_of']
+__all__ = ['CHANGES', 'EVENTS', 'IMPORTS', 'Fields', 'check_texts', 'end_of', 'fields_in', 'fields_of', 'name_of', 'plainly_in', 'reach_of', 'said_in', 'text_of', 'value_of']
 
-# Most calls are made again and again.
-_IN_ROWS = frozenset({'call', 'new', 'inst'})
-
-
-class _Units:
-    """Reads what is in a line of `calls`: units with blanks between them, up to the word that ends them."""
-
-    def __init__(self, text: str, at: int) -> None:
-        self.text = text
-        self.at = at
-
-    def peek(self) -> str:
-        """The next word, sign or quoted text; an empty one at the end."""
-        match = UNIT.match(self.text, self.at)
-        return match[1] if match else ''
-
-    def take(self) -> str:
-        """The next word, sign or quoted text, which is gone over."""
-        match = UNIT.match(self.text, self.at)
-        if match is None:
-            raise LinesError(self.text)
-        self.at = match.end()
-        return match[1]
-
-    def until(self, *words: str) -> List[Value]:
-        """The units up to one of these words, or up to the end."""
-        units: List[Value] = []
-        while self.peek() not in words and self.peek():
-            units.append(self.unit())
-        return units
-
-    def unit(self) -> Value:
-        """One unit: the items of a tuple, or a value."""
-        if self.peek() != '(':
-            return self.brief()
-        self.take()
-        items: List[Brief] = []
-        while self.peek()[:1] not in (')', '+'):
-            items.append(self.brief())
-        more = self._number_after(VALUES_CUT)
-        if self.take() != ')':
-            raise LinesError(self.text)
-        return Briefs(tuple(items), more)
-
-    def brief(self) -> Brief:
-        """One value."""
-        word = self.take()
-        if word[0] == "'":
-            return Brief('text', unquoted(word), self.more())
-        if word == 'raw':
-            return Brief('raw', unquoted(self.take()), self.more())
-        if word[0] == '#':
-            return Brief('object', Ref(int(word[1:])))
-        if word in _CONSTANTS:
-            return Brief(word, _CONSTANTS[word])
-        if word == 'global':
-            return Brief(word, self.named())
-        if word == 'ext':
-            return Brief(word, Extension(int(self.take())))
-        return self.payload(word)
-
-    def named(self) -> Union[Global, Ref]:
-        """What an object imports that is an argument; its number where its names are not known."""
-        module = self.brief()
-        if isinstance(module.value, Ref) and not TEXT_NEXT.match(self.text, self.at):
-            return module.value
-        return _global(module, self.brief())
-
-    def payload(self, kind: str) -> Brief:
-        """The value after the word for its kind. Of a number that was cut the first bytes are shown."""
-        text = self.take()
-        if text == 'raw':
-            kind, text = f'raw {kind}', self.take()
-        more = self.more()
-        if text[0] == "'":
-            return Brief(kind, unquoted(text), more)
-        return Brief(kind, bytes.fromhex(text[3:]) if more else number_of(text), more)
-
-    def more(self) -> int:
-        """How many bytes were cut off a value: right behind it, as behind a comma are those of the list."""
-        return self._number_after(BYTES_CUT)
-
-    def _number_after(self, sign: Pattern[str]) -> int:
-        match = sign.match(self.text, self.at)
-        if match is None:
-            return 0
-        self.at = match.end()
-        return int(match[1])
-
-
+IMPORTS = ('import', 'inst')
+CHANGES = ('state', 'append', 'set', 'add')
+# The kinds of lines that come from an opcode. The others say how it all ended.
+EVENTS = frozenset((*IMPORTS, *CHANGES, 'call', 'new', 'persistent', 'buffer', 'readonly'))
 _CONSTANTS: Dict[str, Optional[bool]] = {'none': None, 'true': True, 'false': False}
+# What a text is called that cannot be decoded, by its kind.
+_RAW = {'text': 'raw', 'string': 'raw string'}
 
 
-def _part(brief: Brief) -> Union[bytes, Ref]:
-    """A part of a name: a text, or the object that it comes from."""
-    if isinstance(brief.value, (bytes, Ref)):
-        return brief.value
-    raise LinesError(str(brief))
+# --- Texts ---
+
+def _text(fields: Fields, name: str) -> Tuple[Optional[bytes], bool]:
+    """The value of a text, whatever its field is called, and whether it cannot be decoded: then these are the bytes as they stand in the pickle."""
+    text = fields.get(name)
+    if text is not None:
+        return text.encode('utf-8'), False
+    for ending, decode in _DECODERS:
+        text = fields.get(f'{name}_{ending}')
+        if text is not None:
+            return decode(bytes.fromhex(text)), ending == 'raw_hex'
+    return None, False
 
 
-def _global(module: Brief, name: Brief) -> Global:
-    """What two parts name."""
-    raw = tuple(part for part, brief in (('module', module), ('name', name)) if brief.kind == 'raw')
-    return Global(_part(module), _part(name), raw)
+_DECODERS: Tuple[Tuple[str, Callable[[bytes], Any]], ...] = (
+    ('hex', bytes), ('raw_hex', bytes), ('raw_unicode_escape_hex', lambda text: text.decode('raw_unicode_escape').encode('utf-8', 'surrogatepass')),
+    ('string_escape_hex', lambda text: codecs.escape_decode(_escaped(text))[0]))
+# How the names of fields end whose texts are spelled by escapes.
+_ESCAPED = b'_escape_hex"'
+# What a backslash of Python's literals may stand before.
+_ESCAPES = frozenset(b'\n\'"abfnrtvx01234567')
 
 
-def _brief(value: Value) -> Brief:
-    if isinstance(value, Brief):
-        return value
-    raise LinesError(str(value))
+def _escaped(text: bytes) -> bytes:
+    """The same text, where each backslash that stands for itself is escaped: Python warns of others.
 
-
-def _name(what: str, units: List[Value]) -> Tuple[Name, List[Value]]:
-    """The name in front of units, and what comes after it. Only an import shows an object as a module: what is called is shown by its
-    own number where its names are no texts."""
-    first = _brief(units[0])
-    if isinstance(first.value, Extension):
-        return first.value, units[1:]
-    if isinstance(first.value, bytes) or what == 'import':
-        return _global(first, _brief(units[1])), units[2:]
-    if isinstance(first.value, Ref):
-        return first.value, units[1:]
-    raise LinesError(str(first))
-
-
-def _said(what: str, units: '_Units') -> Tuple[Optional[Global], List[Value]]:
-    """The names of Python 2 behind `for`, and what comes after them."""
-    units.take()
-    said, values = _name(what, units.until('as'))
-    if not isinstance(said, Global):
-        raise LinesError(str(said))
-    return said, values
-
-
-def reach_of(line: str) -> Reach:
-    """What a line of `calls` says.
-
-    >>> reach_of("   23: call 'posix' 'system' ('id') as #3").name
-    Global(module=b'posix', name=b'system')
-    >>> reach_of("    0: import 'builtins' 'eval' for '__builtin__' 'eval' as #0").said
-    Global(module=b'__builtin__', name=b'eval')
+    >>> _escaped(rb'\\n\\q\\\\x')
+    b'\\\\n\\\\\\\\q\\\\\\\\x'
     """
-    match = REACH_WORD.match(line)
-    if match is None:
-        raise LinesError(line)
-    what, text = match[2], line[match.start(2):]
-    return _REACHES[what](int(match[1]), what, text, _Units(line, match.end()))
+    parts = (part.split(b'\\') for part in text.split(b'\\\\'))
+    return b'\\\\'.join(begin + b''.join(b'\\' * (1 if set(each[:1]) & _ESCAPES else 2) + each for each in rest) for begin, *rest in parts)
 
 
-def _named(offset: int, what: str, text: str, units: _Units) -> Reach:
-    """Lines that name what is imported or called, and end in the object that is made."""
-    name, values = _name(what, units.until('as', 'for'))
-    said = None
-    if units.peek() == 'for':
-        said, values = _said(what, units)
-    number = _last_number(units)
-    return Reach(offset, what, text, name=name, value=values[0] if values else None,
-                 keywords=values[1] if len(values) > 1 else None, number=number, said=said)
+def plainly_in(lines: bytes) -> Tuple[List[Fields], bytes]:
+    """The fields of lines, each with its newline, and the lines. A text that is spelled by escapes stands in both as the text that it says, under its
+    plain name, if it can be decoded: whoever looks for a name finds it however it is spelled.
 
-
-def _last_number(units: _Units) -> int:
-    """The object that a line ends in, after the word before it."""
-    units.take()
-    return int(units.take()[1:])
-
-
-def _state(offset: int, what: str, text: str, units: _Units) -> Reach:
-    value, = units.until('to')
-    return Reach(offset, what, text, value=value, target=_last_number(units))
-
-
-def _filled(offset: int, what: str, text: str, units: _Units) -> Reach:
-    count = int(units.take())
-    return Reach(offset, what, text, count=count, target=_last_number(units))
-
-
-def _persistent(offset: int, what: str, text: str, units: _Units) -> Reach:
-    value, = units.until('as')
-    return Reach(offset, what, text, value=value, number=_last_number(units))
-
-
-def _buffer(offset: int, what: str, text: str, units: _Units) -> Reach:
-    count = int(units.take())
-    return Reach(offset, what, text, count=count, number=_last_number(units))
-
-
-def _readonly(offset: int, what: str, text: str, units: _Units) -> Reach:
-    target = int(units.take()[1:])
-    return Reach(offset, what, text, target=target, number=_last_number(units))
-
-
-_REACHES: Dict[str, Callable[[int, str, str, _Units], Reach]] = {
-    'import': _named, 'inst': _named, 'call': _named, 'new': _named, 'state': _state, 'append': _filled, 'set': _filled, 'add': _filled,
-    'persistent': _persistent, 'buffer': _buffer, 'readonly': _readonly}
-
-
-REACHES = LineReader(REACH, lambda match: reach_of(match[0]))
-
-
-# --- One line, as far as it is asked for ---
-
-# The first word of a line, and the name behind it where the module is in quotes: lines that have the same say the same, but for numbers and
-# arguments.
-LineKey = Tuple[str, Optional[str]]
-
-
-def reached_lines(text: str, start: int, end: int, each: bool = False) -> Iterator[Tuple[LineKey, int, Match[str]]]:
-    """The lines in a part of a text, each with its key and the match of its beginning: a pickle may have a hundred thousand lines and few names.
-
-    The number says how many lines of that key are counted by it, which come one after another (and have offsets of as many digits). With `each`
-    every line comes by itself.
-
-    >>> [found[:2] for found in reached_lines("0: new 'a' 'b' () as #2\\n9: new 'a' 'b' (#2) as #4\\n12: state #4 to #2\\n", 0, 70)]
-    [(('new', "'a' 'b'"), 2), (('state', None), 1)]
+    >>> plainly_in(b'{"kind":"import","module_string_escape_hex":"5c7836656f","name":"x"}\\n')
+    ([{'kind': 'import', 'module': 'no', 'name': 'x'}], b'{"kind":"import","module":"no","name":"x"}\\n')
     """
-    key: LineKey = '', None
-    match: Match[str]
-    begin, count, said, at, end_of_said = REACH_BEGINS.match, 0, '', 0, 0
-    for line in text[start:end].split('\n'):
-        if said and line[at:end_of_said] == said:
-            count += 1
-            continue
-        if count:
-            yield key, count, match
-        found, count, said = begin(line), 0, ''
-        if found is not None:
-            match, count = found, 1
-            key = match[2], match[3]
-            if not each and key[1] is not None and key[0] in _IN_ROWS:
-                said, at = f': {key[0]} {key[1]} ', match.start(2) - 2
-                end_of_said = at + len(said)
-    if count:
-        yield key, count, match
+    fields = fields_in(lines)
+    if _ESCAPED not in lines:
+        return fields, lines
+    plain: List[Fields] = [_plainly(each) for each in fields]
+    return plain, b''.join(json.dumps(each, separators=(',', ':')).encode('ascii') + b'\n' for each in plain)
 
 
-def offset_of(match: Match[str]) -> int:
-    """The offset of the first line that matched."""
-    return int(match[1])
+def _plainly(value: Any) -> Any:
+    if isinstance(value, list):
+        return [_plainly(each) for each in value]
+    return dict(_plain_field(name, each) for name, each in value.items()) if isinstance(value, dict) else value
 
 
-def text_of(match: Match[str]) -> str:
-    """What stands behind the offset in the first line that matched."""
-    return match.string[match.start(2):]
+def _plain_field(name: str, value: Any) -> Tuple[str, Any]:
+    for ending, decode in _DECODERS[2:]:
+        plain, found, _ = name.rpartition(f'_{ending}')
+        if found:
+            try:
+                return plain, decode(bytes.fromhex(value)).decode('utf-8')
+            except ValueError:
+                return name, value
+    return name, _plainly(value)
 
 
-def line_of(match: Match[str]) -> str:
-    """The first line that matched."""
-    return match.string
+def _pair(fields: Fields, before: str = '') -> Optional[Global]:
+    """The two parts of a name, if there are some."""
+    parts: List[Union[bytes, Ref]] = []
+    raw = []
+    for name in ('module', 'name'):
+        text, is_raw = _text(fields, before + name)
+        if is_raw:
+            raw.append(name)
+        if text is None and f'{before}{name}_object' not in fields:
+            return None
+        parts.append(Ref(int(fields[f'{before}{name}_object'])) if text is None else text)
+    return Global(parts[0], parts[1], tuple(raw))
 
 
-def number_in(match: Match[str]) -> str:
-    """The number of the object in which the first line that matched ends, which it makes or gives something, as text."""
-    return match.string.rpartition('#')[2]
+def name_of(fields: Fields) -> Optional[Name]:
+    """What a line imports or calls.
+
+    >>> name_of({'module': 'posix', 'name': 'system'}), name_of({'extension': 7}), name_of({'callee': 3})
+    (Global(module=b'posix', name=b'system'), Extension(code=7), Ref(number=3))
+    """
+    if 'extension' in fields:
+        return Extension(int(fields['extension']))
+    return Ref(int(fields['callee'])) if 'callee' in fields else _pair(fields)
+
+
+# --- Values ---
+
+def _brief(fields: Fields) -> Brief:
+    """A value in a line."""
+    kind, more = fields['kind'], int(fields.get('more', 0))
+    if kind == 'object':
+        return Brief(kind, Ref(int(fields['object'])))
+    if kind in _CONSTANTS:
+        return Brief(kind, _CONSTANTS[kind])
+    if kind == 'global':
+        return Brief(kind, Ref(int(fields['object'])) if 'object' in fields else _pair(fields))
+    if kind == 'extension':
+        return Brief('ext', Extension(int(fields['number'])))
+    if kind == 'int' and 'le_hex' in fields:
+        content = bytes.fromhex(fields['le_hex'])
+        return Brief(kind, content if more else int.from_bytes(content, 'little', signed=True), more)
+    if kind == 'int':
+        return Brief(kind, int(fields['value'] if 'value' in fields else fields['digits']), more)
+    if kind == 'float':
+        return Brief(kind, struct.unpack('>d', bytes.fromhex(fields['f8_hex']))[0], more)
+    text, is_raw = _text(fields, 'value')
+    return Brief(_RAW[kind] if is_raw else kind, text, more)
+
+
+def value_of(fields: Fields, name: str) -> Optional[Value]:
+    """The arguments, the state or the persistent id in a line, by the name of its field. An array has the items of a tuple.
+
+    >>> value_of({'args': [{'kind': 'text', 'value': 'id'}]}, 'args')
+    Briefs(items=(Brief(kind='text', value=b'id', more=0),), more=0)
+    """
+    value = fields.get(name)
+    if isinstance(value, list):
+        return Briefs(tuple(map(_brief, value)), int(fields.get(f'{name}_more', 0)))
+    return None if value is None else _brief(value)
+
+
+# --- Lines ---
+
+def said_in(fields: Fields) -> str:
+    """What `calls` prints of a line, without its offset.
+
+    >>> said_in({'text': '   23: state #1 to #0'})
+    'state #1 to #0'
+    """
+    return text_of(fields).partition(': ')[2]
+
+
+def reach_of(fields: Fields) -> Reach:
+    """What a line says that comes from an opcode.
+
+    >>> reach_of({'kind': 'state', 'offset': 4, 'state': {'kind': 'none'}, 'object': 0, 'text': '    4: state none to #0'})
+    Reach(offset=4, what='state', text='state none to #0', name=None, value=Brief(kind='none', value=None, more=0), keywords=None, count=None, number=None, target=0, said=None)
+    """
+    what, offset, number = fields['kind'], int(fields['offset']), int(fields['object'])
+    if what in CHANGES:
+        count = int(fields['count']) if 'count' in fields else None
+        return Reach(offset, what, said_in(fields), value=value_of(fields, 'state'), count=count, target=number)
+    if what == 'persistent':
+        text, is_raw = _text(fields, 'line')
+        value = value_of(fields, 'id') if text is None else Brief('raw' if is_raw else 'text', text)
+        return Reach(offset, what, said_in(fields), value=value, number=number)
+    if what == 'buffer':
+        return Reach(offset, what, said_in(fields), count=int(fields['number']), number=number)
+    if what == 'readonly':
+        return Reach(offset, what, said_in(fields), target=int(fields['of']), number=number)
+    return Reach(offset, what, said_in(fields), name=name_of(fields), value=value_of(fields, 'args'), keywords=value_of(fields, 'keywords'),
+                 number=number, said=_pair(fields, 'for_'))
+
+
+# --- How reading ended ---
+
+def end_of(closing: Dict[str, Fields], refused_at: Optional[int] = None) -> End:
+    """How reading ended, by the last lines, each under its kind. Of an opcode that is refused its offset may be given.
+
+    >>> end_of({'ending': {'how': 'fault', 'code': 'F1', 'words': 'ended', 'offset': 3}}).text
+    'F1 ended at 3'
+    """
+    if 'hole' in closing:
+        return End('refused', text=text_of(closing['hole']).partition(': ')[2])
+    fields = closing.get('ending', {'how': 'stopped'})  # (of what is cut the end is not known)
+    if fields['how'] == 'stopped' and 'unsure' not in closing:
+        return End('stopped')
+    if fields['how'] == 'refused':
+        return End('refused', fields['code'], words_of(fields), refused_at, int(fields['item']))
+    fields = fields if fields['how'] != 'stopped' else closing['unsure']
+    return End(fields.get('how', 'unsure'), fields['code'], words_of(fields), int(fields['offset']))
+
+
+# --- Lines for people ---
+
+def text_of(fields: Fields) -> str:
+    """The line that `calls` prints; an empty one where it prints none."""
+    text: str = fields.get('text', '')
+    return text
+
+
+def check_texts(lines: bytes, printed: Callable[[], bytes]) -> bytes:
+    """The same lines, each with its text: one that is too long for a line of JSON is taken from what `calls` prints."""
+    if lines.count(_TEXT) >= lines.count(b'\n') - 1:
+        return lines
+    texts = iter(printed().decode('ascii').split('\n'))
+    found, is_in_part = [], False
+    for fields in fields_in(lines):
+        is_in_part = is_in_part or fields['kind'] == 'heading'
+        is_silent = fields['kind'] == 'end' or fields['kind'] == 'ending' and fields['how'] == 'stopped' and not fields['kept'] and not is_in_part
+        found.append(fields if is_silent else {**fields, 'text': next(texts)})
+    return b''.join(json.dumps(fields, separators=(',', ':')).encode('ascii') + b'\n' for fields in found)
+
+
+_TEXT = b',"text":"'

@@ -8,7 +8,7 @@ from typing import Any, Dict, Optional, Tuple, Union
 
 from .values import PLAIN_KINDS, Argument, PlainValue, argument_value, kind_value
 
-__all__ = ['Argument', 'Brief', 'Briefs', 'Change', 'End', 'Extension', 'GateAnswer', 'Global', 'Item', 'Mark', 'Name', 'Object', 'Opcode',
+__all__ = ['Argument', 'Brief', 'Briefs', 'Change', 'End', 'Extension', 'GateAnswer', 'Global', 'Item', 'Mark', 'Member', 'Name', 'Object', 'Opcode',
            'OtherForm', 'Ran', 'Reach', 'ReachAnswer', 'Ref', 'Shown', 'Value', 'Where']
 
 _SLOTS: Dict[str, Any] = {'slots': True} if sys.version_info >= (3, 10) else {}
@@ -18,8 +18,8 @@ _SLOTS: Dict[str, Any] = {'slots': True} if sys.version_info >= (3, 10) else {}
 class End:
     """How reading ended.
 
-    `how` is 'stopped' (STOP was read), 'refused' (the machine refused an opcode), 'fault' (the bytes cannot be read on) or 'unsure'
-    (loaders go on at different places: only `calls`). `code` is the code of the refusal or fault ('S2', 'F1', 'U1'), and `text` the
+    `how` is 'stopped' (STOP was read), 'refused' (the machine refused an opcode), 'fault' (the bytes cannot be read on), 'unsure'
+    (loaders go on at different places: only `calls`) or 'part' (only `source` with `first`: no more was wanted). `code` is the code of the refusal or fault ('S2', 'F1', 'U1'), and `text` the
     program's words for it. `offset` is where the refused opcode or the fault is in the bytes, and `item` the place of the refused
     opcode. (Of a part under a heading, and in `picklestep.scan`, its place alone may be known.)
 
@@ -51,16 +51,18 @@ class End:
 
 @dataclass(frozen=True, **_SLOTS)
 class OtherForm:
-    """Where a pickle is first in another form than picklers write, and why. `item` counts the opcodes before that, `offset` the bytes.
+    """Where a pickle is first in another form than picklers write, and why. `item` counts the opcodes before that, `offset` the bytes. `rule` is the
+    name of the reason.
 
     >>> import picklestep
     >>> picklestep.form(b'](Ne.')
-    OtherForm(item=3, offset=3, reason='items that picklers give in another number at once')
+    OtherForm(item=3, offset=3, reason='items that picklers give in another number at once', rule='batch_size')
     """
 
     item: int
     offset: int
     reason: str
+    rule: str
 
 
 @dataclass(frozen=True, **_SLOTS)
@@ -94,13 +96,16 @@ class GateAnswer:
 class ReachAnswer:
     """What `reach` says of bytes. It is true where a loader reaches something, or may do so.
 
-    `text` is the program's line. Where something is reached, `offset` is where the opcode begins by which it is, and `line` has this opcode
-    and its argument. Where nothing is, each loader ends at `offset` or before it; `whatever_follows` says that nothing is reached either where
-    other bytes follow these. Where there are too many ways to read the bytes, something counts as reached, and `offset` is None.
+    `text` is the line that the program prints of it. Where something is reached, `offset` is where the opcode begins by which it is, `line` has
+    this opcode and its argument, and `names` the two texts of GLOBAL and INST; `what` is 'import', 'extension', 'persistent' or 'buffer'. One loader
+    that reaches it does with frames what `frames` says ('ignored', 'buffered' or 'held'), and so many bytes of one are still ahead, `in_buffer` or
+    only shown. Where nothing is, each loader ends at `offset` or before it; `whatever_follows` says that nothing is reached either where other bytes
+    follow these. Where there are too many ways to read the bytes, something counts as reached, and `offset` is None.
 
     >>> import picklestep
-    >>> picklestep.reach(b'K\\x01cos\\nsystem\\n.').line
-    "GLOBAL 'os' 'system'"
+    >>> answer = picklestep.reach(b'K\\x01cos\\nsystem\\n.')
+    >>> answer.line, answer.what, answer.names
+    ("GLOBAL 'os' 'system'", 'import', (b'os', b'system'))
     """
 
     reached: bool
@@ -108,9 +113,29 @@ class ReachAnswer:
     offset: Optional[int] = None
     line: str = ''
     whatever_follows: bool = False
+    what: str = ''
+    names: Optional[Tuple[bytes, bytes]] = None
+    frames: str = ''
+    in_buffer: int = 0
 
     def __bool__(self) -> bool:
         return self.reached
+
+
+@dataclass(frozen=True, **_SLOTS)
+class Member:
+    """A member of a zip archive: its name, where its bytes begin, how many it has, and to how many they are `deflated` (None where they are stored as
+    they are). `address` is what other functions open it by, where the archive is a file.
+
+    >>> Member('a.pkl', 35, 3).deflated is None
+    True
+    """
+
+    name: str
+    offset: int
+    size: int
+    deflated: Optional[int] = None
+    address: str = ''
 
 
 @dataclass(frozen=True, **_SLOTS)

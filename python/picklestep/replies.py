@@ -1,17 +1,17 @@
-"""The program's short answers, read: those to lines of `debug`, those of `form`, `gate` and `reach`, and what it complains of."""
+"""The program's short answers, read: those to lines of `debug`, those of `gate`, and what it complains of."""
 
 from __future__ import annotations
 
 import os
 import re
 from dataclasses import replace
-from typing import Dict, List, Optional, Tuple, Union
+from typing import Dict, Iterator, List, Optional, Tuple, Union
 
-from .records import GateAnswer, Mark, OtherForm, Ran, ReachAnswer, Ref, Where
+from .records import GateAnswer, Mark, Member, Ran, Ref, Where
 from .texts import LinesError, end_of, unquoted
 
-__all__ = ['IN_FORM', 'WHERE_BEGINS', 'complaint_of', 'edit_in', 'entry_of', 'gate_answer', 'is_mark', 'last_words', 'line_refused', 'memo_of', 'number_in_word',
-           'opcode_refused_in', 'other_form', 'place_in', 'ran_of', 'reach_answer', 'refused_in', 'stack_of', 'stored_under', 'where_of', 'words_of']
+__all__ = ['NOT_IN_FORM', 'WHERE_BEGINS', 'complaint_of', 'edit_in', 'entry_of', 'gate_answer', 'is_mark', 'last_words', 'line_refused', 'members_of', 'memo_of', 'number_in_word',
+           'opcode_refused_in', 'place_in', 'ran_of', 'refused_in', 'stack_of', 'stored_under', 'where_of', 'words_of']
 
 _REFUSED = 'refused: '
 _EDITED = re.compile(r'(edited|undone|redone) ([0-9]+)')
@@ -21,24 +21,19 @@ _OPCODE_REFUSED = re.compile(r'(?:C3 item [0-9]+: |refused, )(.*)')
 # How the answer of `where` begins, and no line of another answer of several lines.
 WHERE_BEGINS = b'at '
 _WHERE = re.compile(r'at ([0-9]+) of ([0-9]+), offset ([0-9]+), buffers ([0-9]+), result (none|#[0-9]+(?: #[0-9]+)*), end (.*)')
-_OTHER_FORM = re.compile(r'not in form: item ([0-9]+) at ([0-9]+): (.*)\n')
-# What `form` answers where the pickle is in the form.
-IN_FORM = b'in form\n'
+# What `gate` says of another form: of a pickle the opcode, and of a zip archive the place.
+_OTHER_FORM = re.compile(r'not in form: (?:item [0-9]+ at )?([0-9]+): (.*)')
+NOT_IN_FORM = 'not in form: '
 # What `gate` answers where the pickle passes, and what of something that no list allows.
 _PASSES = 'passes'
 _NOT_ALLOWED = re.compile(r'([0-9]+): not allowed: (.*)')
 _NO_LIST = re.compile(rb'not a list: line ([0-9]+) is no entry\n')
 # What it answers of a zip archive: of bytes that are none, of one that is not looked at, and of a member, whose name is in front.
-_NO_ARCHIVE = re.compile(r'not in form: ([0-9]+): (.*)')
 _MEMBER = re.compile(r"('(?:[^'\\]|\\.)*'): (.*\n)")
 _UNSEEN = re.compile(r'(?:(an archive) itself|(two names .*|it unpacks .*)): (it is not looked at)')
 _BROKEN = re.compile(r'not deflated: (?:([0-9]+): )?(.*)|(another checksum than is told)')
 _BEHIND = 'behind its header: '
 _ENDED = re.compile(r'(?:refused|fault|unsure|kept): (.*?(?: at ([0-9]+))?)')
-# What `reach` answers where something is reached, and where nothing is; and where there are more ways than it goes.
-_REACHED = re.compile(r'reached at ([0-9]+): (.*)\n')
-_NOT_REACHED = re.compile(r'nothing reached: every loader ends by ([0-9]+)(, whatever follows)?\n')
-_TOO_MANY_WAYS = 'too many ways to read the bytes\n'
 _COMPLAINT = 'picklestep: '
 
 
@@ -179,20 +174,6 @@ def stored_under(answer: str, key: int) -> Optional[int]:
 
 # --- Other answers ---
 
-def other_form(text: str) -> Optional[OtherForm]:
-    """What the answer of `form` says, or None where the pickle is in the form.
-
-    >>> other_form('not in form: item 0 at 0: a number that has a shorter form\\n').offset
-    0
-    """
-    if text == IN_FORM.decode():
-        return None
-    match = _OTHER_FORM.fullmatch(text)
-    if match is None:
-        raise LinesError('no answer of form')
-    return OtherForm(int(match[1]), int(match[2]), match[3])
-
-
 def line_refused(text: bytes) -> Optional[int]:
     """The line of a list, from 1, that is no entry of one, where `gate` answers that.
 
@@ -226,15 +207,11 @@ def gate_answer(text: str) -> GateAnswer:
     broken = _BROKEN.fullmatch(line)
     if broken is not None:
         return GateAnswer(False, line, 'broken', broken[2] or broken[3], None if broken[1] is None else int(broken[1]))
-    other_archive = _NO_ARCHIVE.fullmatch(line)
-    if other_archive is not None:
-        return GateAnswer(False, line, 'other form', other_archive[2], int(other_archive[1]))
     if line == _PASSES and text.endswith('\n'):
         return GateAnswer(True, line, 'passes')
-    if _OTHER_FORM.fullmatch(text):
-        other = other_form(text)
-        assert other is not None
-        return GateAnswer(False, line, 'other form', other.reason, other.offset)
+    other = _OTHER_FORM.fullmatch(line)
+    if other is not None:
+        return GateAnswer(False, line, 'other form', other[2], int(other[1]))
     match = _NOT_ALLOWED.fullmatch(line)
     if match is not None:
         return GateAnswer(False, line, 'not allowed', match[2], int(match[1]))
@@ -244,23 +221,16 @@ def gate_answer(text: str) -> GateAnswer:
     return GateAnswer(False, line, 'ended', match[1], None if match[2] is None else int(match[2]))
 
 
-def reach_answer(text: str) -> ReachAnswer:
-    """What the answer of `reach` says.
+def members_of(text: str) -> Iterator[Member]:
+    """What the answer of `members` says of an archive in form.
 
-    >>> reach_answer("reached at 2: GLOBAL 'os' 'system'\\n").line
-    "GLOBAL 'os' 'system'"
-    >>> reach_answer('nothing reached: every loader ends by 1\\n').offset
-    1
+    >>> [(each.name, each.size, each.deflated) for each in members_of("35: 2 stored 'a.pkl'\\n74: 3 deflated to 5 'b.pkl'\\n")]
+    [('a.pkl', 2, None), ('b.pkl', 3, 5)]
     """
-    match = _NOT_REACHED.fullmatch(text)
-    if match is not None:
-        return ReachAnswer(False, text[:-1], int(match[1]), whatever_follows=match[2] is not None)
-    match = _REACHED.fullmatch(text)
-    if match is not None:
-        return ReachAnswer(True, text[:-1], int(match[1]), match[2])
-    if text != _TOO_MANY_WAYS:
-        raise LinesError('no answer of reach')
-    return ReachAnswer(True, text[:-1])
+    for line in text.splitlines():
+        numbers, quote, name = line.partition("'")
+        offset, size, _, *deflated = numbers.replace(':', '').split()
+        yield Member(os.fsdecode(unquoted(quote + name)), int(offset), int(size), int(deflated[-1]) if deflated else None)
 
 
 def complaint_of(errors: str) -> str:

@@ -14,7 +14,7 @@ from .errors import PicklestepError
 from .sources import is_opened, opened_descriptor
 from .wording import shown
 
-__all__ = ['check_writable', 'naming', 'open_text', 'written_whole']
+__all__ = ['check_writable', 'is_same_file', 'naming', 'open_text', 'written_whole']
 
 
 @contextlib.contextmanager
@@ -101,6 +101,11 @@ def written_whole(path: Path, encoding: Optional[str] = None) -> Iterator[IO[Any
 def _is_file_at(path: Path, target: Path) -> bool:
     """Whether a path leads to a file of this name."""
     return path.is_file() and target.exists() and target.samefile(path) and not is_opened(str(target), to_write=True)
+
+
+def is_same_file(file: str, out: Optional[str]) -> bool:
+    """Whether what would be written is the file that was read."""
+    return out is not None and os.path.exists(file) and os.path.exists(out) and os.path.samefile(file, out)
 
 
 def open_text(path: str) -> IO[str]:

@@ -486,7 +486,7 @@ class Session(ContextManager['Session']):
         return replies.memo_of(self._talk.line(b'memo'))
 
     def ask(self, line: str) -> str:
-        """The program's own answer to a line, as docs/USING.md has them.
+        """The program's own answer to a line, as docs/reference/common.md has them.
 
         >>> with Session(b'N.') as session:
         ...     session.ask('where')

@@ -7,23 +7,27 @@ import os
 import tempfile
 import time
 from contextlib import contextmanager
-from typing import Callable, Iterable, Iterator, List, Optional, Tuple, Type, TypeVar
+from dataclasses import replace
+from typing import Callable, Generator, Iterable, Iterator, List, Optional, Tuple
 
 from . import library
-from .addresses import holes_of, opened_in
+from .addresses import bytes_at, holes_of, opened_in
 from .answers import Calls, Listing, Objects
-from .errors import ProgramError
-from .listed import TooDeep, bounded
+from .errors import NotOpened, ProgramError
+from .opens import BETWEEN, split
+from .listed import check_whole, frames_in, last_opcode
 from .program import Process, check_timeout, run_program
-from .records import OtherForm, ReachAnswer
-from .replies import other_form, reach_answer, where_of
+from .reaches import check_texts
+from .records import Member, OtherForm, ReachAnswer
+from .replies import NOT_IN_FORM, members_of
 from .sources import Input, Source, is_read_once, small_content
-from .texts import MOST_OFFSET, OFFSET_IN_BYTES, frames_in
+from .verdicts import other_form, reach_answer
+from .wording import shown
 
-__all__ = ['Asked', 'AskedOfSession', 'calls', 'calls_of', 'form', 'frames', 'frames_of', 'left_out', 'listing', 'listing_of', 'modes', 'objects', 'reach']
+__all__ = ['Asked', 'AskedOfSession', 'calls', 'calls_of', 'form', 'frames', 'frames_of', 'left_out', 'listing', 'listing_of', 'members', 'modes', 'objects', 'reach']
 
-_Report = TypeVar('_Report', Objects, Calls)
-
+# What lines of JSON have where an opcode was refused.
+_REFUSED = b'"how":"refused"'
 # More of them do not stand on a command line: a file has them.
 _MOST_HOLES = 1000
 
@@ -57,7 +61,9 @@ def objects(source: Source, *, many: bool = False, unframed: bool = False, timeo
     ('tuple', (0, 1), (2,))
     """
     with Asked(source, timeout, memory) as asked:
-        return _report(Objects, ['objects', *modes(many, unframed)], asked, modes(many, unframed))
+        answer = Objects(asked.answer(['objects', *modes(many, unframed)]))
+        # (it counts opcodes and not bytes: a listing says at which offset one was refused)
+        return answer if answer.end.how != 'refused' else Objects(answer.text, asked.refused_at(modes(many, unframed)))
 
 
 def calls(source: Source, *, first: bool = False, memo_kept: bool = False, full: bool = False, many: bool = True,
@@ -91,7 +97,7 @@ def form(source: Source, *, timeout: Optional[float] = None, memory: Optional[in
     'a number that has a shorter form'
     """
     with Asked(source, timeout, memory) as asked:
-        return other_form(asked.answer(['form']))
+        return other_form(asked.lines(['form', '--json']))
 
 
 def reach(source: Source, *, extensions: bool = False, persistent_ids: bool = False, buffers: bool = False, timeout: Optional[float] = None,
@@ -109,7 +115,27 @@ def reach(source: Source, *, extensions: bool = False, persistent_ids: bool = Fa
     """
     words = [word for word, given in (('--extensions', extensions), ('--persistent-ids', persistent_ids), ('--buffers', buffers)) if given]
     with Asked(source, timeout, memory) as asked:
-        return reach_answer(asked.answer(['reach', *words]))
+        return reach_answer(asked.lines(['reach', '--json', *words]))
+
+
+def members(source: Source, *, timeout: Optional[float] = None, memory: Optional[int] = None) -> Tuple[Member, ...]:
+    """The members of a zip archive in the form in which zipfile, numpy, torch and Info-ZIP write: all readers find exactly these. Nothing is unpacked.
+    Raises NotOpened where it is in another form. `source` may also be the address of an archive in another container.
+
+    >>> import zipfile
+    >>> with zipfile.ZipFile('a.zip', 'w') as archive:
+    ...     archive.writestr('a.pkl', b'N.')
+    >>> members('a.zip')
+    (Member(name='a.pkl', offset=35, size=2, deflated=None, address='a.zip > a.pkl'),)
+    """
+    path = os.fsdecode(source) if isinstance(source, (str, os.PathLike)) else ''
+    is_address = split(path) is not None
+    with Asked(bytes_at(path) if is_address else source, timeout, memory, is_opened=False) as asked:
+        text = asked.answer(['members'])
+    if text.startswith(NOT_IN_FORM):
+        raise NotOpened(text.rstrip('\n'))
+    found = members_of(text)
+    return tuple(replace(each, address=f'{path}{BETWEEN}{shown(each.name)}') for each in found) if path else tuple(found)
 
 
 def frames(source: Source, many: bool = False) -> List[Tuple[int, int]]:
@@ -125,12 +151,12 @@ def frames(source: Source, many: bool = False) -> List[Tuple[int, int]]:
 
 def frames_of(asked: Asked, many: bool) -> List[Tuple[int, int]]:
     """The same of what is asked about."""
-    return list(frames_in(asked.answer(['list', *modes(many, True)]).encode('ascii')))
+    return list(frames_in(check_whole(asked.lines(['list', '--json', *modes(many, True)]))))
 
 
 def listing_of(asked: Asked, many: bool, unframed: bool = False) -> Listing:
     """The opcodes of what is asked about."""
-    return Listing(asked.answer(['list', *modes(many, unframed)]))
+    return Listing(asked.lines(['list', '--json', *modes(many, unframed)]))
 
 
 def calls_of(asked: Asked, first: bool, memo_kept: bool, full: bool, skip: Iterable[Tuple[int, int]] = ()) -> Calls:
@@ -142,7 +168,10 @@ def calls_of(asked: Asked, first: bool, memo_kept: bool, full: bool, skip: Itera
     skipped = tuple((offset, size) for offset, size in skip)
     # (A listing does not read on as one unpickler does, and leaves nothing out: where that was refused only the place is known.)
     with left_out(skipped) as words:
-        answer = _report(Calls, ['calls', *options, *words], asked, None if memo_kept or words else modes(not first))
+        lines = check_texts(asked.lines(['calls', '--json', *options, *words]), lambda: asked.lines(['calls', *options, *words]))
+    answer = Calls(lines)
+    if _REFUSED in lines and answer.end.item is not None and not (memo_kept or skipped):
+        answer = Calls(lines, asked.refused_at(modes(not first)))
     answer.skipped = skipped
     return answer
 
@@ -164,14 +193,6 @@ def left_out(skip: Iterable[Tuple[int, int]]) -> Iterator[List[str]]:
         yield ['--skip', f'@{path}']
 
 
-def _report(kind: Type[_Report], words: List[str], asked: Asked, listing_words: Optional[List[str]]) -> _Report:
-    """An answer that counts opcodes and not bytes. Where one was refused, a reading by these words says at which offset."""
-    answer = kind(asked.answer(words))
-    if answer.end.how != 'refused' or listing_words is None:
-        return answer
-    return kind(answer.text, asked.refused_at(listing_words))
-
-
 def modes(many: bool, unframed: bool = False) -> List[str]:
     """The words for how an input is read."""
     return [*(['--many'] if many else []), *(['--unframed'] if unframed else [])]
@@ -180,9 +201,10 @@ def modes(many: bool, unframed: bool = False) -> List[str]:
 class Asked:
     """A source that is asked about: a small one in this process, another as an input of the program, from when that is needed."""
 
-    def __init__(self, source: Source, timeout: Optional[float], memory: Optional[int]) -> None:
+    def __init__(self, source: Source, timeout: Optional[float], memory: Optional[int], is_opened: bool = True) -> None:
+        """With `is_opened` what is in a container is asked about, and else the container."""
         check_timeout(timeout)
-        self._opened = opened_in(source)
+        self._opened = opened_in(source) if is_opened else None
         self._file = os.fsdecode(source) if self._opened is None and isinstance(source, (str, os.PathLike)) else ''
         source = source if self._opened is None else self._opened.content
         self._memory = memory
@@ -199,33 +221,40 @@ class Asked:
         return holes_of(self._file) if self._file else ()
 
     def answer(self, words: List[str]) -> str:
-        """What the program writes about it with these words."""
+        """The text that the program writes about it with these words."""
+        return self.lines(words).decode('ascii')
+
+    def lines(self, words: List[str]) -> bytes:
+        """The same as bytes."""
         answer = self.in_process(words)
         if answer is None:
             given = self._given()
             self._begun = time.monotonic()
-            if words[0] == 'list':
-                answer = b''.join(bounded(self._process(words).blocks(self._timeout), given.size()))
-            else:
-                answer = run_program([words[0], given.path, *words[1:]], given.files, timeout=self._timeout, memory=self._memory)
+            answer = run_program([words[0], given.path, *words[1:]], given.files, timeout=self._timeout, memory=self._memory)
         if not answer.endswith(b'\n'):
             raise ProgramError('the program gave no whole answer')
-        return answer.decode('ascii')
+        return answer
 
     def refused_at(self, words: List[str]) -> Optional[int]:
-        """The offset of the opcode that is refused, which a listing by these words ends in. Where that is hardly more than blanks, a session stops
-        before the opcode."""
-        answer = self.in_process(['list', *words])
-        try:
-            blocks = [answer] if answer is not None else bounded(self._process(['list', *words]).blocks(self._left()), self._given().size())
-            return _last_offset(blocks)
-        except TooDeep:
-            given = self._given()
-            answers = run_program(['debug', given.path, *words], given.files, b'run\nwhere\n', self._left(), self._memory)
-            return where_of(answers.decode('ascii').splitlines()[-1]).offset
+        """The offset of the opcode that is refused, which a listing by these words ends in."""
+        last = last_opcode(self.blocks(['list', '--json', *words]))
+        return None if last is None else int(last['offset'])
+
+    def blocks(self, words: List[str]) -> Generator[bytes, None, None]:
+        """The text that the program writes with these words, some of it at a time. (Who ends before its end closes this.)"""
+        answer = self.in_process(words)
+        if answer is not None:
+            yield answer
+        else:
+            yield from self._process(words).blocks(self._left())
+
+    def size(self) -> int:
+        """How many bytes it has."""
+        return self._given().size() if self._content is None else len(self._content)
 
     def _left(self) -> Optional[float]:
         """The time that is left, in seconds."""
+        self._begun = self._begun or time.monotonic()
         return None if self._timeout is None else max(0.0, self._timeout - (time.monotonic() - self._begun))
 
     def _process(self, words: List[str]) -> Process:
@@ -271,19 +300,3 @@ class AskedOfSession(Asked):
 
     def _made_input(self) -> Input:
         return Input(self._bytes())
-
-
-def _last_offset(blocks: Iterable[bytes]) -> Optional[int]:
-    """The offset of the last opcode that is listed. Of the listing only the beginning of its last line is kept."""
-    offset, line = None, b''
-    for block in blocks:
-        block = line + block
-        end, found = len(block), None
-        while found is None and end >= 0:
-            end = block.rfind(b'\n', 0, end)
-            found = OFFSET_IN_BYTES.match(block, end + 1)
-        if found is not None:
-            offset = int(found[1])
-        at = block.rfind(b'\n') + 1
-        line = block[at:at + MOST_OFFSET]  # (its colon may come with the next block)
-    return offset

@@ -1,4 +1,4 @@
-"""The program's texts, read: quoted texts, numbers, names, and whole lines; those of `calls` are in `texts_of_calls`.
+"""The program's texts, read: quoted texts, numbers, names, and whole lines.
 
 No other module writes a pattern of them. What reads one line is a function `.._of`; what finds lines in a text is named by what it finds.
 """
@@ -7,19 +7,16 @@ from __future__ import annotations
 
 import re
 import struct
-import sys
 from dataclasses import dataclass, replace
-from itertools import islice
 from typing import Callable, Dict, Generic, Iterator, List, NamedTuple, Optional, Pattern, Sequence, Set, Tuple, TypeVar, Union
 
 from .records import Argument, Change, End, Item, Object, Opcode, Shown
 
 __all__ = ['Closing', 'FRAME_SIZE', 'HELD', 'HeldObject', 'ITEMS', 'ITEM_IN_BYTES', 'Line', 'LineReader', 'LinesError', 'MARK', 'MOST_OFFSET',
-           'NAMED_BY_TEXTS', 'NUMBER', 'OBJECTS', 'OFFSET_IN_BYTES', 'OPCODES', 'QUOTED', 'SHOWN', 'TAIL', 'argument_at', 'as_made', 'begins_with_offset',
-           'behind_word', 'broken_places', 'closing_in', 'closing_of', 'code_of', 'container_in', 'count_held', 'end_of', 'end_of_line', 'end_of_texts',
-           'frame_length', 'frames_in', 'has_key', 'held_in', 'holding', 'is_object_at', 'key_in', 'kind_in', 'left_in', 'line_of',
-           'lines_with_offsets', 'moved_line', 'number_of', 'object_of', 'offset_at', 'offset_of_item', 'opcode_of', 'pattern_of_line',
-           'readonly_count', 'refused', 'results_in', 'unquoted', 'with_offset', 'without_left', 'without_number']
+           'NAMED_BY_TEXTS', 'NUMBER', 'OBJECTS', 'OPCODES', 'QUOTED', 'SHOWN', 'TAIL', 'as_made', 'begins_with_offset',
+           'behind_word', 'broken_places', 'closing_in', 'closing_of', 'code_of', 'count_held', 'end_of', 'end_of_line', 'end_of_texts',
+           'frame_length', 'frames_in', 'has_key', 'held_in', 'holding', 'is_object_at', 'key_in', 'kind_in', 'left_in', 'line_of', 'moved_line', 'number_of', 'object_of', 'offset_at', 'opcode_of',
+           'readonly_count', 'refused', 'renumbered', 'results_in', 'unquoted', 'with_offset', 'without_left', 'without_number']
 
 Record = TypeVar('Record')
 
@@ -27,6 +24,8 @@ Record = TypeVar('Record')
 QUOTED = r"'[^'\\]*(?:\\.[^'\\]*)*'"
 NUMBER = r'-?[0-9]+|le:[0-9a-f]*|f8:[0-9a-f]{16}'
 _ATOM = re.compile(f'({QUOTED})|({NUMBER})')
+# A text in quotes, or the number of an object.
+_QUOTED_OR_NUMBER = re.compile(rf'{QUOTED}|#([0-9]+)')
 _OBJECT = re.compile(r'#([0-9]+) ([a-z-]+)')
 _PARTS = re.compile(r' \((#[^)]*)\)')
 _CHANGE = re.compile(r' (?:([+&!])#([0-9]+)|\[#([0-9]+)\]=#([0-9]+))')
@@ -35,8 +34,6 @@ _CHANGES = {'+': 'append', '&': 'add', '!': 'state'}
 TAIL = 1000
 # A line with an offset, and its text.
 _WITH_OFFSET = re.compile(r'^ *([0-9]+): (.*)$', re.MULTILINE)
-# In a listing: the beginning of an opcode's line.
-OFFSET_IN_BYTES = re.compile(rb'^ *([0-9]+): ', re.MULTILINE)
 # The most bytes of the beginning of an opcode's line, the code of FRAME behind it, and how many bytes that opcode has.
 MOST_OFFSET = 20
 _FRAME = b': \\x95 '
@@ -59,7 +56,6 @@ _PUT_IN = re.compile(r' (?:[+&!]#|\[#).*')
 _HOW = {b'+': 'append', b'&': 'add', b'!': 'state', b'[': 'key', b'=': 'value'}
 _READONLY = re.compile(rb'^#[0-9]+ readonly ', re.MULTILINE)
 NAMED_BY_TEXTS = re.compile(rb'^#([0-9]+) stack-global \(#([0-9]+) #([0-9]+)\)', re.MULTILINE)
-_CONTAINER = re.compile(r'^begins like an? (.*): picklestep scan looks into it$', re.MULTILINE)
 _CLOSING = re.compile(r'(?:it (?=ends: ))?(refused|fault|unsure|left|kept|ends|warning): (.*)|(highest protocol among opcodes) = (.*)|result #.*|'
                       r'[0-9]+ imports, .*|begins like .*')
 
@@ -270,6 +266,15 @@ def without_number(line: str) -> str:
     return line.partition(' ')[2]
 
 
+def renumbered(line: str, moved: Callable[[int], object]) -> str:
+    """A line whose objects have other numbers, which a function says. What stands in quotes is no number.
+
+    >>> renumbered("#3 inst 'a' '#1' (#1)", lambda number: number + 4)
+    "#7 inst 'a' '#1' (#5)"
+    """
+    return _QUOTED_OR_NUMBER.sub(lambda match: match[0] if match[1] is None else f'#{moved(int(match[1]))}', line)
+
+
 def _numbers(text: str) -> Tuple[int, ...]:
     """The numbers of objects, with blanks between them."""
     return tuple(int(word[1:]) for word in text.split())
@@ -342,44 +347,13 @@ class Closing:
     lines: Dict[str, str]
 
     @property
-    def protocol(self) -> Optional[int]:
-        """The highest protocol among opcodes, if there are any."""
-        text = self.lines.get('highest protocol among opcodes')
-        return None if text is None else int(text)
-
-    @property
-    def kept(self) -> int:
-        """How many bytes are after STOP."""
-        return int(self.lines.get('kept', '0').partition(' ')[0])
-
-    @property
-    def warning(self) -> Optional[str]:
-        """What the line says by which the program warns; None where there is none.
-
-        >>> Closing({'warning': '#0 leads to the unpickler'}).warning
-        '#0 leads to the unpickler'
-        """
-        return self.lines.get('warning')
-
-    @property
     def is_refused(self) -> bool:
         """Whether the last opcode was refused."""
         return 'refused' in self.lines
 
-    def end_of_listing(self, last: Callable[[], Tuple[int, int]]) -> End:
-        """How reading ended, after a listing. Where the last opcode was refused, its offset and its place are asked for."""
-        if not self.is_refused:
-            return end_of(self.lines.get('fault', 'stopped'))
-        offset, place = last()
-        return refused(self.lines['refused'], offset, place)
-
     def end(self, refused_at: Optional[int]) -> End:
-        """How reading ended, after another answer. The lines of a part say it behind one word more."""
-        ends = self.lines.get('ends', '')
-        word, _, words = ends.partition(': ')
-        if self.is_refused or word == 'refused':
-            return end_of_item(self.lines.get('refused', words), refused_at)
-        return end_of(self.lines.get('fault') or self.lines.get('unsure') or words or 'stopped')
+        """How reading ended."""
+        return end_of_item(self.lines['refused'], refused_at) if self.is_refused else end_of(self.lines.get('fault', 'stopped'))
 
 
 def closing_of(lines: Sequence[str]) -> Dict[str, str]:
@@ -416,16 +390,6 @@ def behind_word(lines: Sequence[str], word: str) -> Optional[str]:
     return next((line[len(word) + 2:] for line in reversed(lines) if line.startswith(f'{word}: ')), None)
 
 
-def container_in(text: str, start: int, end: int) -> Optional[str]:
-    """The container that bytes begin like, where a closing line says one.
-
-    >>> container_in('begins like a zip archive: picklestep scan looks into it\\n0 imports, 0 calls\\n', 0, 76)
-    'zip archive'
-    """
-    match = _CONTAINER.search(text, start, end)
-    return None if match is None else match[1]
-
-
 # --- Lines of one kind, read one after another ---
 
 @dataclass(frozen=True)
@@ -445,33 +409,6 @@ OBJECTS = LineReader(_OBJECT_LINE, lambda match: object_of(match[0]))
 ITEMS = LineReader(_ITEM, _item_at)
 SHOWN = LineReader(_SHOWN, _shown_at)
 
-
-# --- Lines of a listing by their columns ---
-
-# What was taken to the end of a line is never given back, where patterns can say so: it takes half the time.
-_KEEPS = '+' if sys.version_info >= (3, 11) else ''
-
-
-def argument_at(name: str, column: int, marks: int) -> int:
-    """Where the argument begins in the line of an opcode whose code begins in a column, behind so many open marks.
-
-    >>> argument_at('BININT1', 7, 0)
-    23
-    """
-    return column + len('\\x00 ') + 4 * marks + max(10, len(name)) + 1
-
-
-def pattern_of_line(codes: str, name: str, column: int, marks: int, is_argument_taken: bool, is_bare: bool) -> str:
-    """A pattern of the line of an opcode that has one of these codes, with a group for its argument where that is taken; it is the line of
-    a name of that length. A bare one ends in its name."""
-    shown = codes[0] if '!' <= codes[0] <= '~' else f'\\x{ord(codes[0]):02x}'
-    letters = f'[{codes}]' if len(codes) > 1 else re.escape(shown)
-    at = argument_at(name, column, marks) if is_argument_taken else column + len('\\x00 ') + 4 * marks + len(name)
-    rest = f'(.*{_KEEPS})' if is_argument_taken else '' if is_bare else f'.*{_KEEPS}'
-    return f'(?s:{"." * column}){letters}(?s:{"." * (at - column - len(shown))}){rest}\n'
-
-
-# --- What stands in a text ---
 
 def frames_in(listing: Union[bytes, bytearray]) -> Iterator[Tuple[int, int]]:
     r"""The offset and the length of each FRAME in a listing: `calls` that leaves these bytes out reads a pickle unframed.
@@ -514,20 +451,9 @@ def broken_places(text: str) -> Set[int]:
     return {int(match[1]) for match in _BROKEN.finditer(text)}
 
 
-def lines_with_offsets(text: str) -> Iterator[Tuple[int, str]]:
-    """The offset that each line begins with, and what is behind it."""
-    return ((int(match[1]), match[2]) for match in _WITH_OFFSET.finditer(text))
-
-
 def begins_with_offset(line: str) -> bool:
     """Whether a line begins with an offset, as that of an opcode does."""
     return _WITH_OFFSET.match(line) is not None
-
-
-def offset_of_item(listing: bytes, item: int) -> Optional[int]:
-    """The offset of the opcode at a place in a listing."""
-    found = next(islice(OFFSET_IN_BYTES.finditer(listing), item, None), None)
-    return None if found is None else int(found[1])
 
 
 # --- Lines of `objects`, as bytes ---

@@ -5,19 +5,17 @@ from __future__ import annotations
 import contextlib
 import gc
 import os
-import re
 from typing import Iterator, List, Optional
 
 from ..addresses import opened_in, zip_behind
 from ..answers import Answer
-from ..hints import OF_FRAMES, of_array, of_frame
-from ..listed import Listed
+from ..hints import OF_FRAMES, OLD_TORCH, of_array, of_frame
+from ..listed import Batch, Listed
 from ..opens import ENOUGH, begins_like_one
 from ..program import check_timeout
 from ..records import End
 from ..sources import Input, Source
 from ..tasks import modes
-from ..texts import LineReader
 from .builder import Builder
 from .helpers import HELPERS
 from .nodes import Event, Statement
@@ -36,10 +34,11 @@ HEAD_OF_UNFRAMED = '# What the opcodes would do if the lengths of frames counted
 HEAD_OF_CUT_UNFRAMED = HEAD_OF_UNFRAMED[:-1] + ' cut(N) stands for N more.\n'
 # Where the bytes are those of a container.
 CONTAINER = 'the bytes begin like a container, which is not opened here: `picklestep scan FILE` looks into it'
+# Where torch wrote the bytes before 1.6: the first pickle has a number alone.
+TORCH = 'torch before 1.6 wrote more pickles behind this one, and the numbers of tensors: `picklestep calls FILE` reads the pickles'
+_BEGIN_OF_TORCH = 32
 # Where reading ends before the bytes do.
 BEHIND = ' (`calls` shows what loaders reach behind it)'
-# A line of a listing that has such a length.
-_FRAME = re.compile(r'^ *[0-9]+: \S+ +FRAME ', re.MULTILINE)
 
 
 class PythonSource(Answer[str]):
@@ -50,12 +49,19 @@ class PythonSource(Answer[str]):
     ('result = None', 'F1')
     """
 
-    _lines = LineReader(re.compile(r'^.*\n', re.MULTILINE), lambda match: match[0][:-1])
-
     def __init__(self, text: str, end: End, kept: int) -> None:
-        super().__init__(text)
+        self.text = text
         self.end = end
         self.kept = kept
+
+    def _find(self) -> Iterator[int]:
+        at = 0
+        while at < len(self.text):
+            yield at
+            at = self.text.index('\n', at) + 1
+
+    def _at(self, start: int) -> str:
+        return self.text[start:self.text.index('\n', start)]
 
     def __str__(self) -> str:
         return self.text
@@ -64,13 +70,14 @@ class PythonSource(Answer[str]):
         return f'{len(self)} lines, {self.end.text}'
 
 
-def source(pickle: Source, *, full: bool = True, many: bool = False, unframed: bool = False, timeout: Optional[float] = None,
-           memory: Optional[int] = None) -> PythonSource:
+def source(pickle: Source, *, full: bool = True, many: bool = False, unframed: bool = False, first: Optional[int] = None,
+           timeout: Optional[float] = None, memory: Optional[int] = None) -> PythonSource:
     """A pickle as Python source: what loading it would import, call, build and change, one statement for each.
 
     Plain values are written where they are used; what is used twice has a name with the number of the object. A statement that reaches out
     of the pickle has the offset of its opcode behind it. Unless it is `full`, texts are cut after 64 letters and containers after 16 items;
-    `cut(N)` stands for N that are not shown. `many` and `unframed` are as for `listing`. It is to be read: whoever runs it does what loading the
+    `cut(N)` stands for N that are not shown. With `first` so many opcodes are read, and what is on the stack then comes last. `many` and
+    `unframed` are as for `listing`. It is to be read: whoever runs it does what loading the
     pickle would do. The first line says that this is the same only where all of the bytes were read, as a loader reads them.
 
     >>> print(source(b'cposix\\nsystem\\n(X\\x02\\x00\\x00\\x00idtR.'))
@@ -81,24 +88,32 @@ def source(pickle: Source, *, full: bool = True, many: bool = False, unframed: b
     <BLANKLINE>
     """
     check_timeout(timeout)
+    if first is not None and first < 0:
+        raise ValueError('first is a number of opcodes, which is not below 0')
     opened = opened_in(pickle)
     unread = zip_behind(os.fsdecode(pickle)) if opened is None and isinstance(pickle, (str, os.PathLike)) else []
     is_file = isinstance(pickle, (str, os.PathLike)) or hasattr(pickle, 'read')
     with _without_collector(), Input(pickle if opened is None else opened.content) as given:
         # (Who gives bytes says that they are a pickle, and the page writes the same of them.)
-        if opened is None and is_file and begins_like_one(given.beginning(ENOUGH)):
+        head = given.beginning(ENOUGH)
+        if opened is None and is_file and begins_like_one(head):
             unread.append(CONTAINER)
-        return _source(given, full, modes(many, unframed), timeout, memory, unread)
+        if is_file and OLD_TORCH in head[:_BEGIN_OF_TORCH]:
+            unread.append(TORCH)
+        return _source(given, full, modes(many, unframed), timeout, memory, unread, first)
 
 
-def _source(given: Input, full: bool, words: List[str], timeout: Optional[float], memory: Optional[int], unread: List[str]) -> PythonSource:
+def _source(given: Input, full: bool, words: List[str], timeout: Optional[float], memory: Optional[int], unread: List[str],
+            first: Optional[int]) -> PythonSource:
     builder = Builder()
     listed = Listed(given, words, timeout, memory)
-    is_framed, heeds_frames = False, '--unframed' not in words
-    for column, text in listed.batches():
-        builder.read(column, text)
-        is_framed = is_framed or not heeds_frames and _FRAME.search(text) is not None
-    return _written(builder, listed, full, is_framed, unread)
+    with contextlib.closing(listed.batches()) as batches:
+        for batch in batches:
+            left = len(batch.tails) if first is None else first - builder.places
+            builder.read(Batch(batch.heads[:left], batch.tails[:left]))
+            if left < len(batch.tails):
+                return _written_first(builder, full)
+    return _written(builder, listed, full, builder.is_framed and '--unframed' in words, unread)
 
 
 def _written(builder: Builder, listed: Listed, full: bool, is_unframed: bool, unread: List[str]) -> PythonSource:
@@ -110,7 +125,7 @@ def _written(builder: Builder, listed: Listed, full: bool, is_unframed: bool, un
     writer = Writer(full)
     writer.write(builder.events)
     if left:
-        place = f' at {end.offset}' if listed.refused else ''
+        place = '' if listed.refused_at is None else f' at {end.offset}'
         behind = '' if end.code == 'F1' else BEHIND
         writer.lines.append(f'# {end.text}{place}: reading ends here{behind}, and the stack is')
         writer.write(left)
@@ -126,6 +141,18 @@ def _written(builder: Builder, listed: Listed, full: bool, is_unframed: bool, un
     head = (cut if writer.is_cut else whole) if is_whole else HEAD_OF_CUT_PART if writer.is_cut else HEAD_OF_PART
     helpers = ''.join(text for need, text in HELPERS.items() if need in builder.needs)
     return PythonSource(head + helpers + '\n'.join(writer.lines) + '\n', end, listed.kept)
+
+
+def _written_first(builder: Builder, full: bool) -> PythonSource:
+    """The source of the first opcodes, and what they leave on the stack."""
+    end = End('part', None, f'the first {builder.places:,} opcodes', None, builder.places)
+    writer = Writer(full)
+    left: List[Event] = [Statement('stack = [' + ', '.join(['{}'] * len(builder.stack)) + ']', builder.leave())]
+    writer.write(builder.events)
+    writer.lines.append(f'# {end.text}: the rest is not read, and the stack is')
+    writer.write(left)
+    helpers = ''.join(text for need, text in HELPERS.items() if need in builder.needs)
+    return PythonSource((HEAD_OF_CUT_PART if writer.is_cut else HEAD_OF_PART) + helpers + '\n'.join(writer.lines) + '\n', end, 0)
 
 
 @contextlib.contextmanager

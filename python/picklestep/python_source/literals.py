@@ -6,10 +6,10 @@ import math
 import struct
 from typing import List, Sequence
 
-from ..texts import unquoted
+from ..listed import Fields, argument_of, content_of
 from ..values import PlainValue, Unreadable, read_form, unescaped
 
-__all__ = ['Failing', 'MOST_DECIMAL_BITS', 'literal', 'of_bytes', 'of_float', 'of_floats', 'of_integer', 'of_line', 'of_text']
+__all__ = ['Failing', 'MOST_DECIMAL_BITS', 'literal', 'of_bytes', 'of_floats', 'of_line', 'of_number', 'of_numbers', 'of_text']
 
 # Python shows integers up to this many bits in decimal digits (it has a limit of 4,300 digits). Larger ones are hexadecimal.
 MOST_DECIMAL_BITS = 14000
@@ -32,43 +32,43 @@ def literal(value: PlainValue) -> str:
     return repr(value)
 
 
-def of_integer(text: str) -> str:
-    """An integer as the program shows it: decimal, or its bytes after `le:`."""
-    return literal(int.from_bytes(bytes.fromhex(text[3:]), 'little', signed=True)) if text[:3] == 'le:' else text
+def of_number(fields: Fields) -> str:
+    """The whole number of an opcode."""
+    found = fields.get('argument')
+    return str(found) if found is not None else fields.get('argument_digits') or literal(argument_of(fields))
 
 
-def of_float(text: str) -> str:
-    """A float as the program shows it: its bytes after `f8:`."""
-    value: float = struct.unpack('>d', bytes.fromhex(text[3:]))[0]
-    shown = repr(value)
-    return shown if shown[-1] not in 'fn' else literal(value)
+def of_numbers(opcodes: Sequence[Fields]) -> List[str]:
+    """The whole numbers of opcodes whose arguments are of up to four bytes."""
+    return [str(fields['argument']) for fields in opcodes]
 
 
-def of_floats(lines: Sequence[str]) -> List[str]:
-    """Floats in lines that end in them, as the program shows them."""
-    values = struct.unpack(f'>{len(lines)}d', bytes.fromhex(''.join([line[-16:] for line in lines])))
+def of_floats(opcodes: Sequence[Fields]) -> List[str]:
+    """The floats of opcodes."""
+    values = struct.unpack(f'>{len(opcodes)}d', bytes.fromhex(''.join([fields['argument_f8_hex'] for fields in opcodes])))
     return list(map(repr if all(map(math.isfinite, values)) else literal, values))
 
 
-def of_text(quoted: str) -> str:
-    """A text of UTF-8 as the program shows it. What is no UTF-8 fails in the source as it would in a loader."""
-    if '\\' not in quoted:
-        return quoted
-    data = unquoted(quoted)
+def of_text(fields: Fields) -> str:
+    """A text. What no loader decodes fails in the source as it would in a loader."""
+    text = fields.get('argument')
+    if text is not None:
+        return repr(text)
+    data = content_of(fields)
     try:
         return repr(data.decode('utf-8', 'surrogatepass'))
     except UnicodeDecodeError:
         return Failing(f"{data!r}.decode('utf-8', 'surrogatepass')")
 
 
-def of_bytes(quoted: str) -> str:
-    """Bytes as the program shows them."""
-    return 'b' + quoted if '\\' not in quoted else repr(unquoted(quoted))
+def of_bytes(fields: Fields) -> str:
+    """Bytes."""
+    return repr(content_of(fields))
 
 
-def of_line(name: str, quoted: str) -> str:
+def of_line(fields: Fields) -> str:
     """The line of an opcode of an older protocol. What is no value there fails in the source as it would in a loader."""
-    data = unquoted(quoted)
+    data, name = content_of(fields), fields['opcode']
     try:
         return literal(read_form(name, data))
     except Unreadable:

@@ -1,37 +1,32 @@
 """Containers of plain values that are closed in one piece. Large pickles have many of them, with the same opcodes again and again.
 
-The opcodes of such a unit, a letter each, are its shape: the values are in the same places of all units of a shape. So they are taken out of the
-lines of many units column by column, and each unit is written by the form of its shape.
+The opcodes of such a unit, a letter each, are its shape: the values are in the same places of all units of a shape. So they are taken out of many
+units column by column, and each unit is written by the form of its shape.
 """
 
 from __future__ import annotations
 
+import contextlib
 import re
 from functools import lru_cache, partial
-from typing import Callable, Dict, Iterator, List, NamedTuple, Optional, Sequence, Tuple, Union
+from operator import itemgetter
+from typing import Callable, Dict, Iterable, List, NamedTuple, Optional, Sequence, Union
 
+from ..listed import Fields, fields_of_tails, name_in
 from ..opcodes import TABLE
-from ..texts import argument_at, pattern_of_line
-from .literals import of_bytes, of_floats, of_integer, of_line, of_text
+from .literals import of_bytes, of_floats, of_line, of_number, of_numbers, of_text
 
-__all__ = ['ALIKE', 'BRACKETS', 'GETS', 'LETTERS', 'NAMES', 'Part', 'RUNS', 'RUNS_WITHOUT_UNITS', 'Shape', 'decoded', 'shape_of']
+__all__ = ['ALIKE', 'BRACKETS', 'GETS', 'Part', 'RUNS', 'RUNS_WITHOUT_UNITS', 'Said', 'Shape', 'codes_of', 'shape_of']
 
 BRACKETS = {'list': ('[', ']'), 'tuple': ('(', ')'), 'set': ('{', '}'), 'dict': ('{', '}'), 'frozenset': ('frozenset({', '})')}
 
-NAMES: Dict[str, str] = {opcode.letter: opcode.name for opcode in TABLE}
-# The codes of opcodes that are no letters, by what stands behind `\x` in a listing.
-LETTERS: Dict[str, str] = {f'{ord(code):02x}': code for code in NAMES if not '!' <= code <= '~'}
-
-# Opcodes that are read as others are: their arguments stand in the same place of a line, or a blank later.
+# Opcodes that are read as others are.
 ALIKE = {'M': 'K', 'J': 'K', 'j': 'h', 'r': 'q'}
 GETS = frozenset('hg')
 _STORES = frozenset('\x94qp')
 _CONSTANTS = {'N': 'None', '\x88': 'True', '\x89': 'False', ')': '()'}
 _FILLED = {']': 'list', '}': 'dict'}
 _TAKEN = {'a': 1, 's': 2, '\x85': 1, '\x86': 2, '\x87': 3}
-
-# Opcodes whose lines end in their names.
-_BARE = frozenset(_CONSTANTS) | frozenset('(]}as\x85\x86\x87')
 
 # A plain value that may be stored, or what comes from the memo; the same, or a tuple of up to three of them; a container of some items.
 _MOST_ITEMS = 64
@@ -104,11 +99,10 @@ Item = Union[str, int, Part]
 
 
 class Column(NamedTuple):
-    """An argument in each unit of a shape: of the opcode at a place in it, before which so many marks of the unit are open."""
+    """An argument in each unit of a shape: of the opcode at a place in it."""
 
     place: int
     code: str
-    marks: int
 
 
 class Store(NamedTuple):
@@ -138,7 +132,6 @@ class Shape:
         self.part = whole
         self.kind, self.depth, self.width, self.is_pure, self.form = whole.kind, whole.depth, whole.width, whole.is_pure, whole.form()
         self.closing = len(whole.comma + BRACKETS[whole.kind][1])
-        self._patterns: Dict[Tuple[int, int], 'Tuple[re.Pattern[str], re.Pattern[str]]'] = {}
 
     def _take(self, place: int, code: str) -> None:
         """Follows an opcode."""
@@ -175,44 +168,12 @@ class Shape:
         return items
 
     def _column(self, place: int, code: str) -> int:
-        self.columns.append(Column(place, code, len(self._marks)))
+        self.columns.append(Column(place, code))
         return len(self.columns) - 1
 
-    def columns_of(self, lines: List[str], column: int, marks: int) -> List[Sequence[str]]:
-        """The columns of units that follow one another in lines whose codes begin in a column, behind so many open marks."""
-        found: List[Sequence[str]] = []
-        for place, code, inner in self.columns:
-            at = argument_at(NAMES[code], column, marks + inner)
-            found.append([line[at:] for line in lines[place::len(self.codes)]])
-        return found
-
-    def columns_in(self, text: str, begin: int, column: int, marks: int) -> Tuple[List[Sequence[str]], int]:
-        """The same of the text of lines, from a position on as long as units follow one another, and the position behind them."""
-        rows = self._compiled(column, marks)[1].findall(text, begin)
-        rest = len(rows.pop()[-1]) if rows and rows[-1][-1] else 0
-        columns: List[Sequence[str]] = [*zip(*rows)]
-        return columns[:-1], len(text) - rest
-
-    def find(self, text: str, begin: int, end: int, column: int, marks: int) -> int:
-        """Where the next unit is in a part of such a text, or -1."""
-        found = self._compiled(column, marks)[0].search(text, begin, end)
-        return -1 if found is None else found.start()
-
-    def _compiled(self, column: int, marks: int) -> 'Tuple[re.Pattern[str], re.Pattern[str]]':
-        """A pattern of a unit, and the same or, as the last group, all that comes where there is none."""
-        if (column, marks) not in self._patterns:
-            pattern = ''.join(self._pattern(column, marks))
-            self._patterns[column, marks] = re.compile(f'^{pattern}', re.MULTILINE), re.compile(f'{pattern}|((?s:.+))')
-        return self._patterns[column, marks]
-
-    def _pattern(self, column: int, marks: int) -> Iterator[str]:
-        """A pattern of a unit's lines, with a group for each column."""
-        columns = {each.place for each in self.columns}
-        open_marks = 0
-        for place, code in enumerate(self.codes):
-            codes = ''.join([code, *(other for other, like in ALIKE.items() if like == code)])
-            yield pattern_of_line(codes, NAMES[code], column, marks + open_marks, place in columns, code in _BARE)
-            open_marks += (code == '(') - (code in 'teu')
+    def columns_of(self, tails: List[str]) -> List[Sequence[str]]:
+        """The columns of units that follow one another, of whose lines these are the second parts."""
+        return [tails[column.place::len(self.codes)] for column in self.columns]
 
 
 @lru_cache(maxsize=10_000)
@@ -221,25 +182,76 @@ def shape_of(codes: str) -> Shape:
     return Shape(codes)
 
 
-def _texts(column: Sequence[str]) -> Sequence[str]:
-    return list(map(of_text, column)) if '\\' in ''.join(column) else column
-
-
-def _each(of_one: Callable[[str], str], column: Sequence[str]) -> List[str]:
+def _each(of_one: Callable[[Fields], str], column: Sequence[Fields]) -> List[str]:
     return list(map(of_one, column))
 
 
-def _same(column: Sequence[str]) -> Sequence[str]:
-    return column
+_OTHERS: Dict[str, Callable[[Fields], str]] = {
+    **dict.fromkeys('X\x8c\x8d', of_text), '\x8a': of_number, **dict.fromkeys('CB\x8e', of_bytes), **dict.fromkeys('ILFSVTU', of_line)}
+_DECODERS: Dict[str, Callable[[Sequence[Fields]], Sequence[str]]] = {
+    'K': of_numbers, 'G': of_floats, **{code: partial(_each, of_one) for code, of_one in _OTHERS.items()}}
 
 
-_OTHERS: Dict[str, Callable[[str], str]] = {
-    '\x8a': of_integer, 'C': of_bytes, 'B': of_bytes, '\x8e': of_bytes, **{code: partial(of_line, NAMES[code]) for code in 'ILFSVTU'}}
-_DECODERS: Dict[str, Callable[[Sequence[str]], Sequence[str]]] = {
-    'K': _same, **dict.fromkeys('X\x8c\x8d', _texts), 'G': of_floats,
-    **{code: partial(_each, of_one) for code, of_one in _OTHERS.items()}}
+# The letters of opcodes, where those that are read alike have the same.
+_LETTERS = {opcode.name: ALIKE.get(opcode.letter, opcode.letter) for opcode in TABLE}
 
 
-def decoded(code: str, column: Sequence[str]) -> Sequence[str]:
-    """The arguments of opcodes as source."""
-    return _DECODERS[code](column)
+class _Letters(Dict[str, str]):
+    """The letters of opcodes, by how the second parts of their lines begin: there are few such beginnings."""
+
+    def __missing__(self, begins: str) -> str:
+        letter = self[begins] = _LETTERS[name_in(begins)]
+        return letter
+
+
+# Where each comes so many times, each is looked at once.
+_MANY_ALIKE = 4
+_letters = _Letters()
+_begins = itemgetter(slice(max(map(len, _LETTERS)) + 1))
+
+
+def codes_of(tails: Sequence[str]) -> str:
+    """The letters of opcodes, by the second parts of their lines."""
+    distinct = set(tails)
+    if _MANY_ALIKE * len(distinct) < len(tails):
+        return ''.join(map(dict(zip(distinct, codes_of(list(distinct)))).__getitem__, tails))
+    return ''.join(map(_letters.__getitem__, map(_begins, tails)))
+
+
+# So many letters of second parts of lines are kept with what they say.
+_MOST_KEPT = 1 << 20
+
+
+class Said:
+    """What the second parts of lines say. What comes again is read once, as long as there is not too much of it."""
+
+    def __init__(self) -> None:
+        self._fields: Dict[str, Fields] = {}
+        self._sources: Dict[str, str] = {}
+        self._kept = 0
+
+    def forget(self) -> None:
+        """Forgets what was read, where that is much."""
+        if self._kept > _MOST_KEPT:
+            self._fields, self._sources, self._kept = {}, {}, 0
+
+    def fields(self, tails: Iterable[str]) -> Dict[str, Fields]:
+        """The fields of these and of others."""
+        new = set(tails).difference(self._fields)
+        if new:
+            self._kept += sum(map(len, new))
+            self._fields.update(zip(new, fields_of_tails(new)))
+        return self._fields
+
+    def sources(self, code: str, column: Sequence[str]) -> List[str]:
+        """The arguments of opcodes of a code as source."""
+        if column[0] in self._sources:
+            with contextlib.suppress(KeyError):
+                return list(map(self._sources.__getitem__, column))
+        new = set(column).difference(self._sources)
+        if 2 * len(new) > len(column):
+            return list(_DECODERS[code](fields_of_tails(column)))
+        if new:
+            self._kept += sum(map(len, new))
+            self._sources.update(zip(new, _DECODERS[code](fields_of_tails(new))))
+        return list(map(self._sources.__getitem__, column))

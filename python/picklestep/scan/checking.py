@@ -22,7 +22,6 @@ __all__ = ['check']
 
 # What no pickler of Python's own library writes, and what loaders that have it give meaning to. (It may be given to calls, and not called.)
 _OF_OTHER_LOADERS = ('persistent:', 'buffer:')
-_NO_VERDICT = 'no list lets it pass: it is in another form than picklers write, or makes an instance by INST'
 
 
 def check(source: Source, *, allow: Iterable[str] = (), names: Iterable[str] = (), loader: Optional[str] = None,
@@ -60,8 +59,6 @@ def check(source: Source, *, allow: Iterable[str] = (), names: Iterable[str] = (
     lines.extend(f'{place_of(name, ())}: {line}' for line in _in_containers(content, kinds, loader, options.limits))
     if not kinds and not result.pickles:
         lines.append(f'{place_of(name, ())}: no pickle is found in it')
-    if allowed is not None and not lines:
-        lines.extend(f'{place_of(name, pickle.where)}: {_NO_VERDICT}' for pickle in result.pickles if not pickle.verdicts)
     if lines:
         raise NotAllowed(lines)
     return content

@@ -13,12 +13,13 @@ from itertools import chain
 from typing import Dict, Generator, Iterable, List, Optional, TextIO, Union
 
 from ..errors import PicklestepError
+from ..opens import split
 from ..program import find_program
 from ..wording import shown
 from .allow import SETS
 from .cluster import NoCluster, look_on_cluster
 from .files import NoNames, find_files
-from .looking import is_unchanged, is_url, look
+from .looking import Options, is_unchanged, is_url, look
 from .pool import look_at_all
 from .outputs import Output, leave
 from .progress import with_progress
@@ -66,8 +67,8 @@ def _parser(fewest: str = '+') -> argparse.ArgumentParser:
                'could not begin, or not write; 130 after Ctrl-C; 141 if whoever read the output has left. Good files have marks too, and a file '
                'without a mark may still do harm.')
     parser.add_argument('paths', metavar='PATH', nargs=fewest,
-                        help='a file, a folder, a server (redis://, memcached://, postgresql://, mysql://), a URL for fsspec, or - for names on '
-                             'standard input')
+                        help='a file, a folder, a server (redis://, memcached://, postgresql://, mysql://), a URL for fsspec, an address that '
+                             'scan printed, or - for names on standard input')
     _add_lists(parser)
     _add_policy(parser)
     parser.add_argument('--json', action='store_true', help='print a line of JSON for each file, and the summary on standard error')
@@ -177,9 +178,11 @@ class Work:
 
     def __init__(self, words: argparse.Namespace) -> None:
         self._words = words
-        self._servers = [Address(word) for word in words.paths if is_server(word)]
+        self._at = [word for word in words.paths if split(word) is not None]
+        others = [word for word in words.paths if word not in self._at]
+        self._servers = [Address(word) for word in others if is_server(word)]
         self._wanted = Wanted(words.match, words.sample)
-        self._found = find_files((word for word in words.paths if not is_server(word)), b'\0' if words.null else b'\n')
+        self._found = find_files((word for word in others if not is_server(word)), b'\0' if words.null else b'\n')
         self.paths = self._found.paths
         self.results_without_files = self._found.results
 
@@ -189,8 +192,9 @@ class Work:
         # (Where a server does not answer, the result that says so comes when the others have come.)
         failed: List[Result] = []
         keys = chain.from_iterable(tasks(server, wanted, failed.append) for server in self._servers)
-        results = _in_a_row((look(path, settings.options) for path in opened), self._results(settings, paths, keys), failed)
-        files = len(paths) + len(opened)
+        first = chain((_look_at(word, settings.options) for word in self._at), (look(path, settings.options) for path in opened))
+        results = _in_a_row(first, self._results(settings, paths, keys), failed)
+        files = len(paths) + len(opened) + len(self._at)
         total = files + sum(total_of(server, wanted) for server in self._servers)
         what = 'files' if not self._servers else 'files and keys' if files else 'keys'
         with closing(with_progress(results, total, what)) as shown, closing(results):
@@ -204,6 +208,11 @@ class Work:
             made = look_at_all(tasks_of, options, jobs) if cluster is None else look_on_cluster(tasks_of, options, cluster)
             with closing(made) as results:
                 yield from results
+
+
+def _look_at(address: str, options: Options) -> Result:
+    from .finder import look_at  # (most runs look at files)
+    return look_at(address, options)
 
 
 def _in_a_row(first: Iterable[Result], results: Generator[Result, None, None], others: List[Result]) -> Generator[Result, None, None]:

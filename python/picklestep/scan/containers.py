@@ -19,7 +19,7 @@ from .canonical.streams import Stream
 from .packed import LZ4_MODULES, ZSTD_MODULES, module_of
 from .results import Place
 from .tars import BLOCK, looks_like_header
-from .unread import SURE
+from ..unread import SURE
 
 if TYPE_CHECKING:
     from .looking import Looker
@@ -189,6 +189,7 @@ CONTAINERS: Tuple[Container, ...] = (
     Container('lz4', 'opening.packed:look_into', 'lz4 and joblib write', other_endings=('lz4',), stream=streams.LZ4, modules=LZ4_MODULES,
               loaders=('joblib',)),
     Container('blosc chunk', 'opening.packed:look_into', 'Blosc and zarr write', stream=streams.BLOSC),
+    Container('lz4 chunk', 'opening.packed:look_into', 'numcodecs writes', stream=streams.LZ4_CHUNK),
 )
 
 # Stores that are files.

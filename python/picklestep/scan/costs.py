@@ -1,120 +1,93 @@
-"""What takes without end to load, though nothing in it is told.
+"""What takes without end to load, or ends Python itself, though nothing in it is told: whether a pickle may have it, by the opcodes that this takes.
 
-Tuples may hold one another so often that nobody can hash them: one of 200 bytes takes 2^60 steps, and as a key it is hashed while it is loaded. torch
-goes through the layers of a recurrent network, as many as its state says. What tuples and states hold the program's `objects` says.
+Tuples may hold one another so often that nobody can hash them: one of 200 bytes takes 2^60 steps, and as a key it is hashed while it is loaded. So may what
+calls made, such as named tuples. And there may be many keys that take long, each of them not too long. Tuples may be so deep in one another that hashing
+them takes all of C's stack, and so may objects whose freeing goes from each to the next. torch goes through the
+layers of a recurrent network, as many as its state says. Whether it is so is asked in `depths`.
 """
 
 from __future__ import annotations
 
 import re
-from contextlib import closing
-from typing import Dict, Iterable, Iterator, List, Optional, Set, Tuple
+from typing import Iterable, NamedTuple, Optional
 
-from .. import library
-from ..errors import PicklestepError
-from ..program import Process, time_to_wait
-from .blobs import Blob, Budget, FileBlob, spooled
-from .canonical.formed import content_of
+from .blobs import Blob, Budget
 
-__all__ = ['heavy_tuple', 'many_layers']
+__all__ = ['MOST_OF_MADE', 'MOST_OF_TUPLES', 'MOST_STEPS', 'Cost', 'cost_of_tuples', 'many_layers']
 
-# So many steps take some seconds. To come to as many, a pickle has to take tuples out of its memo so often (2^24 is less), one of several parts at least.
-# (What puts them there otherwise is not in the form that picklers write, which is marked.)
-_MOST_STEPS = 100_000_000
-_LEAST_GETS = 24
+# So many steps take some seconds. To come to as many, a pickle has to take tuples, or what calls made, out of its memo: each time doubles at most what its
+# bytes say. (What puts them there otherwise is not in the form that picklers write, which is marked.)
+MOST_STEPS = 100_000_000
 _GETS = (b'h', b'j', b'g')
-_PUT = re.compile(rb'[\x86\x87t](?:\x94|q|r...\0|p[0-9])', re.DOTALL)
-# Of so many bytes it is asked what tuples hold, where there is so much memory for each.
-_MOST_BYTES = 4_000_000
-_MEMORY_OF_A_BYTE = 64
-# In lines of objects: a tuple and what it holds.
-_TUPLE = re.compile(rb'^(#[0-9]+) tuple \(([^)]*)\)', re.MULTILINE)
-# torch's recurrent networks, and the key of their state that says how many layers one has. A number behind it that is not small has a second part.
+_MOST_GETS = 27
+_PUT = re.compile(rb'[\x85\x86\x87tR\x81\x92o\n](?:\x94|q|r...\0|p[0-9])', re.DOTALL)
+_OF_PUT = 6
+# CPython hashes 140,000 tuples in one another by as many calls in C, and a thread may have little room for these.
+MOST_OF_TUPLES = 100
+# It frees what calls made by calls in C, 75,000 at least, if each holds the next in its own way (a deque does). Between two of them there are no more
+# tuples than that. No pickler gets so far, but where its program has set another limit.
+MOST_OF_MADE = 1_000
+# The opcodes that make tuples (by one of them, and from a mark on).
+_TUPLES = (b'\x85', b'\x86', b'\x87')
+_MARK, _FROM_MARK = b'(', b't'
+_CALLS = (b'R', b'\x81', b'\x92', b'i', b'o')
+# torch's recurrent networks.
 _NETWORKS = 'torch.nn.modules.rnn.'
-_MOST_LAYERS = 9_999
-_LAYERS = re.compile(rb"^#([0-9]+) .*'num_layers'", re.MULTILINE)
-_NUMBER = re.compile(rb'^#([0-9]+) (?:int|long)[a-z-]* (?:-.*|[0-9]{1,4}$|(.*))', re.MULTILINE)
-_VALUE = re.compile(rb'\[#([0-9]+)\]=#([0-9]+)')
 
 
-def heavy_tuple(blob: Blob, budget: Budget) -> Optional[str]:
-    """What is to be said of a pickle that has such a tuple.
+class Cost(NamedTuple):
+    """What is to be said of a pickle that takes too much to load. `is_known` is false where it could not be counted."""
+
+    text: str
+    is_known: bool = True
+
+
+def cost_of_tuples(blob: Blob, budget: Budget) -> Optional[Cost]:
+    """What is to be said of a pickle with a tuple, or what a call made, that takes too many steps to be hashed, or with keys and members that do all
+    together; or with a tuple that is too deep in others; or where what calls made is too deep in one another.
 
     >>> from .blobs import BytesBlob, Limits
     >>> levels = b''.join(b'h%c\\x86\\x94' % number for number in range(40))
-    >>> heavy_tuple(BytesBlob(b'\\x80\\x04))\\x86\\x94' + levels + b'.'), Budget(Limits()))
+    >>> cost_of_tuples(BytesBlob(b'\\x80\\x04))\\x86\\x94' + levels + b'.'), Budget(Limits())).text
     'to hash the tuple #27 in it takes more than 100,000,000 steps: who loads it as a key, or as a member of a set, waits for that'
+    >>> cost_of_tuples(BytesBlob(b'}N' + b'\\x85' * 101 + b'Ns.'), Budget(Limits())).text
+    'the tuple #102 in it is nested deeper than 100: as a key, or as a member of a set, it may end the Python that loads it'
     """
-    most = min(_MOST_BYTES, budget.memory() // _MEMORY_OF_A_BYTE)
-    first = blob if blob.size <= most else blob.part(0, most)
-    content = first.read(0, first.size)
-    if sum(map(content.count, _GETS)) < _LEAST_GETS or _PUT.search(content) is None:
+    counted = _Counted(blob)
+    if not (counted.may_be_heavy or counted.may_be_deep or counted.may_be_nested):
         return None
-    number = _heavy(_objects(first, budget))
-    if number is None:
-        return None
-    return f'to hash the tuple {number} in it takes more than {_MOST_STEPS:,} steps: who loads it as a key, or as a member of a set, waits for that'
+    from .depths import cost_in_objects
+    return cost_in_objects(blob, budget, counted.may_be_nested)
 
 
 def many_layers(blob: Blob, names: Iterable[str], budget: Budget) -> Optional[str]:
     """What is to be said of a pickle that imports these names, and has a network of very many layers."""
     if not any(name.startswith(_NETWORKS) for name in names):
         return None
-    keys: Set[bytes] = set()
-    large: Set[bytes] = set()
-    pairs: List[Tuple[bytes, bytes]] = []
-    try:
-        for lines in _objects(blob, budget):
-            keys.update(_LAYERS.findall(lines))
-            large.update(number for number, rest in _NUMBER.findall(lines) if rest)
-            pairs.extend(_VALUE.findall(lines))
-    except PicklestepError:
-        return 'how many layers a network in it has is not known'
-    if any(key in keys and value in large for key, value in pairs):
-        return f'a network in it has more than {_MOST_LAYERS:,} layers: who loads it waits for them'
-    return None
+    from .depths import layers_in_objects
+    return layers_in_objects(blob, budget)
 
 
-def _objects(blob: Blob, budget: Budget) -> Iterator[bytes]:
-    """What the program says of each object, in pieces of whole lines."""
-    words = ['objects', '--many']
-    content = content_of(blob)
-    text = None if content is None else library.answer(words, content, budget.memory())
-    if text is not None:
-        yield text
-        return
-    path = blob.path() if isinstance(blob, FileBlob) else None
-    copy = spooled(blob.chunks()) if path is None else None
-    try:
-        process = Process([*words, path or ('' if copy is None else copy.path())], memory=budget.memory())
-        process.limit_seconds(budget.seconds)
-        with closing(process.blocks(time_to_wait(budget.seconds))) as pieces:
-            yield from _whole(pieces)
-    finally:
-        if copy is not None:
-            copy.file.close()
+class _Counted:
+    """Which opcodes bytes have often enough, whatever else they are."""
 
+    def __init__(self, blob: Blob) -> None:
+        self._found = {each: 0 for each in (*_GETS, *_TUPLES, _MARK, _FROM_MARK, *_CALLS)}
+        has_put, last, size = False, b'', 0
+        self.may_be_heavy = self.may_be_deep = self.may_be_nested = False
+        for piece in blob.chunks():
+            for each in self._found:
+                self._found[each] += piece.count(each)
+            has_put = has_put or _PUT.search(last + piece) is not None
+            last = piece[1 - _OF_PUT:]
+            size += len(piece)
+            tuples = self._sum(_TUPLES) + min(self._found[_MARK], self._found[_FROM_MARK])
+            gets = min(self._sum(_GETS), _MOST_GETS)
+            self.may_be_heavy = has_put and gets > 0 and size << gets > MOST_STEPS
+            self.may_be_deep = tuples > MOST_OF_TUPLES
+            self.may_be_nested = self._sum(_CALLS) > MOST_OF_MADE
+            if self.may_be_heavy and self.may_be_deep and self.may_be_nested:
+                return
 
-def _whole(pieces: Iterable[bytes]) -> Iterator[bytes]:
-    """The same lines in pieces that end with one."""
-    rest: List[bytes] = []
-    for piece in pieces:
-        lines, newline, begun = piece.rpartition(b'\n')
-        if newline:
-            yield b''.join([*rest, lines, newline])
-            rest = []
-        rest.append(begun)
-
-
-def _heavy(pieces: Iterable[bytes]) -> Optional[str]:
-    """The first tuple that takes too many steps. Each other object takes one."""
-    steps: Dict[bytes, int] = {}
-    try:
-        for lines in pieces:
-            for number, parts in _TUPLE.findall(lines):
-                count = steps[number] = 1 + sum([steps.get(part, 1) for part in parts.split()])
-                if count > _MOST_STEPS:
-                    return str(number, 'ascii')
-    except PicklestepError:
-        return '(which is not known)'
-    return None
+    def _sum(self, opcodes: Iterable[bytes]) -> int:
+        return sum(self._found[each] for each in opcodes)

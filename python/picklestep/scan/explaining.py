@@ -52,9 +52,10 @@ def _told(placed: Placed) -> str:
 
 
 def _parser() -> argparse.ArgumentParser:
-    parser = argparse.ArgumentParser(prog='picklestep gate', usage='picklestep gate --explain NAME [LIST ..]')
+    parser = argparse.ArgumentParser(prog='picklestep gate', usage='picklestep gate --explain NAME [--list LIST] [LIST ..]')
     parser.add_argument('--explain', metavar='NAME', required=True)
-    parser.add_argument('LIST', nargs='*')
+    parser.add_argument('--list', dest='LIST', action='append')
+    parser.add_argument('LIST', nargs='*', action='extend')
     return parser
 
 

@@ -8,7 +8,7 @@ from __future__ import annotations
 from dataclasses import dataclass, replace
 from typing import Dict, Iterable, Iterator, List, Optional, Sequence, Tuple
 
-from ..opens import BETWEEN
+from ..opens import BETWEEN, is_at_server, split
 from ..sources import LIMIT
 from ..wording import shown
 from .blobs import Blob, Budget, BytesBlob, LimitMet, Limits
@@ -17,14 +17,14 @@ from .canonical.layouts import layout_of
 from .containers import PACKED, Held
 from .looking import OF_ARRAYS, Looker, Options, Unpacked, look_by
 from .packed import Unpacking
-from .results import Note, Pickle, Place
+from .results import Note, Pickle, Place, Result
 from .stores.address import Address
 from .stores.dbm_files import has_index
 from .stores.server import Server, Wanted, looked_by
 from .stores.values import Values
 from .wording import place_of
 
-__all__ = ['Arrays', 'Finding', 'Found', 'arrays_in', 'content_at', 'find', 'find_at_server', 'server_name']
+__all__ = ['Arrays', 'Finding', 'Found', 'arrays_in', 'content_at', 'find', 'find_at_server', 'look_at', 'server_name']
 
 # So many pickles are kept of a file: a database may have millions.
 _MOST = 100_000
@@ -61,7 +61,8 @@ class Found:
 @dataclass(frozen=True)
 class Finding:
     """What is at an address. `kinds` are the containers that it is, `content` its bytes where they are held, `missed` has a line for each thing that
-    was not looked at, `error` says why the file cannot be read, and `name` is that of the file, or the URL of a server without its password."""
+    was not looked at, `error` says why the file cannot be read, and `name` is that of the file, or the URL of a server without its password.
+    `is_of_several` says that other bytes have the same address, as in an archive with two members of one name."""
 
     found: Tuple[Found, ...]
     kinds: Tuple[str, ...]
@@ -69,12 +70,14 @@ class Finding:
     missed: Tuple[str, ...]
     error: Optional[str]
     name: str
+    is_of_several: bool = False
 
 
-def find(path: str, address: str = '', everywhere: bool = False, limits: Optional[Limits] = None) -> Finding:
-    """The pickles at an address in a file and below it; without one, all of them."""
+def find(path: str, address: str = '', everywhere: bool = False, limits: Optional[Limits] = None, of_any: bool = False) -> Finding:
+    """The pickles at an address in a file and below it; without one, all of them. With `of_any` the bytes at the address are held, whatever they are."""
     options = Options(everywhere=everywhere) if limits is None else Options(limits, everywhere=everywhere)
     finder = _Finder(options, path, address)
+    finder.holds_any = of_any
     result = look_by(finder, path)
     return finder.finding(path, result.notes, result.error)
 
@@ -86,6 +89,21 @@ def find_at_server(url: str, address: str = '', limits: Optional[Limits] = None)
     finder = _Finder(Options() if limits is None else Options(limits), str(server), address, server.split.scheme.lower())
     result = looked_by(finder, server, lambda connection, values: _look_at_keys(connection, values, finder, address))
     return finder.finding(str(server), result.notes, result.error)
+
+
+def look_at(word: str, options: Options) -> Result:
+    """All that `scan` says of what is at an address, in a file or on a server, and below it."""
+    parts = split(word)
+    assert parts is not None
+    name, address = parts
+    if is_at_server(word):
+        server = Address(name)
+        finder = _Finder(options, str(server), address, server.split.scheme.lower())
+        result = looked_by(finder, server, lambda connection, values: _look_at_keys(connection, values, finder, address))
+    else:
+        finder = _Finder(options, name, address)
+        result = look_by(finder, name)
+    return finder.narrowed(result)
 
 
 def server_name(url: str) -> str:
@@ -136,6 +154,8 @@ class _Finder(Looker):
         kind = kind or 'dbm.dumb' * has_index(path)
         self.held_kinds: List[str] = [kind] if kind and not address else []
         self.content: Optional[bytes] = None
+        self._is_of_several = False
+        self.holds_any = False
         self.wants_value = self._wants_value if address else None
         # The containers that were opened, by where they are.
         self._kinds_at: Dict[Place, str] = {(): kind}
@@ -155,7 +175,15 @@ class _Finder(Looker):
     def finding(self, name: str, notes: Iterable[Note], error: Optional[str]) -> Finding:
         """What was found, under the name of the file or the server."""
         missed = [f'{place_of(name, note.where)}: {note.text}' for note in notes if note.is_marked and self.wants(note.where)]
-        return Finding(tuple(self.found()), tuple(self.held_kinds), self.content, tuple(missed), error, name)
+        return Finding(tuple(self.found()), tuple(self.held_kinds), self.content, tuple(missed), error, name, self._is_of_several)
+
+    def narrowed(self, result: Result) -> Result:
+        """A result, with what is at the address and below it alone, and what keeps its readers from getting there."""
+        pickles = tuple(pickle for pickle in result.pickles if self._is_at(pickle.where) or _name_of(pickle.where).startswith(self._below))
+        notes = tuple(note for note in result.notes if self.wants(note.where))
+        is_there = pickles or self.content is not None or result.plain or any(note.where for note in notes)
+        error = result.error if result.error is not None or is_there else f'nothing in it has the address {self._address!a}'
+        return replace(result, pickles=pickles, notes=notes, error=error)
 
     # --- What is left out ---
 
@@ -173,7 +201,7 @@ class _Finder(Looker):
         if self.wants(where):
             before = len(self._found)
             super().look_at(blob, where, names, depth, is_gap)
-            if where and self._is_at(where) and len(self._found) == before and not self.held_kinds:
+            if where and self._is_at(where) and (self.holds_any or len(self._found) == before and not self.held_kinds):
                 self._hold(blob)
 
     def look_at_numbers(self, blob: Blob, where: Place, names: Tuple[str, ...], depth: int) -> None:
@@ -220,7 +248,9 @@ class _Finder(Looker):
 
     def _hold(self, blob: Blob) -> None:
         if blob.size <= LIMIT:
-            self.content = b''.join(blob.chunks())
+            content = b''.join(blob.chunks())
+            self._is_of_several = self._is_of_several or self.content not in (None, content)
+            self.content = content
 
     def _keep(self, pickle: Optional[Pickle], found: Found, blob: Blob) -> None:
         """Keeps a pickle that is at the address or below it, once: several readers may come to the same bytes."""

@@ -33,16 +33,16 @@ from .canonical.forms import WRITERS
 from .canonical.kinds import asked_form, begun_form, kinds_of
 from .canonical.layouts import Layout, layout_of
 from .containers import CONTAINERS, Container, Held
-from .costs import heavy_tuple, many_layers
+from .costs import cost_of_tuples, many_layers
 from .names import Names
 from .other_forms import ending, forms_of
 from .other_loaders import another_import
 from .packed import Unpacking
 from .passing import verdicts
-from .reach import Leads, Reach, leads_of, may_lead_on, reach_of
+from .reach import LIKE_IMPORT, Leads, Reach, leads_in, leads_of, reach_of
 from .reading import Asked, Summary, why_unread
-from .results import Note, Pickle, Place, Result
-from .unread import kind_by_end
+from .results import UNKNOWN, Note, Pickle, Place, Result, Verdict
+from ..unread import kind_by_end
 from .zarr import has_pickles
 
 __all__ = ['OF_ARRAYS', 'Looker', 'Options', 'Reads', 'Unpacked', 'is_unchanged', 'look', 'look_at_bytes', 'look_by']
@@ -111,8 +111,12 @@ class Looker:
             found = verdicts(pickle, opcodes, self.options.lists, self.options.left, self.budget)
         except (LimitMet, NotCanonical, PicklestepError) as error:
             self.note(pickle.where, f'whether it passes a list is not known: {error}', missed=True)
-            return pickle
+            return self.not_judged(pickle)
         return replace(pickle, verdicts=found)
+
+    def not_judged(self, pickle: Pickle) -> Pickle:
+        """The same where the gate has not answered."""
+        return replace(pickle, verdicts=tuple(Verdict(names.digest, UNKNOWN) for names in self.options.lists))
 
     def take_plain(self, content: bytes, where: Place) -> None:
         """Counts a value that is a pickle which imports and calls nothing."""
@@ -131,6 +135,12 @@ class Looker:
         self.others += 1
         if self.budget is self._of_file:
             self.forms[form or ending(where[-1] if where else self.name)] += 1
+
+    def note_costs(self, where: Place, opcodes: Blob) -> None:
+        """Says what of a pickle may end a loader, or takes it without end."""
+        cost = cost_of_tuples(opcodes, self.budget)
+        if cost is not None:
+            self.notes.append(Note(where, cost.text, missed=not cost.is_known, odd=cost.is_known))
 
     def note_form(self, where: Place, writers: str, reason: NotCanonical) -> None:
         """Says that something is not in the form that its usual writers write."""
@@ -190,11 +200,12 @@ class Looker:
     def _look_at_leaf(self, blob: Blob, head: bytes, where: Place, names: Tuple[str, ...], depth: int, is_gap: bool) -> None:
         """Looks at what is no container: a pickle by its name or its first bytes, or where a loader gets somewhere in it; or records."""
         begins = _begins_as_pickle(head, names)
+        leads = Leads() if begins else self._leads(blob, where)
         before = len(self.pickles)
-        if (begins or self.leads_somewhere(blob, where)) and self.is_read(blob, head, where, names, is_sure=begins, depth=depth):
+        if (begins or leads) and self.is_read(blob, head, where, names, is_sure=begins, depth=depth):
             stores.look_behind(self, self.pickles[before], blob, where, depth)
         elif not stores.look_further(self, blob, where, depth, is_gap):
-            self._count_other(where)
+            self._count_other(where, LIKE_IMPORT if leads.like else '')
 
     def leads_somewhere(self, blob: Blob, where: Place) -> bool:
         """Whether a loader of pickles comes to an import, to a call or to a STOP in these bytes."""
@@ -243,15 +254,16 @@ class Looker:
             return False
         pickle = pickle if pickle.size == blob.size else replace(pickle, size=blob.size)
         is_known = layout_note is None or not layout_note.missed
-        self.take(self.judged(pickle, opcodes) if is_known else pickle, blob, () if layout is None else layout.raw)
+        self.take(self.judged(pickle, opcodes) if is_known else self.not_judged(pickle), blob, () if layout is None else layout.raw)
         why = why_unread(head, pickle)
         if why is not None:
             self.note(where, why)
         if layout_note is not None:
             self.notes.append(layout_note)
-        for cost in (heavy_tuple(opcodes, self.budget), many_layers(opcodes, (found.name for found in pickle.imports), self.budget)):
-            if cost is not None:
-                self.note_odd(where, cost)
+        self.note_costs(where, opcodes)
+        layers = many_layers(opcodes, (found.name for found in pickle.imports), self.budget)
+        if layers is not None:
+            self.note_odd(where, layers)
         if layout is not None and layout.inner:
             self._look_at_inner(blob, layout, where)
         if depth is not None:
@@ -316,6 +328,7 @@ class Looker:
         pickle = self._asked(opcodes, opcodes, where + (OF_ARRAYS,), True)
         assert pickle is not None
         self.take(self.judged(pickle, opcodes), opcodes)
+        self.note_costs(pickle.where, opcodes)
 
     # --- Containers ---
 
@@ -384,7 +397,8 @@ class Looker:
             begin.append(piece)
         head = b''.join(begin)[:HEAD]
         is_whole = holder.size < HEAD  # (of a stream that is not at its end the size is not known)
-        asks = bool(kinds_of(BytesBlob(head), head) or may_lead_on(head, is_whole) or holder.closing)
+        leads = leads_in(head, is_whole)
+        asks = bool(kinds_of(BytesBlob(head), head) or leads or holder.closing)
         asks = asks or _begins_as_pickle(head, ()) or not is_whole and not head.strip(b'\0')  # (zeros are empty streams of lzma)
         asks = asks or self.options.everywhere or stores.asks(b''.join(begin), holder.size if is_whole else stores.SMALL)
         if asks or any(is_pickle_name(name) or asked_form(name) for name in names):
@@ -393,7 +407,7 @@ class Looker:
             again = Unpacking(unpacking.packed, unpacking.start, unpacking.offset, unpacking.several)
             self._look_at_held(self._counted(again, Unpacked()), where, names, depth, holder)
         else:
-            self._count_other(where)
+            self._count_other(where, LIKE_IMPORT if leads.like else '')
 
     def look_at_pieces(self, pieces: Iterator[bytes], where: Place, depth: int) -> None:
         """Looks at bytes that come piece by piece, and counts them as unpacked ones. Raises LimitMet."""

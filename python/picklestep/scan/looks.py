@@ -11,7 +11,7 @@ from .allow import sets_with
 from .known import known_names
 from .names import Names
 from .reading import begun_module, is_plain_name, is_worked_out
-from .results import OF_ARGUMENTS, ODD, Call, Import, Pickle, Place, Result, Verdict
+from .results import OF_ARGUMENTS, OF_OFFSETS, ODD, OTHER_FORM, Call, Import, Pickle, Place, Result, Verdict
 from .severity import UNREAD, severity_of
 from .through import part_through, why_through
 from .wording import shown, times
@@ -26,7 +26,7 @@ RULES = {
     'not-allowed': 'It imports a name that no list of --allow has.',
     'not-allowed-done': 'It does something with an allowed name that no list of --allow says may be done with it.',
     'odd': 'It says of kinds of items or arrays what numpy believes and does not write, so that memory may be overwritten; or loaders call '
-           'what it imports.',
+           'what it imports; or pandas makes an object where a call fails.',
     'not-read': 'It was not read to its end (STOP), and a loader may go on.',
     'unusual-form': 'It is not in the form that its usual writers write, so that two programs may read it in two ways.',
     'not-looked-at': 'Something in it was not looked at.',
@@ -39,6 +39,11 @@ OF_CALLS = ('not-allowed-done', 'odd')
 _OF_OBJECTS = ('call', 'new', 'inst')
 # What makes objects that stand for any number of items.
 _RANGES = ('builtins.range', 'ipaddress.IPv4Network', 'ipaddress.IPv6Network')
+# The word for what the gate says of a pickle as a whole, and what stands there where it said nothing.
+_GATE = 'gate'
+_NOT_ASKED = 'it was not asked (Options(lists=..) takes the lists of a judge)'
+# How a note begins about the form of a pickle.
+_OTHER_FORM = 'not in the form that '
 _WITHOUT_NAME = {'persistent': 'persistent id', 'call': 'call of what the pickle made', 'new': 'new of what the pickle made',
                  'inst': 'inst of what the pickle made'}
 
@@ -97,8 +102,12 @@ def call_text(done: Call) -> str:
         return f'{what}, first at {done.offset}{_in_part(done.part)}: {shown(done.text)}'
     if done.what == ODD and done.name == OF_ARGUMENTS:
         return f'a call of what the pickle works out, first at {done.offset}{_in_part(done.part)}: {shown(done.text)}'
+    if done.what == ODD and done.name == OF_OFFSETS:
+        return f'a call for which pandas makes a date offset if it fails, first at {done.offset}{_in_part(done.part)}: {shown(done.text)}'
     if done.what == ODD:
         return f'{done.name} as numpy never writes it, first at {done.offset}{_in_part(done.part)}: {shown(done.text)}'
+    if done.what == _GATE:
+        return f'no list lets it pass: {shown(done.text)}'
     what = f'{done.what} {shown(done.name)}' if done.name else _WITHOUT_NAME.get(done.what, done.what)
     count = f' {times(done.count)}' if done.count else ''
     return f'{what}{count}, first at {done.offset}{_in_part(done.part)}: {shown(done.text)}'
@@ -134,8 +143,7 @@ class Judge:
     is allowed by its name alone, by a pattern that says as much, or by `**`. What `least` marks is marked too.
 
     Whether a pickle does nothing but what the list allows the program's gate has said while it was looked at (`lists` says by which lists it is to be
-    asked). A pickle of which it said nothing is in another form than picklers write: there names and words are compared here, and what a list has shapes
-    for is not allowed.
+    asked). A pickle in another form than picklers write is not allowed, and neither is one about which the gate was not asked.
     """
 
     def __init__(self, allowed: Optional[Names] = None, denied: Optional[Names] = None, with_known: bool = True,
@@ -231,23 +239,15 @@ class Judge:
     def _beside(self, pickle: Pickle, allowed: Names) -> Iterator[Call]:
         verdict = self._verdict(pickle)
         if verdict is None:
-            yield from self._in_another_form(pickle, allowed)
+            yield Call(_GATE, '', 0, 0, _NOT_ASKED)
+        if verdict is None or not verdict.is_known:
             return
         given = (done for done in pickle.calls if done.given and not allowed.allows_done(done.what, done.name))
         found = [done for done in (*verdict.places, *given, *_with_ranges(pickle, allowed)) if not done.name or self.mark(done.name) is None]
         yield from found
-        if not verdict.passes and not found and all(self.mark_in(pickle, each) is None for each in pickle.imports):
-            yield Call('gate', '', 0, pickle.end.offset or 0, verdict.line)
-
-    def _in_another_form(self, pickle: Pickle, allowed: Names) -> Iterator[Call]:
-        """The same by names and words alone. What is done with what calls made is allowed where it is for each name that is called."""
-        called = {done.name for done in pickle.calls if done.name and done.what in _OF_OBJECTS and allowed.note(done.name) is not None}
-        for done in pickle.calls:
-            if done.what == ODD or done.name and self.mark(done.name) is not None:
-                continue
-            if not (allowed.allows_done(done.what, done.name, done.given) if done.name else
-                    all(allowed.allows_done(f'made-{done.what}', name, False) for name in called)):
-                yield done
+        is_other = verdict.line.startswith(OTHER_FORM)
+        if is_other or not verdict.passes and not found and all(self.mark_in(pickle, each) is None for each in pickle.imports):
+            yield Call(_GATE, '', 0, pickle.end.offset or 0, verdict.line)
 
     # --- Marks ---
 
@@ -255,8 +255,9 @@ class Judge:
         """All that is to be looked at in a file."""
         if result.error is not None:
             yield Look((), 'cannot-be-read', f'cannot be read: {shown(result.error)}', severity=UNREAD)
+        noted = {note.where for note in result.notes if note.odd and note.text.startswith(_OTHER_FORM)}
         for pickle in result.pickles:
-            yield from self.looks_in(pickle)
+            yield from (look for look in self.looks_in(pickle) if look.name or look.where not in noted or OTHER_FORM not in look.text)
         for note in result.notes:
             if note.is_marked:
                 rule = 'not-looked-at' if note.missed else 'unusual-form'

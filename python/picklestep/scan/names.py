@@ -1,7 +1,7 @@
 """Lists of names: which lists there are is said by `allow`, `known` and the command; what a line says is taken apart here.
 
 Whether a line is an entry the program says, which reads lists, proved (`entries`). It also says whether a pickle passes a list. Here a name is looked
-for in a list where that is not asked: names that are known or denied, and what a pickle does that is not in the form that picklers write.
+for in a list where that is not asked: names that are known or denied, and which lines a list has already.
 """
 
 from __future__ import annotations
@@ -100,21 +100,19 @@ class Names:
         """The names and patterns that have this name."""
         return [name] * (name in self.names) + [text for text, pattern, _ in self._patterns_of(name) if pattern.has(name)]
 
-    def allows_done(self, what: str, name: str, with_shapes: bool = True) -> bool:
-        """Whether words say that this may be done with what is imported by a name that a line has. `what` is the first word of a line of the program,
-        with `made-` before it where it is done with what a call made. Without `with_shapes` a line with shapes allows nothing of what these are about,
-        since nobody has compared them.
+    def allows_done(self, what: str, name: str) -> bool:
+        """Whether words of lines with this name say that `what` may be done with what is imported by it, which is the first word of a line of the program;
+        whatever a shape says of arguments. Who may call a class may have it made.
 
-        >>> names = Names(['a.b: call(text) made-state'])
-        >>> [names.allows_done(what, 'a.b') for what in ('call', 'state', 'made-state', 'made-append')], names.allows_done('call', 'a.b', False)
-        ([True, False, True, False], False)
+        >>> names = Names(['a.b: call(text)'])
+        >>> [names.allows_done(what, 'a.b') for what in ('call', 'new', 'state')]
+        [True, True, False]
         """
-        is_made = what.startswith(_MADE_)
-        word = _WORDS.get(what[len(_MADE_):] if is_made else what)
-        said = self.words_of(name)
+        word, said = _WORDS.get(what), self.words_of(name)
         if word is None or not said:
             return True
-        return any((_grants_of_made if is_made else _grants)(words, word, with_shapes) for words in said)
+        fitting = _CALLS | {word} if word in ('call', 'new') else {word}
+        return not all(words.isdisjoint(fitting) for words in said)
 
     def words_of(self, name: str) -> List[FrozenSet[str]]:
         """The words of each line that has this name."""
@@ -157,8 +155,8 @@ _WORDS = {'call': 'call', 'new': 'new', 'inst': 'call', 'state': 'state', 'appen
 # Those of a list, in the order in which they are written.
 _OF_LISTS = ('call', 'new', 'state', 'fill')
 _ALL = frozenset(_OF_LISTS)
-_MADE_ = 'made-'
-_OF_MADE = frozenset(('made', *(f'{_MADE_}{word}' for word in _OF_LISTS)))
+# Words of a list that let something be called, or made.
+_CALLS = frozenset(('call', 'call()'))
 # What is no import and has a name of its own in the program's gate.
 _NO_IMPORTS = ('persistent', 'buffer')
 # A word behind a colon, and its shape.
@@ -170,25 +168,13 @@ _BEGINS_PART = ("'", '"', "raw '", 'raw "')
 # A shape that takes no object where the pickle has made a range. (The program takes it as `held`.)
 _ALONE = re.compile(r'[ (|]alone[ )|]')
 # Words that a message may name where one is wrong.
-_KNOWN_WORDS = (*_OF_LISTS, 'then', *sorted(_OF_MADE), 'text', 'short', 'fraction', 'bytes', 'number', 'small', 'bool', 'none', 'held', 'alone', 'class', 'any')
+_KNOWN_WORDS = (*_OF_LISTS, 'then', 'made', *(f'made-{word}' for word in sorted(_OF_LISTS)), 'text', 'short', 'fraction', 'bytes', 'number', 'small',
+                'bool', 'none', 'held', 'alone', 'listed', 'class', 'any')
 # (a line of any length may be given as a list)
 _MOST_SHOWN = 80
 # Of so many names it is kept whether a list has them.
 _MOST_FOUND = 100_000
 _STARS = re.compile(r'(\*+)')
-
-
-def _grants(words: FrozenSet[str], word: str, with_shapes: bool) -> bool:
-    """Whether a line's words let this be done with an import. Who may call a class may have it made."""
-    calls = word in ('call', 'new') and ('call' in words or with_shapes and 'call()' in words)
-    return calls or word in words and not (word == 'new' and 'call()' in words and not with_shapes)
-
-
-def _grants_of_made(words: FrozenSet[str], word: str, with_shapes: bool) -> bool:
-    """The same of what calls of it make."""
-    if word == 'state' and 'then()' in words and not with_shapes:
-        return False
-    return words.isdisjoint(_OF_MADE) or f'{_MADE_}{word}' in words or word == 'new' and 'made-call' in words
 
 
 def read_all(lines: Sequence[str], is_checked: bool = False) -> List[Optional[Line]]:
@@ -207,8 +193,8 @@ def read_all(lines: Sequence[str], is_checked: bool = False) -> List[Optional[Li
     >>> read_all(['# of our own', 'include numpy  # arrays'])
     [None, Line(name='numpy', words=frozenset(), note='arrays', is_include=True, entry='')]
     """
-    texts = [line.strip() for line in lines]
-    refused = None if is_checked else _refused(texts)
+    texts = [line.strip(' \t\r') for line in lines]  # (what the program passes over, and no other blanks of Unicode)
+    refused = _refused(texts) if texts and not is_checked else None
     found: List[Optional[Line]] = []
     for index, text in enumerate(texts):
         if index == refused:

@@ -7,9 +7,12 @@ import lzma
 import struct
 import zlib
 from importlib import import_module
-from typing import Any, Callable, Iterator, Optional, Sequence, Union
+from typing import TYPE_CHECKING, Any, Callable, Iterator, Optional, Sequence, Union
 
 from .blobs import Blob
+
+if TYPE_CHECKING:
+    from .lz4_chunks import Lz4Chunk
 
 __all__ = ['BLOSC_MODULES', 'Blosc', 'Decompressor', 'LZ4_MODULES', 'Lz4', 'Unpacking', 'ZSTD_MODULES', 'Zstd', 'inflate_gzip', 'inflate_zlib',
            'module_of', 'raw_deflate', 'raw_lzma', 'unpack_lzma', 'unpack_xz']
@@ -179,7 +182,7 @@ class Blosc:
         return bytes(self._packed)
 
 
-Decompressor = Union[_Inflate, Zstd, Lz4, Blosc, bz2.BZ2Decompressor, lzma.LZMADecompressor]
+Decompressor = Union[_Inflate, Zstd, Lz4, 'Lz4Chunk', Blosc, bz2.BZ2Decompressor, lzma.LZMADecompressor]
 
 
 def raw_deflate() -> Decompressor:

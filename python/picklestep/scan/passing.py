@@ -1,12 +1,12 @@
-"""Whether pickles pass lists: what the program's gate says of each, proved. It is asked about all that are in the form that picklers write."""
+"""Whether pickles pass lists: what the program's gate says of each, proved. What is in another form than picklers write passes no list."""
 
 from __future__ import annotations
 
 from typing import Dict, Iterator, List, NamedTuple, Optional, Sequence, Tuple
 
 from .. import library
-from ..reaches import reach_of
-from ..records import GateAnswer, Global, Name, Ref
+from ..reaches import CHANGES, Fields, reach_of
+from ..records import GateAnswer, Global, Name, Reach, Ref
 from ..sources import Input
 from .blobs import Blob, Budget, JoinedBlob
 from .canonical.formed import BEHIND, answer_of_program, content_of, require_form
@@ -14,7 +14,7 @@ from .canonical.forms import NotCanonical, NotKnown
 from .entries import answer_of, text_of
 from .names import Names
 from .reading import Asked, is_plain_name, shown_name
-from .results import Call, Pickle, Verdict
+from .results import OTHER_FORM, Call, Pickle, Verdict
 
 __all__ = ['verdicts']
 
@@ -33,8 +33,8 @@ _INST = 'inst '
 
 
 def verdicts(pickle: Pickle, opcodes: Blob, lists: Sequence[Names], more: Sequence[str], budget: Budget) -> Tuple[Verdict, ...]:
-    """What the gate says of pickles in a row by each list; nothing where one of them is not in the form that picklers write, or has an INST. Each has
-    to pass by itself. `more` are lines that each list has besides. Raises LimitMet, and NotKnown where there is no answer."""
+    """What the gate says of pickles in a row by each list. Each has to pass by itself; one that is not in the form that picklers write does not, whatever
+    the list. `more` are lines that each list has besides. Raises LimitMet, and NotKnown where there is no answer."""
     imported = sorted({found.name for found in pickle.imports})
     lines = _Lines(pickle, opcodes, budget)
     found: Dict[bytes, Tuple[str, Tuple[Call, ...]]] = {}
@@ -48,7 +48,7 @@ def verdicts(pickle: Pickle, opcodes: Blob, lists: Sequence[Names], more: Sequen
     except NotCanonical as other:
         if isinstance(other, NotKnown):
             raise
-        return ()
+        return tuple(Verdict(names.digest, f'{OTHER_FORM}: {other}') for names in lists)
     return tuple(given)
 
 
@@ -124,11 +124,9 @@ def _refused(entries: bytes, at: int, part: Blob, answer: GateAnswer, not_there:
     for _ in range(_MOST_PLACES):
         if answer.passes or answer.offset is None:
             return
-        if answer.reason.startswith(_INST):
-            raise NotCanonical('an instance that a pickler of Python 2 made by INST', answer.offset)
         yield answer
         granted = lines.done(at, answer).granted
-        if not granted:
+        if not granted or answer.reason.startswith(_INST):
             return
         entries += text_of([granted])
         last, answer = answer, _ask(entries, part, budget)
@@ -163,9 +161,13 @@ class _Lines:
         self._made: Dict[int, str] = {}
 
     def done(self, at: int, answer: GateAnswer) -> _Done:
-        """What is done where the gate does not let the pickle pass that begins there. Without its line that is what the answer says by itself."""
+        """What is done where the gate does not let the pickle pass that begins there. Without its line only the first word is known, and of a change
+        the object at its end."""
         found = self._all().get(self._offset(at, answer))
-        return self._done(f'{answer.offset}: {answer.reason}') if found is None else found[0]
+        if found is not None:
+            return found[0]
+        what, number = answer.reason.partition(' ')[0], answer.reason.rpartition('#')[2]
+        return self._done_with(what, 'fill' if what in _FILLS else what, int(number)) if what in CHANGES else _Done(what, '', '')
 
     def place(self, at: int, answer: GateAnswer) -> Call:
         """The same as a record. How often the same is done is known where it is not allowed the first time."""
@@ -184,20 +186,22 @@ class _Lines:
     def _all(self) -> Dict[int, Tuple[_Done, str]]:
         """What is done, and the lines, by their offsets. Of pickles with many lines nothing is known."""
         if self._found is None:
-            self._found = {}
             budget = self._budget.of_value(self._opcodes.size)
             budget.lines = _MOST_LINES
-            with Asked(self._opcodes) as asked:
-                answer = asked.summary(budget, True, self._opcodes.offset_of if isinstance(self._opcodes, JoinedBlob) else None)
-            for line in answer.pickle((), 0).lines if answer.trouble is None else ():
+            found: Dict[int, Tuple[_Done, str]] = {}
+
+            def each(place: int, fields: Fields) -> None:
                 self._budget.count(1)
-                offset, _, text = line.partition(': ')
-                self._found[int(offset)] = self._done(line), text
+                reach = reach_of(fields)
+                found[place] = self._done(reach), reach.text
+
+            with Asked(self._opcodes) as asked:
+                answer = asked.summary(budget, False, self._opcodes.offset_of if isinstance(self._opcodes, JoinedBlob) else None, each=each)
+            self._found = found if answer.trouble is None else {}
         return self._found
 
-    def _done(self, line: str) -> _Done:
+    def _done(self, reach: Reach) -> _Done:
         """What a line does, after those before it."""
-        reach = reach_of(line)
         if reach.what == 'import' or reach.what in _NO_IMPORTS:
             done = _Done(reach.what, shown_name(reach.name), _listed(reach.name) or reach.what)
             self._imported[-1 if reach.number is None else reach.number] = done.granted

@@ -18,16 +18,17 @@ import threading
 import time
 from collections import deque
 from contextlib import suppress
+from dataclasses import dataclass
 from itertools import islice
 from multiprocessing.connection import Connection, Pipe, wait
 from pathlib import Path
-from typing import Any, Deque, Dict, Generator, Iterable, List, Optional, Tuple, Union
+from typing import Any, Deque, Dict, Generator, Iterable, List, Optional, Protocol, Tuple, Union
 
 from .looking import Options
 from .results import Result
 from .stores.server import Task, work_on
 
-__all__ = ['look_at_all', 'work']
+__all__ = ['Looks', 'Work', 'do_all', 'look_at_all', 'work']
 
 _Task = Tuple[Union[str, Task], int]
 
@@ -36,17 +37,57 @@ TRIES = 2
 # So many files are handed over at once, and a worker answers after so many seconds though it was given more.
 _MOST_AT_ONCE = 32
 _TURN = 0.05
+# So many seconds a worker that writes may take to come to an end.
+_PATIENCE = 3.0
 # A worker looks for garbage in cycles after so many objects more: hardly any of what it makes is such.
 _MOST_GARBAGE = 10_000
 # A file above this size is handed over alone: others would wait for it.
 _MOST_OF_SMALL = 1 << 20
 
 
+class Work(Protocol):
+    """What is done with each file. It is sent to other processes, and what it answers comes from there."""
+
+    @property
+    def writes(self) -> bool:
+        """Whether files are written, so that no process is ended in the midst of one."""
+        ...
+
+    def do(self, task: Any) -> Any:
+        """What becomes of one."""
+        ...
+
+    def lost(self, task: Any, why: str) -> Any:
+        """What is said of one at which processes ended."""
+        ...
+
+
+@dataclass(frozen=True)
+class Looks:
+    """Looking at files, and at the keys of servers, in the way that options say."""
+
+    options: Options
+    writes: bool = False
+
+    def do(self, task: Union[str, Task]) -> Result:
+        """What is found there."""
+        return work_on(task, self.options)
+
+    def lost(self, task: Union[str, Task], why: str) -> Result:
+        """That nothing is known of it."""
+        return Result(str(task), error=why)
+
+
 def look_at_all(paths: Iterable[Union[str, Task]], options: Options, jobs: int) -> Generator[Result, None, None]:
     """The results of the files and of the keys of servers, as they are ready."""
+    return do_all(paths, Looks(options), jobs)
+
+
+def do_all(paths: Iterable[Union[str, Task]], work: Work, jobs: int) -> Generator[Any, None, None]:
+    """What becomes of each of them, as it is ready."""
     if jobs == 1:
-        return (work_on(path, options) for path in paths)
-    return _Pool(paths, options, jobs).results()
+        return (work.do(path) for path in paths)
+    return _Pool(paths, work, jobs).results()
 
 
 # What a worker runs, in an interpreter that does not search the current folder.
@@ -54,15 +95,12 @@ _WORKER = Path(__file__).resolve().parent / 'worker.py'
 
 
 def work(link: Connection) -> None:
-    """What a worker does: it gets the options, and looks at the paths that it is given, until there are none."""
-    # A group of its own: Ctrl-C goes to the parent alone, which ends this process and all that it started.
-    if hasattr(os, 'setpgid'):
-        os.setpgid(0, 0)
+    """What a worker does: it gets the work, and does it with the paths that it is given, until there are none."""
     gc.set_threshold(_MOST_GARBAGE)
     try:
-        options = _receive(link)
+        what = _receive(link)
         while True:
-            _send(link, _first_results(_receive(link), options))
+            _send(link, _first_results(_receive(link), what))
     except (EOFError, OSError):
         pass  # the parent is gone or has no more
 
@@ -77,21 +115,22 @@ def _receive(link: Connection) -> Any:
     return pickle.loads(link.recv_bytes())
 
 
-def _first_results(tasks: List[Union[str, Task]], options: Options) -> List[Result]:
+def _first_results(tasks: List[Union[str, Task]], what: Work) -> List[Any]:
     """The results of the first of these, of as many as take a short time."""
     end = time.monotonic() + _TURN
-    results: List[Result] = []
+    results: List[Any] = []
     for task in tasks:
-        results.append(work_on(task, options))
+        results.append(what.do(task))
         if time.monotonic() >= end:
             break
     return results
 
 
 def _start(command: List[str], link: int) -> 'subprocess.Popen[bytes]':
-    """Starts a process that inherits one end of a link. Windows has it as a handle, and groups of its own for Ctrl-C."""
+    """Starts a process that inherits one end of a link, in a group of its own: Ctrl-C goes to the parent alone, which ends it and all that it
+    started. Windows has the link as a handle."""
     if os.name != 'nt':
-        return subprocess.Popen(command, stdin=subprocess.DEVNULL, pass_fds=[link])
+        return subprocess.Popen(command, stdin=subprocess.DEVNULL, pass_fds=[link], start_new_session=True)
     system: Any = os  # (elsewhere these modules have not these names)
     processes: Any = subprocess
     system.set_handle_inheritable(link, True)
@@ -112,10 +151,15 @@ class _Fork:
     def __init__(self, link: Connection, others: Iterable[Connection]) -> None:
         """`others` are the ends of links that are the parent's alone: a worker sees by them that it is gone."""
         self._status: Optional[int] = None
+        # (Ctrl-C goes to the parent alone. The copy has to be in a group of its own before: it would go on with what the parent does then.)
+        masked = signal.pthread_sigmask(signal.SIG_BLOCK, {signal.SIGINT})
         self.pid = os.fork()
         if self.pid:
+            signal.pthread_sigmask(signal.SIG_SETMASK, masked)
             return
         try:
+            os.setpgid(0, 0)
+            signal.pthread_sigmask(signal.SIG_SETMASK, masked)
             gc.freeze()  # (what it was copied with is not looked through again and again)
             for other in others:
                 other.close()
@@ -151,7 +195,7 @@ def _may_fork() -> bool:
 class _Worker:
     """A process, and the paths that it has."""
 
-    def __init__(self, options: Options, others: Optional[Iterable[Connection]]) -> None:
+    def __init__(self, what: Work, others: Optional[Iterable[Connection]]) -> None:
         """A copy of this process where the other links are given, else a new one."""
         self.link, far = Pipe()
         self.process: Union['subprocess.Popen[bytes]', _Fork]
@@ -160,7 +204,7 @@ class _Worker:
         self.tasks: List[_Task] = []
         # How many it gets at once: one at first, and more as long as it answers all of them in time.
         self.at_once = 1
-        self._send(options)
+        self._send(what)
 
     def give(self, tasks: List[_Task]) -> None:
         """Hands over paths."""
@@ -173,15 +217,18 @@ class _Worker:
         except OSError:
             pass  # it is dead already, which is noticed when its answer is read
 
-    def answered(self, results: List[Result]) -> List[_Task]:
+    def answered(self, results: List[Any]) -> List[_Task]:
         """Takes its results, and answers those of its tasks that are yet to be done."""
         left, self.tasks = self.tasks[len(results):], []
         self.at_once = len(results) if left else min(2 * self.at_once, _MOST_AT_ONCE)
         return left
 
-    def end(self) -> None:
-        """Ends the process and the programs that it started."""
+    def end(self, is_waited_for: bool = False) -> None:
+        """Ends the process and the programs that it started. One that is waited for ends by itself, if it does in time: it sees that the link is closed."""
         self.link.close()
+        until = time.monotonic() + (_PATIENCE if is_waited_for else 0)
+        while self.process.poll() is None and time.monotonic() < until:
+            time.sleep(_TURN / 10)
         if self.process.poll() is None:
             if hasattr(os, 'killpg'):
                 with suppress(OSError):
@@ -191,17 +238,17 @@ class _Worker:
 
 
 class _Pool:
-    """The workers, and the files that are yet to be looked at."""
+    """The workers, and the files with which something is yet to be done."""
 
-    def __init__(self, paths: Iterable[Union[str, Task]], options: Options, jobs: int) -> None:
+    def __init__(self, paths: Iterable[Union[str, Task]], what: Work, jobs: int) -> None:
         # (A server lists its keys while others are looked at, so what is yet to come is not held.)
         self.paths = iter(paths)
         self.waiting: Deque[_Task] = deque()
-        self.options = options
+        self.what = what
         self.jobs = jobs
         self.workers: Dict[Connection, _Worker] = {}
 
-    def results(self) -> Generator[Result, None, None]:
+    def results(self) -> Generator[Any, None, None]:
         """Hands out the files and answers what comes back."""
         try:
             self._fill(_may_fork())
@@ -212,7 +259,7 @@ class _Pool:
                 self._fill()
         finally:
             for worker in self.workers.values():
-                worker.end()
+                worker.end(self.what.writes)
 
     def _next(self) -> bool:
         """Whether there is another task, which is the first of those that wait then."""
@@ -236,7 +283,7 @@ class _Pool:
             if not worker.tasks:
                 self._hand_out(worker)
         while len(self.workers) < self.jobs and self._next():
-            worker = _Worker(self.options, self.workers if forks and _is_first_try(self.waiting[0]) else None)
+            worker = _Worker(self.what, self.workers if forks and _is_first_try(self.waiting[0]) else None)
             self.workers[worker.link] = worker
             self._hand_out(worker)
 
@@ -246,10 +293,10 @@ class _Pool:
         if tasks:
             worker.give(tasks)
 
-    def _answers_of(self, worker: _Worker) -> List[Result]:
-        """What a worker found. It gets the next files; where it has died, its files wait again."""
+    def _answers_of(self, worker: _Worker) -> List[Any]:
+        """What a worker answers. It gets the next files; where it has died, its files wait again."""
         try:
-            results: List[Result] = _receive(worker.link)
+            results: List[Any] = _receive(worker.link)
         except (EOFError, OSError):
             del self.workers[worker.link]
             worker.end()
@@ -258,12 +305,12 @@ class _Pool:
         self._hand_out(worker)
         return results
 
-    def _given_up(self, tasks: List[_Task]) -> List[Result]:
+    def _given_up(self, tasks: List[_Task]) -> List[Any]:
         """Lets the files of a worker that has died wait again, where one of them was not tried too often."""
         if tasks[0][1] < TRIES:
             self.waiting.extendleft((path, tries + 1) for path, tries in reversed(tasks))
             return []
-        return [Result(str(path), error=f'the process that looked at it ended without an answer, {TRIES} times') for path, _ in tasks]
+        return [self.what.lost(path, f'the process that looked at it ended without an answer, {TRIES} times') for path, _ in tasks]
 
 
 def _goes_along(task: _Task) -> bool:

@@ -8,14 +8,17 @@ from __future__ import annotations
 import sys
 from contextlib import closing
 from importlib import import_module
-from typing import Any, Callable, Generator, Iterable, Union
+from typing import Any, Callable, Generator, Iterable, TypeVar, Union
 
 from .results import Result
 
 __all__ = ['progress_of', 'with_progress']
 
 
-def with_progress(results: Iterable[Result], total: int, what: str = 'files') -> Generator[Result, None, None]:
+_Result = TypeVar('_Result')
+
+
+def with_progress(results: Iterable[_Result], total: int, what: str = 'files') -> Generator[_Result, None, None]:
     """The results as they come, with the progress shown on standard error where that is a terminal: how many of `what` are done."""
     if not sys.stderr.isatty():
         return (result for result in results)
@@ -49,11 +52,16 @@ def _told(results: Generator[Result, None, None], total: int, tell: Callable[[in
             yield result
 
 
-def _counted(results: Iterable[Result], total: int, what: str) -> Generator[Result, None, None]:
+def _count_of(result: Any) -> int:
+    """How many are done with a result: one file, or as many keys of a server."""
+    return max(1, getattr(result, 'keys', 1))
+
+
+def _counted(results: Iterable[_Result], total: int, what: str) -> Generator[_Result, None, None]:
     done = 0
     try:
         for result in results:
-            done += max(1, result.keys)
+            done += _count_of(result)
             print('\r\x1b[K', end='', file=sys.stderr, flush=True)
             yield result
             sys.stdout.flush()
@@ -62,10 +70,10 @@ def _counted(results: Iterable[Result], total: int, what: str) -> Generator[Resu
         print('\r\x1b[K', end='', file=sys.stderr, flush=True)
 
 
-def _with_bar(results: Iterable[Result], total: int, what: str, progress: Any, console: Any) -> Generator[Result, None, None]:
+def _with_bar(results: Iterable[_Result], total: int, what: str, progress: Any, console: Any) -> Generator[_Result, None, None]:
     columns = (progress.TextColumn(f'{{task.completed}} of {{task.total}} {what}'), progress.BarColumn(), progress.TimeRemainingColumn())
     with progress.Progress(*columns, console=console, transient=True, redirect_stdout=False) as bar:
         task = bar.add_task('scan', total=total)
         for result in results:
             yield result
-            bar.advance(task, max(1, result.keys))
+            bar.advance(task, _count_of(result))

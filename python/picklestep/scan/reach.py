@@ -8,23 +8,26 @@ id counts by itself, since images begin with one.
 
 from __future__ import annotations
 
-from dataclasses import dataclass, replace
+from dataclasses import dataclass, field, replace
 from typing import NamedTuple, Optional, Sequence, Tuple
 
 from .. import library
-from ..errors import OutOfMemory, PicklestepError, TimedOut
+from ..errors import OutOfMemory, PicklestepError, ProgramError, TimedOut
 from ..program import run_program, time_to_wait
 from ..question import granted
 from ..records import ReachAnswer
-from ..replies import reach_answer
 from ..sources import LIMIT
-from ..texts import LinesError
-from .begins import HEAD, is_begun_alone, is_text, may_be_imported
+from ..verdicts import reach_answer
+from .begins import HEAD
 from .blobs import Blob, Budget, BytesBlob, FileBlob, Limits, PartMet, spooled
+from .like_imports import is_begun_alone, is_text, may_be_imported
 from .reading import Asked, Summary
 from .walk import is_opcode, length_at
 
-__all__ = ['FRAME', 'Leads', 'Reach', 'leads_of', 'may_be_opcode', 'may_lead_on', 'reach_behind', 'reach_of']
+__all__ = ['FRAME', 'LIKE_IMPORT', 'Leads', 'Reach', 'leads_in', 'leads_of', 'may_be_opcode', 'may_lead_on', 'reach_behind', 'reach_of']
+
+# What is counted in which a loader would import something that is a text by its looks.
+LIKE_IMPORT = 'like an import'
 
 # What a loader was given besides the bytes.
 _NOTHING: Tuple[str, ...] = ()
@@ -52,6 +55,8 @@ class Reach:
     what: str
     offset: int
     is_beyond: bool = False
+    # The module and the name, where the opcode imports by its two lines.
+    names: Optional[Tuple[bytes, bytes]] = field(default=None, repr=False, compare=False)
 
     def __str__(self) -> str:
         return f'{self.what} at {self.offset}'
@@ -59,10 +64,12 @@ class Reach:
 
 @dataclass(frozen=True)
 class Leads:
-    """What loaders come to. `stops` says that a pickle ends, and nothing is reached in it."""
+    """What loaders come to. `stops` says that a pickle ends, and nothing is reached in it. `like` is what is reached where that is a text by its
+    looks: it does not count as a pickle."""
 
     reach: Optional[Reach] = None
     stops: bool = False
+    like: Optional[Reach] = None
 
     def __bool__(self) -> bool:
         return self.reach is not None or self.stops
@@ -95,15 +102,29 @@ def may_lead_on(head: bytes, is_whole: bool) -> bool:
     >>> [may_lead_on(head, True) for head in (b'cos\\nsystem\\n', b'{"a": 1}', b'}.')], may_lead_on(b'}', False)
     ([True, False, True], True)
     """
-    return bool(_leads(BytesBlob(head), None, is_whole))
+    return bool(leads_in(head, is_whole))
+
+
+def leads_in(head: bytes, is_whole: bool) -> Leads:
+    """What loaders come to in these first bytes or, unless they are all, perhaps behind them.
+
+    >>> leads_in(b'commit.yaml: x\\nfoo\\n', True).like
+    Reach(what="GLOBAL 'ommit.yaml: x' 'foo'", offset=0, is_beyond=False)
+    """
+    return _leads(BytesBlob(head), None, is_whole)
 
 
 def _leads(blob: Blob, budget: Optional[Budget], is_whole: bool) -> Leads:
-    reach, end, is_settled = _first(blob, budget, is_whole)
+    reach, end, is_settled, like = _first(blob, budget, is_whole)
     if end < 0:
         return Leads()
     if reach is not None:
         return _confirmed(blob, budget, reach, is_whole)
+    return replace(_of_given(blob, budget, end, is_settled, is_whole), like=like)
+
+
+def _of_given(blob: Blob, budget: Optional[Budget], end: int, is_settled: bool, is_whole: bool) -> Leads:
+    """What loaders come to that were given more than the bytes, where all others end by this offset."""
     passed = blob.read(0, min(end + 1, library.MOST_BYTES))
     if end >= library.MOST_BYTES or not is_whole and not is_settled:
         return Leads(stops=True)  # (it may be; who reads it will see)
@@ -120,13 +141,14 @@ def _confirmed(blob: Blob, budget: Optional[Budget], reach: Reach, is_whole: boo
     answer = _asked(blob, budget)
     if answer.names or answer.is_sure:
         return Leads(reach)
-    if _lines_of_import(blob, reach.offset):
-        return _stops(answer, blob, is_whole)
+    like = reach if answer.is_doubtful else None
+    if _begun_alone(reach.names) is not None:
+        return _stops(answer, blob, is_whole, like)
     passed = blob.read(0, reach.offset)
     if not answer.is_over and b'p' in passed and b'g' in passed and passed.count(b'\n') > 1:
         return Leads(replace(reach, is_beyond=True))  # (by such keys of the memo Python 2 may take other objects out of it)
     is_cut = not is_whole and not answer.is_over and answer.end.code != _NO_OPCODE
-    return Leads(stops=answer.end.is_stopped or is_cut)
+    return Leads(stops=answer.end.is_stopped or is_cut, like=like)
 
 
 def _may_be_given(blob: Blob, end: int) -> bool:
@@ -138,11 +160,13 @@ def _may_be_given(blob: Blob, end: int) -> bool:
 
 
 class _First(NamedTuple):
-    """What is reached first; or the offset by which all loaders end where nothing is (-1 where none begins), and whether they do so whatever follows."""
+    """What is reached first; or the offset by which all loaders end where nothing is (-1 where none begins), and whether they do so whatever follows.
+    What only loaders of Python 2 reach, and what is a text by its looks, is `like`."""
 
     reach: Optional[Reach]
     end: int = 0
     is_settled: bool = False
+    like: Optional[Reach] = None
 
 
 def _first(blob: Blob, budget: Optional[Budget], is_whole: bool) -> _First:
@@ -168,21 +192,19 @@ def _behind_lines(blob: Blob, budget: Optional[Budget], is_whole: bool, answer: 
         answer = _answer_of(_Behind(blob, at), budget, _NOTHING, is_whole)
         offset = at + max(0, (answer.offset or 0) - len(_TEXT))
         if answer.offset is None or answer.reached:
-            lines = _lines_of_import(blob, offset)
-            if lines is None or may_be_imported(*lines) or not is_text(blob.read(0, min(offset, library.MOST_BYTES))):
-                return _First(Reach(answer.line or answer.text, offset, is_beyond=True))
-            return _First(None, offset, answer.whatever_follows)  # (a text)
+            reach = Reach(answer.line or answer.text, offset, is_beyond=True)
+            names = _begun_alone(answer.names)
+            if names is None or may_be_imported(*names) or not is_text(blob.read(0, min(offset, library.MOST_BYTES))):
+                return _First(reach)
+            return _First(None, offset, answer.whatever_follows, like=reach)
         end = offset
         at = _after_line(blob, end)
     return _First(None, end, answer.whatever_follows)
 
 
-def _lines_of_import(blob: Blob, offset: int) -> Optional[Tuple[bytes, bytes]]:
-    """The module and the name that stand in two lines behind an opcode there; None where it has none, or Python may import all of them."""
-    if blob.read(offset, 1) not in (b'c', b'i'):
-        return None
-    module, name, *_ = (*blob.read(offset + 1, HEAD).split(b'\n', 2), b'')
-    return (module, name) if is_begun_alone(module) else None
+def _begun_alone(names: Optional[Tuple[bytes, bytes]]) -> Optional[Tuple[bytes, bytes]]:
+    """The module and the name that an opcode imports by its two lines; None where it has none, or Python may import all of them."""
+    return names if names is not None and is_begun_alone(names[0]) else None
 
 
 def _after_line(blob: Blob, end: int) -> Optional[int]:
@@ -218,16 +240,16 @@ def _by_calls(blob: Blob, budget: Optional[Budget], is_whole: bool) -> Leads:
     return _stops(answer, blob, is_whole)
 
 
-def _stops(answer: Summary, blob: Blob, is_whole: bool) -> Leads:
+def _stops(answer: Summary, blob: Blob, is_whole: bool, like: Optional[Reach] = None) -> Leads:
     """Whether a loader that was given more, such as its own find_class, comes to a STOP."""
     is_cut = answer.end.code != _NO_OPCODE and (not is_whole or blob.size > library.MOST_BYTES)
-    return Leads(stops=answer.end.is_stopped or is_cut or answer.trouble is not None)
+    return Leads(stops=answer.end.is_stopped or is_cut or answer.trouble is not None, like=like)
 
 
 def _reach(blob: Blob, answer: ReachAnswer) -> Reach:
     if answer.offset is None:
         return Reach(answer.text, 0, is_beyond=True)
-    return Reach(answer.line, answer.offset, any(FRAME in piece for piece in blob.part(0, answer.offset).chunks()))
+    return Reach(answer.line, answer.offset, any(FRAME in piece for piece in blob.part(0, answer.offset).chunks()), answer.names)
 
 
 # --- Asking ---
@@ -250,13 +272,13 @@ def _answer_of(blob: Blob, budget: Optional[Budget], given: Sequence[str], is_wh
         answer = _read(text)
         if len(head) == blob.size or not is_whole or _is_settled(head, answer, blob.size):
             return answer
-    return _read(_of_program(blob, budget, ('reach', *given)))
+    return _read(_of_program(blob, budget, ('reach', '--json', *given)))
 
 
 def _read(text: bytes) -> ReachAnswer:
     try:
-        return reach_answer(text.decode('ascii'))
-    except (LinesError, UnicodeDecodeError) as error:
+        return reach_answer(text)
+    except (ProgramError, ValueError) as error:
         raise PartMet('the program does not say whether a loader gets anywhere in it') from error
 
 

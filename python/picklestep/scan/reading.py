@@ -4,49 +4,44 @@ from __future__ import annotations
 
 import re
 import signal
-from contextlib import closing
+from contextlib import closing, contextmanager
 from dataclasses import dataclass
 from functools import lru_cache
-from typing import Callable, Dict, Iterable, List, Optional, Set, Tuple
+from itertools import groupby
+from typing import Any, Callable, Dict, Iterable, Iterator, List, Optional, Sequence, Set, Tuple
 
 from .. import library
 from ..errors import OutOfMemory, PicklestepError, ProgramError, TimedOut
 from ..hints import OLD_TORCH
+from ..listed import whole_lines
 from ..program import Process, run_program, time_to_wait
-from ..reaches import LineKey, line_of, number_in, offset_of, reach_of, reached_lines, text_of
+from ..reaches import CHANGES, EVENTS, IMPORTS, Fields, end_of, name_of, plainly_in, said_in, text_of
 from ..records import End, Extension, Global, Name, Ref
-from ..replies import IN_FORM, where_of
-from ..texts import closing_in, offset_of_item, with_offset
-from ..texts_of_calls import given_in, headings_in
-from .begins import is_dotted, is_text, may_be_begun, may_be_imported
+from ..replies import where_of
+from ..texts import with_offset
+from ..verdicts import IN_FORM
 from .blobs import CHUNK, Blob, Budget, FileBlob, Spooled, spooled
 from .canonical.formed import content_of
 from .canonical.items import oddness
 from .canonical.methods import names_methods
 from .canonical.joblib import SIGN
 from .item_kinds import ItemKinds
-from .results import OF_ARGUMENTS, ODD, Call, Import, Pickle, Place
+from .like_imports import is_dotted, is_text, may_be_begun, may_be_imported
+from .results import OF_ARGUMENTS, OF_OFFSETS, ODD, Call, Import, Pickle, Place
 
 __all__ = ['Asked', 'Enough', 'Summary', 'begun_module', 'calls_in_form', 'calls_words', 'is_odd_name', 'is_plain_name', 'is_worked_out', 'shown_name', 'why_unread']
 
 # The heading of what a loader does that goes on where the lines ended.
 _GOES_ON = 'a loader may go on'
 
-# These lines are about an import.
-_IMPORTS = ('import', 'inst')
-
 # These lines name what they import or call.
 _WITH_NAME = ('import', 'inst', 'call', 'new')
-
-# These lines say that something is given a state or filled. What that is stands at their end, and so does what an import gives.
-_CHANGES = ('state', 'append', 'set', 'add')
 
 # These lines alone show no pickle: many texts begin with the letters P and Q, and what a loader does with such an id is its own.
 _WEAK = ('persistent', 'buffer', 'readonly')
 
-# This much of an answer is kept (names and the lines that come first), as bytes. Its closing lines are within the last `_CLOSING`.
+# This much of an answer is kept (names and the lines that come first), as bytes.
 _MOST_KEPT = 64 << 20
-_CLOSING = 2_000
 
 # Each line has the whole name: one that has half a million bytes and is called again and again makes gigabytes of a small file.
 _MOST_ANSWERED = 1 << 30
@@ -82,6 +77,11 @@ class Enough(Exception):
     """A limit of the answer is met; the text says which."""
 
 
+# What lines have in common that are counted together: what they do, and the name, by its parts if these are texts; of changes the name of what is
+# changed.
+_Key = Tuple[str, object]
+
+
 class Summary:
     """What the program says of some bytes, summed up by name while it comes. What only some loaders reach counts as well, and is kept
     with the heading under which it stands.
@@ -90,17 +90,23 @@ class Summary:
     however odd they are (`_` stands for what is worked out). `trouble` says why the answer is not whole, if it is not.
     """
 
-    def __init__(self, budget: Budget, keep_lines: bool, offset_of: Optional[Callable[[int], int]] = None) -> None:
-        """`offset_of` says where an offset of the program is in the file, where the program got only some of the bytes."""
+    def __init__(self, budget: Budget, keep_lines: bool, offset_of: Optional[Callable[[int], int]] = None,
+                 each: Optional[Callable[[int, Fields], None]] = None, printed: Optional[Callable[[int], str]] = None) -> None:
+        """`offset_of` says where an offset of the program is in the file, where the program got only some of the bytes. `each` is given each line and
+        its offset there, and `printed` gives one that is too long for JSON, by how many are before it."""
         self.is_sure = False
         self.names: Set[Tuple[str, str]] = set()
         self.end = _NOT_KNOWN
         self.trouble: Optional[str] = None
         self._budget = budget
         self._offset_of = offset_of
-        self._found: Dict[Tuple[str, str, str], _Found] = {}
-        self._again: Dict[LineKey, _Found] = {}
-        self._imported: Dict[str, str] = {}
+        self._each = each
+        self._printed = printed
+        self._found: Dict[Tuple[_Key, str], _Found] = {}
+        self._imported: Dict[int, str] = {}
+        # The lines that say how the strict reading ended, by their kinds, and how many lines people are shown up to here.
+        self._closing: Dict[str, Fields] = {}
+        self._rows = 0
         self._lines: Optional[List[str]] = [] if keep_lines else None
         self._count = 0
         self._kept = 0
@@ -116,6 +122,8 @@ class Summary:
         self._kinds = ItemKinds()
         # The first call of something that is given to it by arguments which are not shown.
         self._hidden: Optional[Tuple[int, str, str]] = None
+        # The first call that has pandas make an object where it fails.
+        self._offsets: Optional[Tuple[int, str, str]] = None
         self.oddness = ''
 
     def ask(self, blob: Blob, budget: Budget) -> None:
@@ -132,7 +140,12 @@ class Summary:
     @property
     def is_over(self) -> bool:
         """Whether loaders raised at an import that cannot be there, or no import can."""
-        return self._is_over or bool(self._is_doubtful)
+        return self._is_over or self.is_doubtful
+
+    @property
+    def is_doubtful(self) -> bool:
+        """Whether they import something, and all of it is what no module has."""
+        return bool(self._is_doubtful)
 
     @property
     def is_empty(self) -> bool:
@@ -142,7 +155,7 @@ class Summary:
     def take(self, pieces: Iterable[bytes]) -> None:
         """Reads the program's answer to its end."""
         rest: List[bytes] = []
-        tail = ''
+        kind = ''
         for piece in pieces:
             self._check_cost(len(piece))
             whole, newline, begun = piece.rpartition(b'\n')
@@ -151,113 +164,134 @@ class Summary:
                 self._begun += len(begun)
                 self._check_kept()
                 continue
-            text = b''.join([*rest, whole, newline]).decode('ascii')
+            lines = b''.join([*rest, whole, newline])
             rest, self._begun = [begun], len(begun)
-            at = 0
-            for heading in headings_in(text):
-                tail = self._take_lines(text, at, heading.start, tail)
-                self._begin_part(heading.words, tail)
-                at = heading.end
-            tail = self._take_lines(text, at, len(text), tail)
-        if any(rest) or not tail:
+            kind = self.take_fields(*plainly_in(lines))
+        if any(rest) or kind != 'end':
             raise ProgramError('the program gave no whole answer')
-        if not self._part:
-            self._take_end(tail)
 
-    def _take_lines(self, text: str, start: int, end: int, tail: str) -> str:
-        """Counts lines, and answers the last ones. A pickle may have a hundred thousand lines and few names."""
-        again, left = self._again, self._budget.lines
-        self._kinds.read(text, start, end, self._part)
-        self._take_given(text, start, end)
-        for key, count, match in reached_lines(text, start, end, self._lines is not None):
-            self._count += count
-            left -= count
-            allowed = count if left >= 0 else count + left
-            if allowed > 0:
-                found = again.get(key) or self._found_by(key, match)
-                found.count += allowed
-                if self._lines is not None:
-                    self._keep_line(match)
-            if left < 0:
-                self._budget.lines = left
-                raise Enough(f'the answers about the file have more than {self._budget.limits.lines:,} lines')
-        self._budget.lines = left
-        return text[end - _CLOSING:end] if end - start >= _CLOSING else (tail + text[start:end])[-_CLOSING:]
-
-    def _take_given(self, text: str, start: int, end: int) -> None:
-        """Counts calls of what is given to something that calls it, as those by the pickle itself."""
-        for offset, line, what, quoted in given_in(text, start, end):
-            if not quoted:
-                self._hidden = self._hidden or (offset, line, self._part)
+    def take_fields(self, lines: Sequence[Fields], signs: bytes) -> str:
+        """Reads lines, which have these signs, and answers the kind of the last one."""
+        for is_event, group in groupby(lines, lambda fields: fields['kind'] in EVENTS):
+            if is_event:
+                self._take_lines(list(group), signs)
                 continue
-            key = f'given {what}', quoted, self._part
-            found = self._found.get(key)
-            if found is None:
-                self._keep(line)
-                found = self._found[key] = _Found(what, _known_by(quoted).shown, self._place(offset), line, self._part, given=True)
-            found.count += 1
+            for fields in group:
+                if fields['kind'] == 'heading':
+                    self._begin_part(fields)
+                elif not self._part:
+                    self._closing[fields['kind']] = fields
+                self._rows += bool(text_of(fields))
+                if fields['kind'] == 'end' and not self._part:
+                    self._take_end()
+        return str(lines[-1]['kind'])
 
-    def _begin_part(self, heading: str, tail: str) -> None:
+    def _take_lines(self, lines: Sequence[Fields], signs: bytes) -> None:
+        """Counts lines that come from opcodes."""
+        for row, fields in enumerate(lines, self._rows):
+            if 'text' not in fields and self._printed is not None:
+                fields['text'] = self._printed(row)
+        self._kinds.read(lines, signs, self._part)
+        for fields in lines:
+            self._take_given(fields)
+            self._count += 1
+            self._budget.lines -= 1
+            if self._budget.lines < 0:
+                raise Enough(f'the answers about the file have more than {self._budget.limits.lines:,} lines')
+            self._found_by(fields).count += 1
+            if self._lines is not None:
+                self._keep_line(fields)
+            if self._each is not None:
+                self._each(self._place(int(fields['offset'])), fields)
+            self._rows += 1
+
+    def _take_given(self, fields: Fields) -> None:
+        """Counts a call of what is given to something that calls it, as one by the pickle itself, and finds what pandas makes where a call fails."""
+        arguments, pair = fields.get('args'), (fields.get('module'), fields.get('name'))
+        if fields['kind'] == 'call' and self._offsets is None and _is_of_offsets(arguments) and pair not in _GIVEN_OFFSETS:
+            self._offsets = int(fields['offset']), said_in(fields), self._part
+        what, at = _GIVERS.get(pair, ('', 0)) if fields['kind'] in ('call', 'inst') else ('', 0)
+        if not what:
+            return
+        if not isinstance(arguments, list):
+            if arguments is not None and arguments['kind'] == 'object':
+                self._hidden = self._hidden or (int(fields['offset']), said_in(fields), self._part)
+            return
+        given = arguments[at] if at < len(arguments) else {}
+        name = name_of(given) if given.get('kind') == 'global' and 'object' not in given else None
+        if not isinstance(name, Global) or name.raw or name.module == b'builtins':
+            return
+        key = (f'given {what}', name), self._part
+        found = self._found.get(key)
+        if found is None:
+            text = said_in(fields)
+            self._keep(text)
+            found = self._found[key] = _Found(what, _known(name).shown, self._place(int(fields['offset'])), text, self._part, given=True)
+        found.count += 1
+
+    def _begin_part(self, fields: Fields) -> None:
         """Goes on with what is under a heading."""
         if not self._part:
-            self._take_end(tail)
-        self._is_over = self._is_over and heading == _GOES_ON
-        self._part = heading
-        self._again.clear()
+            self._take_end()
+        if 'text' not in fields:
+            raise ProgramError('the program is of an earlier version than the package')
+        self._part = text_of(fields)[:-1]
+        self._is_over = self._is_over and self._part == _GOES_ON
         if self._lines is not None:
-            self._lines.append(f'{heading}:')
+            self._lines.append(text_of(fields))
 
-    def _take_end(self, tail: str) -> None:
+    def _take_end(self) -> None:
         """Keeps how the strict reading ended."""
-        self.end = closing_in(tail, 0, len(tail)).end(None)
+        self.end = end_of(self._closing)
         if self._offset_of is not None and self.end.offset is not None:
             self.end = with_offset(self.end, self._offset_of(self.end.offset))
 
-    def _found_by(self, key: LineKey, match: 're.Match[str]') -> '_Found':
+    def _found_by(self, fields: Fields) -> '_Found':
         """What a line is counted by. It is kept with the first line of its kind about its name."""
-        what, quoted = key
-        if what in _CHANGES:
-            name = self._imported.get(number_in(match), '')
-            return self._found.get((what, name, self._part)) or self._first_of(what, name, _Known(name, False), match)
-        # (A name that is no text is a number, or an object of the pickle.)
-        found = None if quoted is None and what in _WITH_NAME else self._found.get((what, quoted or '', self._part))
-        if found is None:
-            known = _name_in(match, quoted) if what in _WITH_NAME else _NO_NAME
-            found = self._found.get((what, quoted or known.shown, self._part)) or self._first_of(what, quoted or known.shown, known, match)
+        what = fields['kind']
+        if what in CHANGES:
+            name = self._imported.get(fields['object'], '')
+            return self._found.get(((what, name), self._part)) or self._first_of(fields, name, _Known(name, False))
+        known: Optional[_Known] = None
+        of: object = ''
+        if what in _WITH_NAME:
+            parts = fields.get('module'), fields.get('name')
+            # (a name that is no text is a number, or an object of the pickle)
+            known = _known(name_of(fields)) if None in parts else None
+            of = parts if known is None else known.shown
+        found = self._found.get(((what, of), self._part)) or self._first_of(fields, of, known or _known_as(of))
         if what == 'import':
-            self._imported[number_in(match)] = found.name
-        elif quoted is not None:
-            self._again[key] = found
+            self._imported[fields['object']] = found.name
         return found
 
-    def _first_of(self, what: str, name: str, known: '_Known', match: 're.Match[str]') -> '_Found':
+    def _first_of(self, fields: Fields, of: object, known: '_Known') -> '_Found':
         """Keeps the first line of its kind about a name."""
-        text = text_of(match)
+        what, offset, text = fields['kind'], int(fields['offset']), said_in(fields)
         self._keep(text)
-        if what in _IMPORTS:
+        if what in IMPORTS:
             # (a loader of the strict lines may go on: torch has an answer for a name with `Storage` of any module)
             self._is_over = self._is_over or self._part != '' and known.is_impossible
             self._is_doubtful = known.is_impossible and self._is_doubtful is not False
         if not self._is_over:
-            self._keep_doubts(what, known, offset_of(match))
-            self.is_sure = self.is_sure or (known.can_be_there if what in _IMPORTS else what not in _WEAK and not self._is_doubtful)
-            self.names.update([known.parts] if what in _IMPORTS and known.parts is not None and not known.is_impossible else ())
-        found = self._found[what, name, self._part] = _Found(what, known.shown, self._place(offset_of(match)), text, self._part,
-                                                           member=known.member)
+            self._keep_doubts(what, known, offset)
+            self.is_sure = self.is_sure or (known.can_be_there if what in IMPORTS else what not in _WEAK and not self._is_doubtful)
+            self.names.update([known.parts] if what in IMPORTS and known.parts is not None and not known.is_impossible else ())
+        found = self._found[(what, of), self._part] = _Found(what, known.shown, self._place(offset), text, self._part, member=known.member)
         return found
 
     def _keep_doubts(self, what: str, known: '_Known', offset: int) -> None:
         """Keeps the first import and the first call of what no module has, where the bytes decide whether they are a pickle."""
-        if self._is_doubtful and what in _IMPORTS and known.begins and self._begun_import is None:
+        if self._is_doubtful and what in IMPORTS and known.begins and self._begun_import is None:
             assert known.parts is not None
             self._begun_import = offset, known.parts
         if self._is_doubtful and what == 'call' and self._doubtful_call is None:
             self._doubtful_call = offset
 
-    def _keep_line(self, match: 're.Match[str]') -> None:
+    def _keep_line(self, fields: Fields) -> None:
         """Keeps a whole line."""
         assert self._lines is not None
-        line = line_of(match) if self._offset_of is None else f'{self._place(offset_of(match)):>5}: {text_of(match)}'
+        said = said_in(fields)
+        line = text_of(fields) if self._offset_of is None else f'{self._place(int(fields["offset"])):>5}: {said}'
         self._keep(line)
         self._lines.append(line)
 
@@ -287,7 +321,7 @@ class Summary:
         done: Dict[Tuple[str, str, str, bool], Tuple[_Found, int]] = {}
         for found in self._found.values():
             name, part = found.name, found.part
-            if found.what in _IMPORTS:
+            if found.what in IMPORTS:
                 first, count = imports.get((name, part), (found, 0))
                 first.member = first.member or found.member
                 imports[name, part] = first, count + found.count
@@ -300,9 +334,10 @@ class Summary:
             offset, text, part = odd
             name = self._kinds.name(self.oddness)
             done[ODD, name, part, False] = _Found(ODD, name, self._place(offset), text, part, 1), 1
-        if self._hidden is not None:
-            offset, text, part = self._hidden
-            done[ODD, OF_ARGUMENTS, part, False] = _Found(ODD, OF_ARGUMENTS, self._place(offset), text, part, 1), 1
+        for name, first_line in ((OF_ARGUMENTS, self._hidden), (OF_OFFSETS, self._offsets)):
+            if first_line is not None:
+                offset, text, part = first_line
+                done[ODD, name, part, False] = _Found(ODD, name, self._place(offset), text, part, 1), 1
         return Pickle(where, size, tuple(Import(first.name, count, first.offset, first.part, first.member) for first, count in imports.values()),
                       tuple(Call(first.what, first.name, count, first.offset, first.text, first.part, first.given) for first, count in done.values()),
                       self.end, tuple(self._lines or ()))
@@ -346,26 +381,43 @@ def _known(name: Optional[Name]) -> _Known:
     module, named = (part if isinstance(part, bytes) else b'_' for part in (name.module, name.name))
     parts = module.decode('utf-8', 'backslashreplace'), named.decode('utf-8', 'backslashreplace')
     is_possible = may_be_imported(module, named)
-    return _Known(shown_name(name), is_dotted(module) and is_possible, member, parts, not is_possible, may_be_begun(module))
+    return _Known(shown_name(name), is_dotted(module) and is_possible, member, parts, not is_possible,
+                  not is_possible and may_be_begun(module))
 
 
-_NO_NAME = _Known('', False)
+# What calls (or makes, with `new`) one of the things that it is given: which of them.
+_GIVERS: Dict[Tuple[Any, Any], Tuple[str, int]] = {('copyreg', '__newobj__'): ('new', 0), ('copyreg', '__newobj_ex__'): ('new', 0), ('copyreg', '_reconstructor'): ('call', 1),
+           ('numpy.random._pickle', '__bit_generator_ctor'): ('call', 0), ('numpy.random._pickle', '__generator_ctor'): ('call', 1),
+           ('numpy.random._pickle', '__randomstate_ctor'): ('call', 1), ('torch._tensor', '_rebuild_from_type_v2'): ('call', 0)}
+# Where pandas' date offsets are, and what picklers write calls of that are given such a class. `pandas.read_pickle` calls `__new__` of it where the
+# call raises a TypeError.
+_OFFSETS = ('pandas._libs.tslibs.offsets', 'pandas.tseries.offsets')
+_GIVEN_OFFSETS = {('copyreg', '_reconstructor'), ('copy_reg', '_reconstructor'), ('copyreg', '__newobj__'), ('copy_reg', '__newobj__'),
+                  ('functools', 'partial')}
 
 
-@lru_cache(maxsize=_MOST_NAMES)
-def _known_by(quoted: str) -> _Known:
-    """What is known of a name whose module is in quotes."""
-    return _known(reach_of(f'0: import {quoted} as #0').name)
+def _is_of_offsets(arguments: object) -> bool:
+    """Whether the first argument is a class of date offsets."""
+    return isinstance(arguments, list) and len(arguments) > 0 and arguments[0]['kind'] == 'global' and arguments[0].get('module') in _OFFSETS
 
 
-def _name_in(match: 're.Match[str]', quoted: Optional[str]) -> _Known:
-    """What is known of what a line imports or calls."""
-    return _known_by(quoted) if quoted is not None and len(quoted) <= _SHORT else _known(reach_of(line_of(match)).name)
+def _known_as(of: object) -> _Known:
+    """What is known of a name by two texts, or of no name."""
+    if not isinstance(of, tuple):
+        return _Known('', False)
+    return _known_by(*of) if len(of[0]) + len(of[1]) <= _SHORT else _known_of(*of)
+
+
+def _known_of(module: str, name: str) -> _Known:
+    return _known(Global(module.encode('utf-8'), name.encode('utf-8')))
+
+
+_known_by = lru_cache(maxsize=_MOST_NAMES)(_known_of)
 
 
 def calls_words(full: bool) -> List[str]:
     """The words by which the program is asked, with arguments in full or cut."""
-    return ['calls', '--full'] if full else ['calls']
+    return ['calls', '--json', '--full'] if full else ['calls', '--json']
 
 
 # The signals by which a system ends a program at its limit of time. (Windows has no such limit.)
@@ -375,7 +427,7 @@ _ENDED = [getattr(signal, name) for name in ('SIGXCPU', 'SIGKILL') if hasattr(si
 def calls_in_form(blob: Blob, budget: Budget) -> Optional[bytes]:
     """What the program says that a small pickle calls, where it is in the form that picklers write and nothing in it can be a joblib array."""
     content = content_of(blob)
-    if content is None or SIGN in content or library.answer(['form'], content) != IN_FORM or budget.spend() < _LITTLE_TIME:
+    if content is None or SIGN in content or library.answer(['form', '--json'], content) != IN_FORM or budget.spend() < _LITTLE_TIME:
         return None
     return library.answer(calls_words(False), content, budget.memory())
 
@@ -400,31 +452,31 @@ class Asked:
             self._copy.file.close()
 
     def summary(self, budget: Budget, keep_lines: bool = False, offset_of: Optional[Callable[[int], int]] = None, full: bool = False,
-                calls: Optional[bytes] = None, is_kept: bool = False) -> Summary:
+                calls: Optional[bytes] = None, is_kept: bool = False, each: Optional[Callable[[int, Fields], None]] = None) -> Summary:
         """What they import and call, as one pickle or several in a row. What was found before a limit or a failure is kept.
 
         With `full` arguments are whole. `calls` is what the program says where they are not, if it was asked. With `is_kept` they are read by
         one unpickler that keeps its memo.
         """
-        summary = Summary(budget, keep_lines, offset_of)
         words = [*calls_words(full), *(('--memo', 'kept') if is_kept else ())]
+        summary = Summary(budget, keep_lines, offset_of, each, self._printed([word for word in words if word != '--json'], budget))
         seconds = budget.spend()
         text = self._in_process(words, budget, seconds) if calls is None or full else calls
         if text is None:
             self._ask_program(words, summary, budget)
         else:
-            try:
+            with self._troubles_of(summary, budget):
                 summary.take(text[at:at + CHUNK] for at in range(0, len(text), CHUNK))
-            except Enough as limit:
-                summary.trouble = f'{limit}: the rest of it is not looked at'
         summary.ask(self._blob, budget)
         return summary
 
     def offset_of_item(self, item: int, budget: Budget) -> Optional[int]:
         """Where an opcode begins. `item` counts the opcodes before it. None where a limit is met first."""
-        text = self._in_process(['list', '--many'], budget, budget.seconds)
-        if text is not None:
-            return offset_of_item(text, item)
+        lines = self._in_process(['list', '--json', '--many'], budget, budget.seconds)
+        if lines is not None:
+            from ..answers import Listing  # (hardly a pickle is asked so)
+            opcodes = Listing(lines)
+            return opcodes[item].offset if item < len(opcodes) else None
         try:
             answer = run_program(['debug', self._path(), '--many', '--window', '1'], script=b'goto %d\nwhere\n' % item,
                                  timeout=max(1, budget.seconds), memory=budget.memory())
@@ -438,6 +490,20 @@ class Asked:
             return None
         return library.answer(words, self._content, budget.memory())
 
+    def _printed(self, words: List[str], budget: Budget) -> Callable[[int], str]:
+        """What gives a line of the answer for people, by how many are before it. They are asked for one after another."""
+        def blocks() -> Iterator[bytes]:
+            text = self._in_process(words, budget, budget.seconds)
+            if text is not None:
+                yield text
+                return
+            process = Process([*words, self._path()], memory=budget.memory())
+            process.limit_seconds(budget.seconds)
+            yield from process.blocks(time_to_wait(budget.seconds))
+
+        lines = enumerate(line for block in whole_lines(blocks()) for line in block.decode('ascii').splitlines())
+        return lambda row: next((line for at, line in lines if at == row), '')
+
     def _path(self) -> str:
         """The path under which the program can open these bytes: an open file, or a copy of our own."""
         path = self._blob.path() if isinstance(self._blob, FileBlob) else None
@@ -448,12 +514,19 @@ class Asked:
         return self._copy.path()
 
     def _ask_program(self, words: List[str], summary: Summary, budget: Budget) -> None:
-        may_take, seconds = budget.memory(), budget.limits.seconds
-        try:
+        may_take = budget.memory()
+        with self._troubles_of(summary, budget):
             process = Process([*words, self._path()], memory=may_take if self._blob.size * _MEMORY_OF_A_BYTE > may_take else None)
             process.limit_seconds(budget.seconds)
             with closing(process.blocks(time_to_wait(budget.seconds))) as pieces:
                 summary.take(pieces)
+
+    @contextmanager
+    def _troubles_of(self, summary: Summary, budget: Budget) -> Iterator[None]:
+        """Where a limit is met within it, or the program fails, the summary says so, and keeps what was found before."""
+        may_take, seconds = budget.memory(), budget.limits.seconds
+        try:
+            yield
         except Enough as limit:
             summary.trouble = f'{limit}: the rest of it is not looked at'
         except OutOfMemory:

@@ -7,12 +7,17 @@ from typing import Any, Callable, Dict, Optional, Tuple, TypeVar, Union
 
 from ..records import End
 
-__all__ = ['ODD', 'Call', 'Import', 'Note', 'Pickle', 'Result', 'Verdict', 'from_json', 'to_json']
+__all__ = ['ODD', 'OF_ARGUMENTS', 'OF_OFFSETS', 'OTHER_FORM', 'UNKNOWN', 'Call', 'Import', 'Note', 'Pickle', 'Result', 'Verdict', 'from_json', 'to_json']
 
 # The word of a `Call` that numpy believes, and that no pickler writes.
 ODD = 'odd'
 # The name of what is odd where something calls what it is given, and the arguments are worked out.
 OF_ARGUMENTS = 'arguments'
+# The same where pandas makes an object of a class that a call is given, if the call fails.
+OF_OFFSETS = 'offsets'
+# How the line of a `Verdict` begins about a pickle that no pickler writes so, and what it is where the gate has not answered.
+OTHER_FORM = 'not in form'
+UNKNOWN = 'not known'
 _Record = TypeVar('_Record')
 # Where something is inside a file: the names of members, from the outermost container to the innermost.
 Place = Tuple[str, ...]
@@ -54,7 +59,8 @@ class Call:
 @dataclass(frozen=True)
 class Verdict:
     """What the program's gate says of pickles in a row by a list, which has this digest. Where they pass, the line is empty; else it is the first by
-    which one of them does not, and the places are what is not allowed besides imports that the list has not."""
+    which one of them does not, and the places are what is not allowed besides imports that the list has not. Where nothing is known of that, the line
+    says so, and a note why."""
 
     list: str
     line: str = ''
@@ -65,12 +71,17 @@ class Verdict:
         """Whether all of them do."""
         return not self.line
 
+    @property
+    def is_known(self) -> bool:
+        """Whether the gate has answered."""
+        return self.line != UNKNOWN
+
 
 @dataclass(frozen=True)
 class Pickle:
     """A member (or a whole file) that was read as one pickle or as several in a row.
 
-    `verdicts` are those of the lists that there were, where the pickles are in the form that picklers write.
+    `verdicts` are those of the lists that there were.
     """
 
     where: Place
@@ -107,8 +118,9 @@ class Result:
     and `digest` (SHA-256 of the bytes, where that was asked for) show `--resume` whether the file is still the one that was looked at, and
     `beside` (of what is beside it and read with it) whether that is. `keys` is how many keys of a server this is about (several results may be
     of one server), and 0 where it is about a file. `plain` counts pickles that are values of a store, import and call nothing, and end with STOP:
-    there may be millions, so they are not in `pickles`. `forms` says of what is no pickle how many have which ending.
-    `kinds` are the kinds of containers that readers take the file for. `lists` are the digests of the lists that the gate was asked by.
+    there may be millions, so they are not in `pickles`. `forms` says of what is no pickle how many have which ending, are numbers, or are texts in
+    which a loader would import something. `kinds` are the kinds of containers that readers take the file for. `lists` are the digests of the lists
+    that the gate was asked by.
     """
 
     path: str

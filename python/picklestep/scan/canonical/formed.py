@@ -8,16 +8,15 @@ from __future__ import annotations
 from typing import Optional, Sequence
 
 from ... import library
-from ...errors import OutOfMemory, PicklestepError, TimedOut
+from ...errors import OutOfMemory, PicklestepError, ProgramError, TimedOut
 from ...program import run_program, time_to_wait
-from ...replies import IN_FORM, other_form
-from ...texts import LinesError
+from ...verdicts import other_form
 from ..blobs import Blob, Budget, FileBlob, JoinedBlob, PartMet, spooled
 from .forms import NotCanonical, NotKnown
 
 __all__ = ['BEHIND', 'answer_of_program', 'content_of', 'require_form']
 
-_WORDS = ('form',)
+_WORDS = ('form', '--json')
 # The reason of a pickle that is in the form, with something behind it.
 BEHIND = 'bytes behind STOP'
 # The program takes at most so many bytes of memory for each byte: a small input needs no limit.
@@ -35,11 +34,9 @@ def require_form(blob: Blob, budget: Optional[Budget] = None, begin: int = 0) ->
     answer = None if content is None else library.answer(_WORDS, content)
     if answer is None:
         answer = answer_of_program(_WORDS, blob, budget)
-    if answer == IN_FORM:
-        return
     try:
-        other = other_form(answer.decode('ascii'))
-    except (LinesError, UnicodeDecodeError) as error:
+        other = other_form(answer)
+    except (ProgramError, ValueError) as error:
         raise NotKnown('the program does not say whether it is') from error
     if other is not None:
         offset = blob.offset_of(other.offset) if isinstance(blob, JoinedBlob) else other.offset

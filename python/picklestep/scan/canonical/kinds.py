@@ -8,7 +8,7 @@ from typing import List, Optional
 from ..begins import HEAD
 from ..blobs import Blob
 from ..containers import CONTAINERS, PACKED, Container, kind_by_sign, named, store_of
-from ..unread import kind_of_file, kind_of_short
+from ...unread import kind_of_file, kind_of_short
 
 __all__ = ['asked_form', 'begun_form', 'kinds_of', 'without_ending']
 

@@ -18,7 +18,7 @@ from ..blobs import Blob
 from ..packed import BLOSC_MODULES, LZMA_MEMORY, Blosc, Decompressor, Lz4, Unpacking, Zstd, inflate_gzip, inflate_zlib, module_of, unpack_lzma, unpack_xz
 from .forms import require
 
-__all__ = ['BLOSC', 'BZ2', 'GZIP', 'LZ4', 'LZMA', 'Stream', 'XZ', 'ZFILE', 'ZLIB', 'ZSTD']
+__all__ = ['BLOSC', 'BZ2', 'GZIP', 'LZ4', 'LZ4_CHUNK', 'LZMA', 'Stream', 'XZ', 'ZFILE', 'ZLIB', 'ZSTD']
 
 _FNAME = 8
 _EMPTY = bytes(18)
@@ -196,6 +196,20 @@ def _is_blosc(blob: Blob, head: bytes) -> bool:
     return head[:2] == b'\2\1' and int.from_bytes(head[12:16], 'little') == blob.size and module_of(BLOSC_MODULES) is not None
 
 
+def _is_lz4_chunk(blob: Blob, head: bytes) -> bool:
+    """Whether a chunk of `numcodecs.LZ4` begins so: its size fits what it would unpack to, which is 255 times as large at most, and each step in it."""
+    size, packed = int.from_bytes(head[:4], 'little'), blob.size - 4
+    if not 0 < size <= LZMA_MEMORY or not size <= packed * 255 or not packed <= size + size // 255 + 16:
+        return False
+    from ..lz4_chunks import is_lz4_chunk  # (few bytes come so far)
+    return is_lz4_chunk(blob, size)
+
+
+def _lz4_chunk() -> Decompressor:
+    from ..lz4_chunks import Lz4Chunk
+    return Lz4Chunk()
+
+
 # --- Where they begin, and the sizes in their headers ---
 
 def _start_of_zfile(packed: Blob) -> int:
@@ -221,4 +235,5 @@ ZLIB = Stream(inflate_zlib, _zlib, takes=lambda blob, head: _is_zlib(head), firs
 ZSTD = Stream(Zstd, _zstd, behind_few=rb'\x28\xb5\x2f\xfd')
 LZ4 = Stream(Lz4, _lz4, behind_few=rb'\x04\x22\x4d\x18')
 BLOSC = Stream(Blosc, _blosc, has_several=False, takes=_is_blosc, firsts=frozenset(b'\2'))
+LZ4_CHUNK = Stream(_lz4_chunk, lambda packed: None, has_several=False, takes=_is_lz4_chunk, firsts=frozenset(range(256)), is_weak=True)
 ZFILE = Stream(inflate_zlib, _zfile, _start_of_zfile, _size_of_zfile, is_weak=True)

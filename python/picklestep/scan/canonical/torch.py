@@ -9,7 +9,7 @@ import re
 from typing import Any, Dict, List, NamedTuple, Optional, Sequence, Tuple
 
 from ...hints import OLD_TORCH as MAGIC
-from ...texts_of_calls import persistent_lines, storage_of
+from ...reaches import plainly_in
 from ..blobs import Blob, Budget
 from .forms import Member, require, wrong
 from .pickles import Global, PDict, PList, Pickle, read_pickle
@@ -77,19 +77,21 @@ def storages_of(pickle: Pickle) -> Storages:
     return _storages(pickle, 5)
 
 
-def storages_in(calls: str) -> Optional[Storages]:
-    """The same by what the program says of a pickle in its form, where all persistent ids in it are texts and numbers as torch writes them.
-
-    >>> storages_in("9: persistent ('storage', global 'torch' 'FloatStorage', '0', 'cpu', int 6) as #5\\n1 imports, 0 calls\\n")
-    {'0': (24, 4)}
-    """
+def storages_in(calls: bytes) -> Optional[Storages]:
+    """The same by what the program says of a pickle in its form, where all persistent ids in it are texts and numbers as torch writes them."""
     found: Storages = {}
-    for line in persistent_lines(calls):
-        shown = storage_of(line)
-        if shown is None or not _MODULES.fullmatch(shown.module) or shown.kind not in _ITEMS or shown.items >= 2 ** 48:
+    for fields in plainly_in(calls)[0]:
+        if fields['kind'] != 'persistent':
+            continue
+        parts = fields.get('id')
+        if not isinstance(parts, list) or [part['kind'] for part in parts] != ['text', 'global', 'text', 'text', 'int'] or any('more' in part for part in parts):
             return None
-        size = (shown.items * _ITEMS[shown.kind], _ITEMS[shown.kind])
-        if found.setdefault(shown.key, size) != size:
+        word, kind, key, place, count = parts
+        items, name = count.get('value', -1), kind.get('name')
+        if word.get('value') != 'storage' or not _MODULES.fullmatch(kind.get('module', '')) or name not in _ITEMS or not 0 <= items < 2 ** 48:
+            return None
+        size = (items * _ITEMS[name], _ITEMS[name])
+        if 'value' not in key or 'value' not in place or found.setdefault(key['value'], size) != size:
             return None
     return found
 

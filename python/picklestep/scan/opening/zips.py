@@ -93,7 +93,7 @@ def _with_numbers(looker: Looker, blob: Blob, form: Form, pickle: str, where: Pl
     part, prefix = blob.part(member.offset, member.size), pickle[:-len('data.pkl')] + 'data/'
     try:
         calls = calls_in_form(part, looker.budget)
-        sizes = None if calls is None else torch.storages_in(calls.decode('ascii'))
+        sizes = None if calls is None else torch.storages_in(calls)
         if sizes is not None:
             return tuple(torch.with_numbers(sizes, form.members, prefix)), _AsPickle(lambda blob, budget: Layout(pickles=1), calls)
         read = read_pickle(part, 0, None, looker.budget)

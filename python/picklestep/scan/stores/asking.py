@@ -10,12 +10,13 @@ from __future__ import annotations
 import secrets
 from contextlib import closing
 from dataclasses import replace
-from typing import Iterator, List, Optional, Sequence
+from itertools import takewhile
+from typing import Any, Iterator, List, Optional, Sequence
 
 from ...errors import PicklestepError
 from ...program import Process, time_to_wait
-from ...texts import lines_with_offsets
-from ...texts_of_calls import before_headings, lowered
+from ...reaches import EVENTS, Fields, plainly_in
+from ...texts import renumbered
 from ..blobs import Budget, BytesBlob, Limits, spooled
 from ..reading import Asked, Enough, Summary, calls_words
 from ..walk import stops_at_end
@@ -34,6 +35,8 @@ _MEMORY_OF_A_BYTE = 4096
 
 # Lines with numbers that go on from pickle to pickle in another way than those of objects.
 _COUNTED = ('buffer', 'readonly')
+# Fields that are numbers of objects, beside those that end in `_object`.
+_NUMBERED = ('object', 'callee', 'of')
 
 
 def answers(contents: Sequence[bytes], is_whole: Sequence[bool], budget: Budget, keep_lines: bool = False,
@@ -82,44 +85,67 @@ def _together(contents: Sequence[bytes], budget: Budget, keep_lines: bool, full:
                         return []
         except PicklestepError:
             return []
-    # (Behind a heading a marker does not show how the pickle before it ended.)
-    answer = before_headings(text.decode('ascii', 'replace'))
+    # (Behind a heading a marker does not show how the pickle before it ended. The last line may be cut.)
+    read, signs = plainly_in(bytes(text[:text.rfind(b'\n') + 1])) if text else ([], b'')
+    lines = takewhile(lambda fields: fields['kind'] in EVENTS and 'text' in fields, read)
     sizes = [len(content) for content in contents]
-    return list(_taken_apart(answer, sizes, f"import 'picklestep' '{name}' as #", len(marker), budget, keep_lines))
+    return list(_taken_apart(lines, signs, sizes, name, len(marker), budget, keep_lines))
 
 
-def _taken_apart(answer: str, sizes: Sequence[int], marker: str, width: int, budget: Budget, keep_lines: bool) -> Iterator[Summary]:
+def _taken_apart(lines: Iterator[Fields], signs: bytes, sizes: Sequence[int], marker: str, width: int, budget: Budget,
+                 keep_lines: bool) -> Iterator[Summary]:
     """The answer about each of several pickles, as far as each is followed by its marker."""
-    lines = lines_with_offsets(answer)
     start = objects = 0
     for size in sizes:
-        own: List[str] = []
-        for offset, text in lines:
+        own: List[Fields] = []
+        for fields in lines:
+            offset = int(fields['offset'])
             if offset >= start + size:
-                if offset != start + size or not text.startswith(marker):
+                if offset != start + size or fields['kind'] != 'import' or (fields.get('module'), fields.get('name')) != ('picklestep', marker):
                     return
                 break
-            if text.startswith(_COUNTED):
+            if fields['kind'] in _COUNTED:
                 return
-            own.append(f'{offset - start:5}: {lowered(text, objects)}\n')
+            own.append(_lowered(fields, start, objects))
         else:
             return
-        yield _summary(own, budget, keep_lines)
-        objects = int(text[len(marker):]) + 1
+        yield _summary(own, signs, budget, keep_lines)
+        objects = int(fields['object']) + 1
         start += size + width
 
 
+def _lowered(fields: Fields, start: int, count: int) -> Fields:
+    """A line with the offset and the numbers that it has where so many bytes and objects are not before it.
+
+    >>> _lowered({'kind': 'call', 'offset': 9, 'callee': 3, 'args': [{'kind': 'object', 'object': 4}], 'object': 5, 'text': '    9: call #3 (#4) as #5'}, 2, 3)
+    {'kind': 'call', 'offset': 7, 'callee': 0, 'args': [{'kind': 'object', 'object': 1}], 'object': 2, 'text': '    7: call #0 (#1) as #2'}
+    """
+    if not start:
+        return fields
+    said = renumbered(fields['text'].partition(': ')[2], lambda number: number - count)
+    return {**_moved(fields, count), 'offset': int(fields['offset']) - start, 'text': f'{int(fields["offset"]) - start:5}: {said}'}
+
+
+def _moved(value: Any, count: int, name: str = '') -> Any:
+    if isinstance(value, dict):
+        return {key: _moved(each, count, key) for key, each in value.items()}
+    if isinstance(value, list):
+        return [_moved(each, count) for each in value]
+    return int(value) - count if name in _NUMBERED or name.endswith('_object') else value
+
+
 # The answer about each pickle that imports and calls nothing.
+_NO_MORE: List[Fields] = [{'kind': 'ending', 'how': 'stopped', 'kept': 0, 'text': ''}, {'kind': 'end', 'status': 0}]
 NOTHING = Summary(Budget(Limits()), False)
-NOTHING.take(iter([b'0 imports, 0 calls\n']))
+NOTHING.take_fields(_NO_MORE, b'')
 
 
-def _summary(lines: List[str], budget: Budget, keep_lines: bool) -> Summary:
+def _summary(lines: List[Fields], signs: bytes, budget: Budget, keep_lines: bool) -> Summary:
     if not lines:
         return NOTHING
     summary = Summary(budget, keep_lines)
     try:
-        summary.take(iter([''.join([*lines, '0 imports, 0 calls\n']).encode()]))
+        summary.take_fields([*lines, *_NO_MORE], signs)
     except Enough as limit:
         summary.trouble = f'{limit}: the rest of it is not looked at'
     return summary

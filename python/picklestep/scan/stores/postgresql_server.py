@@ -72,7 +72,8 @@ class PostgresqlServer(SqlServer):
         # (libpq takes a second or less for no limit)
         seconds = max(2, int(min(self.seconds, CONNECT_SECONDS)))
         options = f'-c default_transaction_read_only=on -c statement_timeout={int(self.seconds * 1000)}'
-        return self.library.connect(url, connect_timeout=seconds, options=options, application_name='picklestep-scan')
+        # (of a database of the encoding SQL_ASCII texts would come as bytes, or with ASCII alone)
+        return self.library.connect(url, connect_timeout=seconds, options=options, application_name='picklestep-scan', client_encoding='UTF8')
 
     @contextmanager
     def waiting(self) -> Iterator[None]:

@@ -10,7 +10,7 @@ from typing import Iterator, Set, Tuple
 
 from ..blobs import BytesBlob, LimitMet
 from ..containers import CONTAINERS, MAY_BE_KNOWN, MAY_BE_PACKED, PACKED, ZLIB, kind_of
-from ..unread import kind_of_short
+from ...unread import kind_of_short
 from ..walk import is_opcode, may_begin, stops_at_end, walk
 from .anywhere import BEGINS_PICKLE, candidates, may_end_text, may_have_candidates, may_have_lines
 from .framed import framing_of, may_be_framed

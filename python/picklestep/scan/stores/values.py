@@ -11,11 +11,11 @@ from ..begins import HEAD
 from ..blobs import STEPS, Blob, BytesBlob, JoinedBlob, LimitMet
 from ..canonical.streams import Stream
 from ..containers import MAY_BE_STORE, Container, kind_of, store_of
-from ..costs import heavy_tuple
+from ..costs import cost_of_tuples
 from ..reach import leads_of, may_lead_on
 from ..reading import Summary, is_odd_name, is_plain_name
 from ..results import Pickle, Place
-from ..unread import kind_of_long, kind_of_short
+from ...unread import kind_of_long, kind_of_short
 from ..walk import is_opcode, stops_at_end, walk
 from . import anywhere
 from .asking import MOST_BYTES, MOST_PICKLES, NOTHING, answers
@@ -70,7 +70,7 @@ _STOP = ord('.')
 
 _MOST_OF_KEY = 200
 
-# So many bytes has a pickle at least that takes tuples out of its memo again and again.
+# So many bytes has a pickle at least that takes tuples out of its memo again and again, or has them deep in one another.
 _LEAST_HEAVY = 100
 
 # How what is imported by a number of copyreg is shown.
@@ -608,9 +608,8 @@ class Values:
             self.looker.note(asked[0].where, _with_others(limit, len(asked) - 1), missed=True)
             return
         for each, answer in zip(asked, found):
-            heavy = heavy_tuple(BytesBlob(each.content), self._outer) if answer is not None and len(each.content) >= _LEAST_HEAVY else None
-            if heavy is not None and not each.guessed:
-                self.looker.note_odd(each.where, heavy)
+            if answer is not None and len(each.content) >= _LEAST_HEAVY and not each.guessed:
+                self.looker.note_costs(each.where, BytesBlob(each.content))
             if answer is NOTHING:
                 self.looker.take_plain(each.content, each.where)
                 self._found.add(each.value)

@@ -9,9 +9,10 @@ Source: the list of `file` (archives, packed data, databases, file systems), and
 from __future__ import annotations
 
 import re
-from typing import Dict, Optional
+from typing import TYPE_CHECKING, Dict, Optional
 
-from .blobs import Blob
+if TYPE_CHECKING:
+    from .scan.blobs import Blob
 
 __all__ = ['SURE', 'TAIL', 'kind_by_end', 'kind_of_file', 'kind_of_long', 'kind_of_short']
 

@@ -1,0 +1,50 @@
+"""What codes mean, in plain sentences."""
+
+from __future__ import annotations
+
+from typing import Dict
+
+from .replies import opcode_refused_in
+from .texts import code_of
+
+__all__ = ['PLAIN', 'plainly']
+
+PLAIN: Dict[str, str] = {
+    'C1': 'You are at the start.',
+    'C2': 'You are at the end.',
+    'C4': 'The pickle has no opcode there.',
+    'C5': 'You have already stepped over that opcode: go back first.',
+    'C6': 'Nothing was edited.',
+    'C7': 'Nothing was undone that could be made again.',
+    'C8': 'You have already stepped over that edit: go back first.',
+    'E1': 'The pickle has no such opcodes.',
+    'E2': 'The STOP of a pickle stays.',
+    'E3': 'A FRAME is put around opcodes or taken off, and not edited otherwise.',
+    'E4': 'Nothing can stand behind the last STOP.',
+    'E5': 'The bytes in this frame cannot all be read: edit the opcodes in it.',
+    'E6': 'An opcode there is in a frame already: take that off first.',
+    'S1': 'No mark is open that the opcode could take.',
+    'S2': 'The stack has fewer objects than the opcode takes.',
+    'S3': 'Nothing is stored in the memo under this key.',
+    'S4': 'A key has no value.',
+    'S5': 'The object cannot take such items.',
+    'S6': 'The pickle may come from a later Python.',
+    'S7': 'An extension code has to be above 0.',
+    'S8': 'A module and its member are named by texts.',
+    'S9': 'This object cannot be called.',
+    'S10': 'The arguments of a call are a tuple or a list.',
+    'S11': 'The keywords of a call are a dictionary.',
+}
+
+# What stands before the code of an edit.
+_OF_EDIT = 'C9 '
+
+
+def plainly(text: str) -> str:
+    """A code with its words, and what it means; also behind `refused, `, as a run says it.
+
+    >>> plainly('C2 at the end, stopped'), plainly('M out of memory')
+    ('C2 at the end, stopped (You are at the end.)', 'M out of memory')
+    """
+    meaning = PLAIN.get(code_of(opcode_refused_in(text) or (text[len(_OF_EDIT):] if text.startswith(_OF_EDIT) else text)))
+    return f'{text} ({meaning})' if meaning else text
