@@ -94,7 +94,7 @@ class Page:
         """The value of an expression on the page, which may be a promise."""
         raise NotImplementedError
 
-    def wait(self, text: str, seconds: float = 100) -> Any:
+    def wait(self, text: str, seconds: float = 600) -> Any:
         """Waits until an expression is true, and answers it."""
         deadline = time.monotonic() + seconds
         while True:
@@ -141,7 +141,7 @@ class Browser(Page):
         if self._session is not None:
             message['sessionId'] = self._session
         os.write(self._write, json.dumps(message).encode('ascii') + b'\0')
-        deadline = time.monotonic() + 60
+        deadline = time.monotonic() + 600
         while True:
             told = self._next(deadline)
             if told.get('id') == self._number:

@@ -18,7 +18,7 @@ from scan_support import environment
 __all__ = ['Client', 'Failed', 'framed', 'messages_in']
 
 # So many seconds a message may take.
-_PATIENCE = 120
+_PATIENCE = 600
 
 Fields = Dict[str, Any]
 

@@ -22,7 +22,7 @@ from chromium import BrowserError, Page
 PROGRAM = next((path for path in map(shutil.which, ('firefox-esr', 'firefox')) if path), None)
 KEYS = {'ArrowRight': '\ue014', 'ArrowLeft': '\ue012', 'ArrowDown': '\ue015', 'ArrowUp': '\ue013', 'Home': '\ue011', 'End': '\ue010',
         'PageUp': '\ue00e', 'PageDown': '\ue00f', 'Enter': '\ue007', 'Delete': '\ue017', 'Tab': '\ue004', 'Escape': '\ue00c'}
-_SECONDS = 60
+_SECONDS = 600
 
 
 class _Socket:

@@ -14,7 +14,7 @@ import tempfile
 import time
 import unittest
 from pathlib import Path
-from typing import Any, Dict, List, Optional
+from typing import Any, Callable, Dict, List, Optional
 
 from scan_support import ScanCase, environment
 
@@ -113,14 +113,16 @@ class StoreCase(ScanCase):
         os.chown(self.home, user.pw_uid, user.pw_gid)
         return name
 
-    def wait_for_port(self, port: int) -> None:
-        """Waits until the server answers, two minutes at most, and no longer than it runs."""
-        end = time.monotonic() + 120
+    def wait_for_port(self, port: int, is_ready: Callable[[], bool] = lambda: True) -> None:
+        """Waits until the server answers, ten minutes at most, and no longer than it runs."""
+        end = time.monotonic() + 600
         while True:
             has_ended = self.server.poll() is not None
             try:
                 socket.create_connection(('127.0.0.1', port), 1).close()
-                return
+                if is_ready():
+                    return
+                raise OSError
             except OSError:
                 log = (self.folder / 'server.log').read_text(errors='replace')[-1000:]
                 self.assertFalse(has_ended, f'the server ended: {log}')
@@ -159,23 +161,26 @@ class StoreCase(ScanCase):
         self.wait_for_port(port)
         return port
 
-    def postgresql(self, tls: bool = False) -> int:
+    def postgresql(self, tls: bool = False, encoding: str = 'UTF8') -> int:
         """The port of a PostgreSQL server with a user `tester`, whose password is SECRET. With `tls` it wants that, and has a certificate."""
         port, user = free_port(), self.user_for('postgres')
         given = self.home / 'given'
         given.write_text(SECRET)
         given.chmod(0o644)
         more: Dict[str, Any] = {'user': user, 'group': pwd.getpwnam(user).pw_gid} if user is not None else {}
-        subprocess.run([program('initdb'), '-D', str(self.home / 'data'), '-U', 'tester', '--auth=scram-sha-256', f'--pwfile={given}', '--no-sync'],
+        subprocess.run([program('initdb'), '-D', str(self.home / 'data'), '-U', 'tester', '--auth=scram-sha-256', f'--pwfile={given}', '--no-sync',
+                        '--locale=C', f'--encoding={encoding}'],
                        cwd=self.home, check=True, capture_output=True, **more)
         words: List[str] = []
         if tls:
             self.certify()
             (self.home / 'data' / 'pg_hba.conf').write_text('hostssl all all 127.0.0.1/32 scram-sha-256\n')
             words = ['-c', 'ssl=on', '-c', f'ssl_cert_file={self.home}/server.pem', '-c', f'ssl_key_file={self.home}/server.key']
+        # (it takes connections before it is ready, and refuses them then)
+        asks = [program('pg_isready'), '-q', '-h', '127.0.0.1', '-p', str(port)]
         self.server = self.start([program('postgres'), '-D', str(self.home / 'data'), '-p', str(port), '-h', '127.0.0.1', '-k', str(self.home),
                                   '-F', *words], user, signal.SIGQUIT)
-        self.wait_for_port(port)
+        self.wait_for_port(port, lambda: subprocess.run(asks, check=False).returncode == 0)
         return port
 
     def mysql(self, tls: bool = False) -> int:

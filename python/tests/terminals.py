@@ -17,6 +17,8 @@ from typing import Dict, List
 import picklestep
 
 _PACKAGE = os.path.dirname(os.path.dirname(os.path.abspath(picklestep.__file__)))
+# What is told while something takes long, with what wipes it out.
+_WAITING = re.compile(r'\r\x1b\[K[^\r\n]* \.\. [0-9]+ s \(Ctrl-C ends it\)(?=\r\x1b\[K)')
 _CONTROL = re.compile(r'\x1b\[[0-9;?]*[a-zA-Z]|\x1b[=>]|\r|\x07')
 
 
@@ -66,11 +68,11 @@ class Terminal:
         os.close(slave)
         self.read = ''
 
-    def until(self, *endings: str, seconds: float = 200) -> str:
+    def until(self, *endings: str, seconds: float = 600) -> str:
         """What is shown up to one of these endings, or to the end of the program."""
         deadline = time.monotonic() + seconds
         while True:
-            shown = _CONTROL.sub('', self.read)
+            shown = _CONTROL.sub('', _WAITING.sub('', self.read))
             if shown.endswith(endings):
                 self.read = ''
                 return shown
@@ -84,7 +86,7 @@ class Terminal:
                 return shown
             self.read += block.decode('utf-8', 'replace')
 
-    def raw_until(self, text: str, seconds: float = 200) -> str:
+    def raw_until(self, text: str, seconds: float = 600) -> str:
         """What is shown up to the line that has a text, with all that a terminal obeys."""
         deadline = time.monotonic() + seconds
         while text not in self.read or '\n' not in self.read.rpartition(text)[2]:
@@ -107,7 +109,7 @@ class Terminal:
         """Ends the program where it runs, and answers its status."""
         os.close(self.master)
         try:
-            return self.process.wait(60)
+            return self.process.wait(600)
         except subprocess.TimeoutExpired:
             self.process.kill()
             return self.process.wait()

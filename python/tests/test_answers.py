@@ -2,13 +2,15 @@
 
 from __future__ import annotations
 
+import json
 import unittest
-from typing import Dict, List, Optional
+from typing import Any, Dict, List, Optional
 
 import picklestep
 from picklestep import (Brief, Briefs, Change, End, Extension, Global, Object, Opcode, Reach, Ref)
 from picklestep.answers import Calls
 from picklestep.arguments import encoded
+from picklestep.program import seconds_of_programs
 from pickles import HOSTILE, LIST, Known, disassembled, known_opcodes, real_pickles
 
 # Arguments that the program prints as they are in the file, without their newline.
@@ -395,34 +397,46 @@ class CallLines(unittest.TestCase):
                            (b'NN.' * 1000 + b'0.', True), (b'R', False)):
             for ask in (picklestep.calls, picklestep.objects):
                 with self.subTest(ask.__name__, data=data[-3:]):
-                    self.assertEqual(ask(data, many=many, timeout=60).end, picklestep.listing(data, many=many).end)
+                    self.assertEqual(ask(data, many=many, timeout=600).end, picklestep.listing(data, many=many).end)
 
     def test_two_pickles(self) -> None:
         answer = picklestep.calls(HOSTILE + HOSTILE, many=True)
         self.assertEqual((answer.imports, answer.calls, [reach.offset for reach in answer]), (2, 2, [0, 23, 25, 48]))
 
 
-TELLING = """    0: import 'm' 'n' as #0
-    5: inst 'a' 'b' for 'c' 'd' (none, +3) as #1
-    9: import raw 'os\\xff' 'x' as #2
-   21: call #5 'D' as #6
-   22: append 0 to #0
-begins like a zip archive: picklestep scan looks into it
-2 imports, 3 calls
-refused: item 2: S10 not arguments #1
-a loader may go on:
-   21: call 'm' 'n' string raw 'id\\xff' as #2
-0 imports, 1 calls
-it ends: STOP
-a loader that buffers frames may go on:
-   29: import #1 'n' as #9
-1 imports, 0 calls
-it ends: refused: item 9: S2 stack underflow
-"""
+def told(*lines: Dict[str, Any]) -> bytes:
+    """Lines of `calls --json`, with the last one. Here most have no text."""
+    return b''.join(json.dumps({**line, 'text': line.get('text', '0: ')}, separators=(',', ':')).encode() + b'\n'
+                    for line in (*lines, {'kind': 'end', 'status': 1}))
+
+
+def said(kind: str, offset: int, number: int, text: str = '', **fields: Any) -> Dict[str, Any]:
+    return {'kind': kind, 'offset': offset, **fields, 'object': number, 'text': f'{offset:5}: {text}'}
+
+
+def counts(imports: int, calls: int) -> Dict[str, Any]:
+    return {'kind': 'counts', 'imports': imports, 'calls': calls}
+
+
+STOPPED = {'kind': 'ending', 'how': 'stopped', 'kept': 0}
+FAULT = {'kind': 'ending', 'how': 'fault', 'code': 'F5', 'words': 'bad argument', 'offset': 12, 'of_frame': False}
+UNDER = {'kind': 'heading', 'frames': 'ignored', 'text': 'a loader may go on:'}
+TELLING = told(
+    said('import', 0, 0, "import 'm' 'n' as #0", module='m', name='n'),
+    said('inst', 5, 1, module='a', name='b', for_module='c', for_name='d', args=[{'kind': 'none'}], args_more=3),
+    said('import', 9, 2, module_raw_hex='6f73ff', name='x'),
+    said('call', 21, 6, callee=5, args={'kind': 'text', 'value': 'D'}),
+    said('append', 22, 0, count=0),
+    {'kind': 'begins', 'like': 'a zip archive'}, counts(2, 3),
+    {'kind': 'ending', 'how': 'refused', 'code': 'S10', 'words': 'not arguments', 'object': 1, 'item': 2},
+    UNDER, said('call', 21, 2, module='m', name='n', args={'kind': 'string', 'value_raw_hex': '6964ff'}), counts(0, 1), STOPPED,
+    {'kind': 'heading', 'frames': 'buffered', 'text': 'a loader that buffers frames may go on:'},
+    said('import', 29, 9, module_object=1, name='n'), counts(1, 0),
+    {'kind': 'ending', 'how': 'refused', 'code': 'S2', 'words': 'stack underflow', 'item': 9})
 
 
 class Parts(unittest.TestCase):
-    """What loaders may reach behind an end, in texts that are made here."""
+    """What loaders may reach behind an end, in lines that are made here."""
 
     def test_each_part_has_its_lines_counts_and_end(self) -> None:
         answer = Calls(TELLING, 21)
@@ -449,26 +463,26 @@ class Parts(unittest.TestCase):
         self.assertEqual((answer.end.code, answer.parts), ('F5', ()))
 
     def test_an_end_may_be_unsure(self) -> None:
-        answer = Calls('0 imports, 0 calls\nunsure: U1 frame goes on behind STOP at 10\n')
+        answer = Calls(told(counts(0, 0), {'kind': 'ending', 'how': 'unsure', 'code': 'U1', 'words': 'frame goes on behind STOP', 'offset': 10}))
         self.assertEqual((answer.end, answer.parts), (End('unsure', 'U1', 'U1 frame goes on behind STOP at 10', 10), ()))
 
     def test_kept_bytes_are_no_other_end(self) -> None:
-        answer = Calls('0 imports, 0 calls\nkept: 3 bytes after STOP\n')
+        answer = Calls(told(counts(0, 0), {**STOPPED, 'kept': 3}))
         self.assertEqual((answer.end, answer.kept), (End('stopped'), 3))
 
     def test_a_warning_is_no_end(self) -> None:
         """Each section may have one, behind its last line."""
-        warned = 'warning: #0 leads to the unpickler\n'
-        for closing, end in (('', End('stopped')), ('fault: F5 bad argument at 12\n', End('fault', 'F5', 'F5 bad argument at 12', 12))):
-            answer = Calls(f"    0: import 'gc' 'collect' as #0\n1 imports, 0 calls\n{closing}{warned}")
+        warned = {'kind': 'warning', 'about': 'unpickler', 'object': 0, 'words': 'leads to the unpickler'}
+        for closing, end in ((STOPPED, End('stopped')), (FAULT, End('fault', 'F5', 'F5 bad argument at 12', 12))):
+            answer = Calls(told(said('import', 0, 0, module='gc', name='collect'), counts(1, 0), closing, warned))
             self.assertEqual((len(answer), answer.end, answer.warning), (1, end, '#0 leads to the unpickler'))
-        under = "a loader may go on:\n   16: import 'os' 'x' as #1\n1 imports, 0 calls\nit ends: STOP\n"
-        answer = Calls(f'0 imports, 0 calls\nfault: F5 bad argument at 12\n{under}{warned}')
+        under = UNDER, said('import', 16, 1, module='os', name='x'), counts(1, 0), STOPPED
+        answer = Calls(told(counts(0, 0), FAULT, *under, warned))
         self.assertEqual((answer.warning, answer.parts[0].warning, answer.parts[0].end), (None, '#0 leads to the unpickler', End('stopped')))
-        self.assertIsNone(Calls(f'1 imports, 0 calls\nfault: F5 bad argument at 12\n{warned}{under}').parts[0].warning)
+        self.assertIsNone(Calls(told(counts(1, 0), FAULT, warned, *under)).parts[0].warning)
 
     def test_a_text_is_no_heading(self) -> None:
-        answer = Calls("    0: persistent 'a loader may go on:\\x0a0 imports' as #0\n0 imports, 0 calls\n")
+        answer = Calls(told(said('persistent', 0, 0, line='\n{"kind":"heading"\n{"kind":"counts"'), counts(0, 0), STOPPED))
         self.assertEqual((len(answer), answer.parts), (1, ()))
 
     def test_readings_are_asked_one_at_a_time(self) -> None:
@@ -481,7 +495,9 @@ class Parts(unittest.TestCase):
         for argument in (b'V%s\n', b"S'%s'\n", b'L%sL\n', b'F%s\n', b'I%s\n', b'P%s\n', b'(i%s\nx\n'):
             content = b'(' + argument % line + b'tq\0cm\nn\nq\1' + b'h\1h\0R0' * 10_000 + b'N.'
             with self.subTest(argument):
-                self.assertEqual(sum(reach.text.startswith("call 'm' 'n' (") for reach in picklestep.calls(content, timeout=5)), 10_000)
+                before = seconds_of_programs()
+                self.assertEqual(sum(reach.text.startswith("call 'm' 'n' (") for reach in picklestep.calls(content, timeout=600)), 10_000)
+                self.assertLess(seconds_of_programs() - before, 5)
 
     def test_arguments_in_full(self) -> None:
         content = b'cm\nn\n(' + b'X' + (70).to_bytes(4, 'little') + b'a' * 70 + b'N' * 17 + b'tR.'

@@ -6,14 +6,15 @@ from __future__ import annotations
 
 import re
 import unittest
-from typing import Dict, Iterator, List, NamedTuple, Optional, Sequence, Tuple
+from dataclasses import replace
+from typing import Dict, Iterator, List, NamedTuple, Optional, Sequence, Tuple, Union
 
 import picklestep
 from picklestep import End
 from picklestep.answers import Calls, Listing, Objects, Reached
-from picklestep.texts import (ITEMS, OBJECTS, OPCODES, SHOWN, begins_with_offset, behind_word, closing_of, container_in, left_in, lines_with_offsets,
-                              results_in, without_left)
-from picklestep.texts_of_calls import REACH, before_headings, counts_in, headings_in
+from picklestep.tasks import Asked, modes
+from picklestep.texts import ITEMS, OBJECTS, SHOWN, begins_with_offset, closing_of, results_in
+from json_texts import listed
 from pickles import ROOT, real_pickles
 
 _NUMBER = '(?:0|[1-9][0-9]*)'
@@ -48,7 +49,7 @@ _FORMS: Dict[str, Dict[str, str]] = {
               'B': f'begins like an? (?P<container>{_NAMES}): picklestep scan looks into it',
               'U': f'unsure: (?P<unsure>(?:U1 frame goes on behind STOP|U2 rest of a frame is lost) at (?P<offset>{_NUMBER}))',
               'M': f'unsure: (?P<mixed>U3 frames may be mixed at (?P<offset>{_NUMBER}))',
-              'W': f'warning: (?P<warning>#{_NUMBER} leads to the unpickler)',
+              'W': f'warning: (?P<warning>#{_NUMBER} (?:leads to the unpickler|is a tuple nested deeper than 100))',
               'H': f'(?P<heading>(?:{_READINGS}) may go on):',
               'E': f'it ends: (?:STOP|{_REFUSED_ITEM["R"]}|{_FAULT_LINE["F"]})'}}
 # In which order they stand. A text that is refused for bytes to leave out, which are not there, is that line alone.
@@ -57,7 +58,8 @@ _OUTSIDE = re.compile(f'refused: (?P<words>hole {_NUMBER}:{_NUMBER} ends behind 
 _PATTERNS = {what: {letter: re.compile(form) for letter, form in forms.items()} for what, forms in _FORMS.items()}
 
 # The patterns of lines that are none of these.
-_TAKEN = [OPCODES.pattern, OBJECTS.pattern, ITEMS.pattern, SHOWN.pattern, REACH]
+_TAKEN = [OBJECTS.pattern, ITEMS.pattern, SHOWN.pattern]
+Text = Union[str, Calls]
 
 
 class Form(NamedTuple):
@@ -72,29 +74,39 @@ class Form(NamedTuple):
         return int(self.said[word] or '')
 
 
-def rows() -> Iterator[Tuple[str, str]]:
-    """The texts of the rows that are tried from outside, each with its command."""
+def rows() -> Iterator[Tuple[str, Text]]:
+    """The texts of the rows that are tried from outside, each with its command; of `calls` the answers about their pickles."""
     for name in ('texts.txt', 'calls.txt', 'conversations.txt'):
         text = (ROOT / 'equipment' / name).read_text('ascii')
-        for row in re.finditer(r'^(list|calls)(?: [0-9a-f]+)*: (.*\n)', text, re.MULTILINE):
+        for row in re.finditer(r'^(list)(?: [0-9a-f]+)*: (.*\n)', text, re.MULTILINE):
             yield row[1], row[2]
         for block in re.split('\n\n', text):
-            for match in re.finditer(r'^\$ (list|objects|calls)(?!.* --json)(?: .*)?\n((?!\$ |debug> |saved ).*\n?)*', block + '\n', re.MULTILINE):
+            for match in re.finditer(r'^\$ (list|objects)(?!.* --json)(?: .*)?\n((?!\$ |debug> |saved ).*\n?)*', block + '\n', re.MULTILINE):
                 lines = match[0].rstrip('\n').split('\n')[1:]
                 yield match[1], ''.join(f'{line}\n' for line in lines)
+        for digits in re.findall(r'^pickle ([0-9a-f ]+)$', text, re.MULTILINE):
+            content = bytes.fromhex(digits)
+            yield from (('calls', picklestep.calls(content, first=first)) for first in (False, True))
+            yield 'calls', picklestep.calls(content, memo_kept=True)
+    yield 'calls', picklestep.calls(b'N.', skip=[(1, 9)])
 
 
-def answers() -> Iterator[Tuple[str, str]]:
+def answers() -> Iterator[Tuple[str, Text]]:
     """The program's texts of the real pickles, whole, cut off, and with bytes behind them; and where numbers have several digits."""
     made = b'N' * 12 + b'(' * 123 + b'N.' + b'N' * 1000
-    yield from (('list', picklestep.listing(made).text), ('objects', picklestep.objects(made).text), ('calls', picklestep.calls(made, first=True).text))
+    yield from (('list', _printed(made, False)), ('objects', picklestep.objects(made).text), ('calls', picklestep.calls(made, first=True)))
     for data in real_pickles().values():
         for content in (data, data[:len(data) // 2], data + data[:-1], b'R' + data):
             for many in (False, True):
-                yield 'list', picklestep.listing(content, many=many).text
+                yield 'list', _printed(content, many)
                 yield 'objects', picklestep.objects(content, many=many).text
-                yield 'calls', picklestep.calls(content, first=not many).text
-            yield 'calls', picklestep.calls(content, memo_kept=True).text
+                yield 'calls', picklestep.calls(content, first=not many)
+            yield 'calls', picklestep.calls(content, memo_kept=True)
+
+
+def _printed(content: bytes, many: bool) -> str:
+    with Asked(content, None, None) as asked:
+        return asked.answer(['list', *modes(many)])
 
 
 def forms_of(what: str, text: str) -> List[Form]:
@@ -130,39 +142,37 @@ def number_in(forms: Sequence[Form], letter: str, word: str) -> Optional[int]:
 class ClosingLines(unittest.TestCase):
     """What is read of a line is what it says."""
 
-    def check(self, what: str, text: str) -> str:
-        """Checks a text, and answers the letters of its closing lines."""
+    def check(self, what: str, answer: Text) -> str:
+        """Checks a text or the answer that has it, and answers the letters of its closing lines."""
+        text = answer if isinstance(answer, str) else answer.text
         outside = _OUTSIDE.fullmatch(text)
-        if outside:
-            self.assertEqual((what, Calls(text).end, [*Calls(text)]), ('calls', End('refused', text=outside['words']), []))
+        if outside and isinstance(answer, Calls):
+            self.assertEqual((answer.end, [*answer], answer.imports), (End('refused', text=outside['words']), [], 0))
             return ''
         forms = forms_of(what, text)
         self.assertRegex(''.join(form.letter for form in forms), f'^{_ORDERS[what]}$')
         for form in forms:
             if form.letter == 'o':
-                self.assertEqual((closing_of([form.line]), headings_in(form.line + '\n')), ({}, []))
+                self.assertEqual(closing_of([form.line]), {})
             else:
                 self.assertFalse(begins_with_offset(form.line))
                 self.assertEqual([pattern for pattern in _TAKEN if pattern.search(form.line)], [])
-        {'list': self.check_list, 'objects': self.check_objects, 'calls': self.check_calls}[what](text, forms)
+        if isinstance(answer, Calls):
+            self.check_calls(answer, forms)
+        else:
+            {'list': self.check_list, 'objects': self.check_objects}[what](text, forms)
         return ''.join(form.letter for form in forms if form.letter != 'o')
 
     def check_list(self, text: str, forms: List[Form]) -> None:
-        answer, opcodes = Listing(text), [form.line for form in forms if form.letter == 'o']
+        answer, opcodes = Listing(listed(text)), [form.line for form in forms if form.letter == 'o']
         last = int(opcodes[-1].split(':')[0]) if opcodes else None
         self.assertEqual([opcode.offset for opcode in answer], [int(line.split(':')[0]) for line in opcodes])
         self.assertEqual(answer.end, end_in(forms, (last, len(opcodes) - 1)))
+        self.assertEqual(answer.text, text)
         self.assertEqual(answer.protocol, number_in(forms, 'P', 'protocol'))
         self.assertEqual(answer.kept, number_in(forms, 'K', 'kept') or 0)
         left = [(form.number('objects'), form.number('marks')) for form in forms if form.letter == 'L']
-        self.assertEqual((answer.left, left_in(text)), (left, left))
-        others = ''.join(f'{form.line}\n' for form in forms if form.letter != 'L').encode('ascii')
-        self.assertEqual(without_left(text.encode('ascii')), others if left else None)
-        lines = [form.line for form in forms if form.letter != 'o']
-        for form in forms:
-            if form.letter in 'KFRL':
-                word, _, words = form.line.partition(': ')
-                self.assertTrue(form.letter == 'L' or behind_word(lines, word) == words)
+        self.assertEqual(answer.left, left)
 
     def check_objects(self, text: str, forms: List[Form]) -> None:
         answer, objects = Objects(text), [form.line for form in forms if form.letter == 'o']
@@ -171,16 +181,14 @@ class ClosingLines(unittest.TestCase):
         results = tuple(form.number('result') for form in forms if form.letter == 'T')
         self.assertEqual((answer.results, results_in(text, 0)), (results, results))
 
-    def check_calls(self, text: str, forms: List[Form]) -> None:
+    def check_calls(self, answer: Calls, forms: List[Form]) -> None:
         begins = [at for at, form in enumerate(forms) if form.letter == 'H']
         strict, parts = forms[:begins[0] if begins else None], [forms[at:end] for at, end in zip(begins, [*begins[1:], len(forms)])]
-        answer = Calls(text)
         self.check_part(answer, strict)
-        self.assertEqual(before_headings(text), ''.join(f'{form.line}\n' for form in strict))
         self.assertEqual(answer.kept, number_in(strict, 'K', 'kept') or 0)
         container = [form.said['container'] for form in forms if form.letter == 'B']
-        self.assertEqual([answer.container, container_in(text, 0, len(text))], 2 * (container or [None]))
-        self.assertEqual([heading.words for heading in headings_in(text)], [part[0].said['heading'] for part in parts])
+        self.assertEqual([answer.container], container or [None])
+        self.assertEqual([answer.mixed], [form.said['mixed'] for form in forms if form.letter == 'M'] or [None])
         self.assertEqual([part.heading for part in answer.parts], [part[0].said['heading'] for part in parts])
         for part, wanted in zip(answer.parts, parts):
             self.check_part(part, wanted)
@@ -188,27 +196,26 @@ class ClosingLines(unittest.TestCase):
     def check_part(self, answer: Reached, forms: Sequence[Form]) -> None:
         events = [form.line.lstrip() for form in forms if form.letter == 'o']
         self.assertEqual([f'{reach.offset}: {reach.text}' for reach in answer], events)
-        lines = ''.join(f'{form.line}\n' for form in forms)
-        self.assertEqual([f'{offset}: {line}' for offset, line in lines_with_offsets(lines)], events)
         totals = number_in(forms, 'T', 'imports'), number_in(forms, 'T', 'calls')
-        self.assertEqual(((answer.imports, answer.calls), counts_in(lines, 0, len(lines))), (totals, totals))
-        self.assertEqual(answer.end, end_in(forms))
+        self.assertEqual((answer.imports, answer.calls), totals)
+        self.assertEqual(replace(answer.end, offset=None if answer.end.how == 'refused' else answer.end.offset), end_in(forms))
         self.assertEqual([answer.warning], [form.said['warning'] for form in forms if form.letter == 'W'] or [None])
 
     def test_rows(self) -> None:
         """There is each form in them, and of each refusal and fault a line."""
         found, texts = set(), ''
-        for what, text in rows():
+        for what, answer in rows():
+            text = answer if isinstance(answer, str) else answer.text
             with self.subTest(text):
-                found |= {(what, letter) for letter in self.check(what, text)}
+                found |= {(what, letter) for letter in self.check(what, answer)}
                 texts += text
         self.assertEqual({(what, letter) for what, forms in _FORMS.items() for letter in forms if letter != 'o'} - found, set())
         self.assertEqual([words for words in (*_REFUSALS.values(), *_FAULTS.values()) if not re.search(words, texts)], ['out of memory'])
 
     def test_real_pickles(self) -> None:
-        for what, text in answers():
-            with self.subTest(text[:200]):
-                self.check(what, text)
+        for what, answer in answers():
+            with self.subTest(str(answer)[:200]):
+                self.check(what, answer)
 
     def test_containers(self) -> None:
         """The program's line of each row of its table."""
@@ -216,7 +223,7 @@ class ClosingLines(unittest.TestCase):
         for offset, signs, name in _CONTAINERS:
             with self.subTest(name):
                 answer = picklestep.calls(bytes(offset) + signs)
-                self.check('calls', answer.text)
+                self.check('calls', answer)
                 self.assertEqual(answer.container, name)
 
 

@@ -507,6 +507,9 @@ class Diff(unittest.TestCase):
                          ['highest protocol among opcodes: 2 -> 4', 'opcode at 0: PROTO 2 -> 4', '+ opcode at 2: FRAME 6', '- opcode at 3: BINPUT 0', '+ opcode at 12: MEMOIZE'])
         self.assertEqual(self.diff(of[1], of[2]), [])
         self.assertEqual(self.diff(b'X\x01\0\0\0a.', b'X\x01\0\0\0b.', '--opcodes'), ["result: 'a' -> 'b'", "opcode at 0: BINUNICODE 'a' -> 'b'"])
+        for old, new, told in ((b'I5\n.', b'I 5\n.', "INT b'5' -> b' 5'"), (b'F1.5\n.', b'F1.50\n.', "FLOAT b'1.5' -> b'1.50'"),
+                               (b"S'a'\n.", b'S"a"\n.', """STRING b"'a'" -> b'"a"'""")):
+            self.assertEqual(self.diff(old, new, '--opcodes')[-1:], [f'opcode at 0: {told}'])
         self.assertEqual(self.diff(b'cos\ngetcwd\n0N.', b'N.', '--opcodes')[1:], ["- opcode at 0: GLOBAL 'os' 'getcwd'", '- opcode at 11: POP'])
         self.assertEqual(self.diff(b'N.N.', b'N.N.', '--opcodes', '--many'), [])
 

@@ -1,17 +1,12 @@
-"""The examples of docs/PYTHON.md, of the docstrings, and of some words in docs/USING.md."""
+"""The examples of docs/reference/python.md and check.md, and of the docstrings."""
 
 from __future__ import annotations
 
-import datetime
 import doctest
 import importlib
 import inspect
 import os
-import pickle
 import pkgutil
-import re
-import subprocess
-import sys
 import tempfile
 import unittest
 from functools import cached_property
@@ -19,9 +14,7 @@ from pathlib import Path
 from types import FunctionType
 
 import picklestep
-from examples_of_using import blocks
 from pickles import ROOT
-from scan_support import HOSTILE, environment
 
 # (each of these has tests of its own, and words that may need other packages)
 _APART = ('picklestep.scan', 'picklestep.view', 'picklestep.__main__')
@@ -37,29 +30,10 @@ class Examples(unittest.TestCase):
         os.chdir(folder.name)
 
     def test_docs(self) -> None:
-        results = doctest.testfile(str(ROOT / 'docs' / 'PYTHON.md'), module_relative=False, encoding='utf-8')
-        self.assertEqual(results.failed, 0)
-        self.assertGreater(results.attempted, 20)
-
-    def test_readme(self) -> None:
-        text = (ROOT / 'README.md').read_text(encoding='utf-8').partition('## From Python')[2].partition('\n## ')[0]
-        test = doctest.DocTestParser().get_doctest(text, {}, 'README.md', 'README.md', 0)
-        self.assertEqual(doctest.DocTestRunner().run(test), doctest.TestResults(0, 3))
-
-    def test_words_of_using(self) -> None:
-        """The commands of these words, in a folder with the files that they name."""
-        Path('hostile.pickle').write_bytes(HOSTILE)
-        for name, day, jobs in (('a', 26, [1, 2]), ('b', 27, [1, 2, 3])):
-            Path(f'{name}.pickle').write_bytes(pickle.dumps({'due': datetime.date(2026, 11, day), 'jobs': jobs}, 4))
-        for word in ('source', 'diff'):
-            shown = ''.join(f'{line}\n' for block in blocks(word) for line in block)
-            found = re.findall(r'^\$ picklestep (.*)\n((?:[^$].*\n)*)', shown, re.MULTILINE)
-            self.assertTrue(found, word)
-            for words, wanted in found:
-                with self.subTest(words):
-                    command = [sys.executable, '-m', 'picklestep', *words.split()]
-                    run = subprocess.run(command, env=environment(), capture_output=True, text=True, timeout=300, check=False)
-                    self.assertEqual((run.stdout, run.stderr), (wanted, ''))
+        for name, least in (('python', 20), ('check', 3)):
+            results = doctest.testfile(str(ROOT / 'docs' / 'reference' / f'{name}.md'), module_relative=False, encoding='utf-8')
+            self.assertEqual(results.failed, 0, name)
+            self.assertGreater(results.attempted, least, name)
 
     def test_docstrings(self) -> None:
         for found in pkgutil.walk_packages(picklestep.__path__, 'picklestep.'):

@@ -98,7 +98,7 @@ class Zarr(ScanCase):
             self.skipTest('zarr is not installed')
         code = ('import sys, numpy, zarr, numcodecs; zarr.array(numpy.array([1, "a", None], dtype=object), object_codec=numcodecs.Pickle(), store=sys.argv[1]); '
                 'zarr.array(numpy.arange(3.0), store=sys.argv[2])')
-        subprocess.run([python, '-c', code, str(self.folder / 'told'), str(self.folder / 'plain')], check=True, timeout=120)
+        subprocess.run([python, '-c', code, str(self.folder / 'told'), str(self.folder / 'plain')], check=True, timeout=600)
         for name, status in (('told', 3), ('plain', 0)):
             run = self.scan('--brief', name)
             self.assertEqual(run.returncode, status, run.stdout)
@@ -116,7 +116,7 @@ class WholeNumbers(ScanCase):
         code = ('import sys, h5py, numpy\nfor kind in ("i1", "u2", "i4", "u4", "i8", "u8", ">i8", "plain"):\n content = bytes.fromhex(sys.argv[2])\n'
                 ' content += bytes(-len(content) % 8)\n with h5py.File(sys.argv[1] + "/" + kind.strip(">") + str(len(kind)) + ".h5", "w") as file:\n'
                 '  file["a"] = numpy.arange(50) if kind == "plain" else numpy.frombuffer(content, dtype=kind)')
-        subprocess.run([python, '-c', code, str(self.folder), HOSTILE.hex()], check=True, timeout=120)
+        subprocess.run([python, '-c', code, str(self.folder), HOSTILE.hex()], check=True, timeout=600)
         files = sorted(self.folder.glob('*.h5'))
         self.assertEqual(len(files), 8)
         for file in files:

@@ -6,6 +6,7 @@ import importlib
 import os
 import re
 import shutil
+import signal
 import subprocess
 import sys
 import tempfile
@@ -18,9 +19,10 @@ import picklestep
 from picklestep.place import find_program, is_module, on_path
 from pickles import ROOT, chosen
 from scan_support import HARMLESS, HOSTILE, PYTHON, ScanCase, environment
+from terminals import heed_ctrl_c
 
 PACKAGE = Path(picklestep.__file__).resolve().parent
-WORDS = ('list', 'objects', 'calls', 'form', 'gate', 'reach', 'members', 'debug', 'scan', 'view', 'shell', 'dap', 'source', 'diff', 'mend')
+WORDS = ('list', 'objects', 'calls', 'form', 'gate', 'reach', 'members', 'debug', 'scan', 'view', 'shell', 'dap', 'source', 'size', 'diff', 'mend', 'rename', 'convert', 'optimize')
 # A file for each module of the standard library says in this file that it was imported.
 MARK = "open(__file__.rpartition('/')[0] + '/imported', 'a').write(__name__ + '\\n')\nraise ImportError('this folder is not searched')\n"
 
@@ -127,7 +129,7 @@ class Words(EntranceCase):
         shutil.copytree(ROOT / 'python' / 'picklestep', self.folder / 'copy' / 'picklestep', ignore=shutil.ignore_patterns('__pycache__', 'bin'))
         for folder, of in ((ROOT / 'python', f' (commit {commit})'), (self.folder / 'copy', '')):
             words = [sys.executable, '-I', '-B', str(folder / 'picklestep' / 'entrance.py'), '--version']
-            run = subprocess.run(words, env={**os.environ, 'PICKLESTEP_PROGRAM': find_program()}, capture_output=True, text=True, timeout=60)
+            run = subprocess.run(words, env={**os.environ, 'PICKLESTEP_PROGRAM': find_program()}, capture_output=True, text=True, timeout=600)
             self.assertEqual(run.stdout.partition('\n')[0], f'picklestep {picklestep.__version__}{of}', run.stderr)
 
     def test_what_is_public(self) -> None:
@@ -238,6 +240,19 @@ class Streams(EntranceCase):
                 for words in ('source /dev/stdin', 'mend /dev/fd/0', 'diff a.pkl /dev/stdin'):
                     unread = f'picklestep: cannot read {words.split()[-1]}: Bad file descriptor\n'
                     self.assertEqual(self.in_shell(way, f'{words} <&-'), (2, '', unread), words)
+
+    def test_an_interrupted_word(self) -> None:
+        """Ctrl-C while a word waits for what it reads ends it without a traceback."""
+        for words in (['diff', 'a.pkl', 'pipe'], ['source', 'pipe'], ['mend', 'pipe']):
+            with self.subTest(words):
+                os.mkfifo(self.folder / 'pipe')
+                with subprocess.Popen([*ways()['-m'], *words], cwd=self.folder, env=environment(), stdin=subprocess.DEVNULL, stdout=subprocess.DEVNULL,
+                                      stderr=subprocess.PIPE, text=True, preexec_fn=heed_ctrl_c, start_new_session=True) as run:
+                    assert run.stderr is not None
+                    with open(self.folder / 'pipe', 'wb'):  # (this waits until the word reads)
+                        os.killpg(run.pid, signal.SIGINT)
+                        self.assertEqual((run.wait(300), run.stderr.read()), (130, 'picklestep: interrupted\n'))
+                os.unlink(self.folder / 'pipe')
 
 
 class HostileFolders(EntranceCase):

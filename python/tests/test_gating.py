@@ -73,9 +73,9 @@ GIVEN: Tuple[Tuple[object, str], ...] = (
     ('', 'text short any'), ('a', "text short any 'a'"), ('latin1', "text 'latin1' short"), ('x' * 65, 'text any'), ('3/4', 'fraction text'), ('-12', 'fraction text'),
     ('1/2/3', 'text'), ('1/', 'text'), (b'', 'bytes'), (b'ab', 'bytes short any'), (b'y' * 65, 'bytes'), (0, 'number small 0 any'), (3, 'number small 3'),
     (-5, 'number small -5'), (999999, 'small'), (-999999, 'small'), (1000000, 'number'), (2 ** 31, 'number'), (2 ** 70, 'number'), (1.5, 'number any'), (True, 'bool number'),
-    (False, 'bool'), (None, 'none any'), ([], 'held any'), ([1], 'held'), ((), 'held'), ((1, 2), 'held any'), ({}, 'held'), (collections.OrderedDict, f'class any {NAME}'),
+    (False, 'bool'), (None, 'none any'), ([], 'held any listed'), ([1], 'held listed'), ((), 'held'), ((1, 2), 'held any listed'), ({}, 'listed held'), (collections.OrderedDict, f'class any {NAME}'),
     (fractions.Fraction, 'class fractions.Fraction any'), (range(5), 'any held'), (collections.OrderedDict(), 'held any'))
-WORDS = ('text', 'short', 'fraction', 'bytes', 'number', 'small', 'bool', 'none', 'held', 'class', 'any', "'a'", "'latin1'", '0', '3', '-5', NAME, 'fractions.Fraction')
+WORDS = ('text', 'short', 'fraction', 'bytes', 'number', 'small', 'bool', 'none', 'held', 'listed', 'class', 'any', "'a'", "'latin1'", '0', '3', '-5', NAME, 'fractions.Fraction')
 
 
 def archive(members: Dict[str, bytes], method: int = zipfile.ZIP_STORED) -> bytes:
@@ -232,7 +232,7 @@ class Answers(unittest.TestCase):
             for lines in ([], ['**'], ['*.*: call made', 'collections.*']):
                 with self.subTest(content[:40], lines=lines):
                     here = picklestep.gate(content, names=lines)
-                    self.assertEqual(picklestep.gate(content, names=lines, timeout=60), here)
+                    self.assertEqual(picklestep.gate(content, names=lines, timeout=600), here)
 
     def test_large(self) -> None:
         values = [collections.OrderedDict(a=number) for number in range(9000)]
@@ -256,7 +256,7 @@ class Archives(ScanCase):
         self.assertEqual(answer.line, f"'it\\'s/\\xc3\\xa9': {picklestep.gate(HOSTILE, names=[NAME]).line}")
         self.assertTrue(picklestep.gate(path, names=[NAME, 'posix.system']))
         self.assertEqual(picklestep.gate(path.read_bytes(), names=[NAME]), answer)
-        self.assertEqual(picklestep.gate(path, names=[NAME], timeout=60), answer)
+        self.assertEqual(picklestep.gate(path, names=[NAME], timeout=600), answer)
         self.assertTrue(picklestep.gate(f'{path} > a.pkl', names=[NAME]))
 
     def test_what_does_not_pass(self) -> None:
@@ -274,6 +274,34 @@ class Archives(ScanCase):
         ):
             answer = picklestep.gate(content, names=['**'])
             self.assertEqual((answer.passes, answer.kind, answer.member, answer.offset, answer.reason), (False, kind, member, offset, reason))
+
+    def test_a_name_that_a_loader_answers(self) -> None:
+        """torch's `find_class` has an answer for the name of a storage, whatever its module is called: this loader goes on where CPython's end."""
+        asked: List[str] = []
+
+        class Loader(pickle.Unpickler):
+            def find_class(self, module: str, name: str) -> Any:
+                if type(name) is str and 'Storage' in name:
+                    try:
+                        return {'FloatStorage': float, 'LongStorage': int}[name]
+                    except KeyError:
+                        pass
+                asked.append(f'{module}.{name}')
+                return str if module == 'posix' else super().find_class(module, name)
+
+        for begin in (b'c a\nFloatStorage\n0', b'c1,2\nLongStorage\n0', b'U\x02 aU\x0cFloatStorage\x930'):
+            with self.subTest(begin):
+                asked.clear()
+                content = begin + HOSTILE
+                Loader(io.BytesIO(content)).load()
+                self.assertEqual(asked, ['posix.system'])
+                self.assertTrue(picklestep.reach(content))
+                answer = picklestep.gate(archive({'a/data.pkl': content}), allow=['torch'])
+                self.assertEqual((answer.passes, answer.member, answer.kind), (False, 'a/data.pkl', 'other form'), answer.line)
+        asked.clear()
+        with self.assertRaises(ImportError):  # (a name that torch does not know is imported, and no module has this one)
+            Loader(io.BytesIO(b'c a\nNoStorage\n0' + HOSTILE)).load()
+        self.assertEqual(asked, [' a.NoStorage'])
 
     def test_arrays(self) -> None:
         """numpy loads a pickle behind the header of an array of objects."""
@@ -317,7 +345,7 @@ class Checked(ScanCase):
             with unittest.mock.patch.object(passing, '_ask', return_value=answer):
                 self.assertEqual(self.refused(ORDERED, names=[NAME], loader=loader), [f'pickle: state {NAME}, first at 7: state #3 to #2'])
             with unittest.mock.patch.object(passing, '_refused', return_value=iter(())), unittest.mock.patch.object(passing, '_ask', return_value=answer):
-                self.assertEqual(self.refused(ORDERED, names=[NAME], loader=loader), ['pickle: gate, first at 0: 7: not allowed: state #3 to #2'])
+                self.assertEqual(self.refused(ORDERED, names=[NAME], loader=loader), ['pickle: no list lets it pass: 7: not allowed: state #3 to #2'])
         for error, said in ((PartMet('it takes too long'), 'it takes too long'), (picklestep.ProgramError('no answer'), 'no answer')):
             with unittest.mock.patch.object(passing, '_ask', side_effect=error):
                 self.assertEqual(self.refused(ORDERED, names=[NAME]), [f'pickle: whether it passes a list is not known: {said}'])
@@ -398,13 +426,13 @@ class Scanned(ScanCase):
         with self.assertRaisesRegex(picklestep.NotAllowed, 'bytes of arrays stand between its opcodes'):
             picklestep.check(path, allow=['joblib'], loader='pickle')
 
-    def test_an_instance_of_python_2_goes_by_its_class(self) -> None:
+    def test_an_instance_of_python_2_passes_no_list(self) -> None:
         path = self.file('a.pkl', b'(iapp\nJob\np0\n(dp1\nb.')
         self.assertIsNone(picklestep.form(path))
         self.assertFalse(picklestep.gate(path, names=['**']))
-        for line, is_marked in (('app.Job', False), ('app.Job: call', False), ('app.Job: call(text)', True), ('app.Job: new', True), ('app.Job: call made', True)):
-            self.assertEqual(bool(self.texts(path, line)), is_marked, line)
-        with self.assertRaisesRegex(picklestep.NotAllowed, 'no list lets it pass'):
+        for line in ('app.Job', 'app.Job: call', 'app.Job: call(text)', '**'):
+            self.assertEqual(self.texts(path, line), ["inst app.Job once, first at 1: inst 'app' 'Job' () as #0"], line)
+        with self.assertRaisesRegex(picklestep.NotAllowed, "inst 'app' 'Job'"):
             picklestep.check(path, names=['app.Job'])
 
     def test_each_place_is_told(self) -> None:

@@ -128,7 +128,7 @@ REACHING: Dict[str, bytes] = {
     # its file: three bytes are skipped, so what is in a BINBYTES is read as opcodes
     'file': b'\x80\x04cos\nlseek\nK\x03K\x03K\x01\x87R0C\x10cos\ngetpid\n)R0N.0N.',
 }
-# The names of the list in docs/LOADERS.md, and what others call the same.
+# The names of the list in docs/why/loaders.md, and what others call the same.
 NAMES_THAT_REACH = (
     'pickle._Unpickler pickle._Unpickler.dispatch pickle._Unframer pickle._Unframer.load_frame pickle.Unpickler pickle.Unpickler.load _pickle.Unpickler '
     '_pickle.UnpicklerMemoProxy _pickle.load _pickle.loads joblib.numpy_pickle.NumpyUnpickler joblib.numpy_pickle.NumpyUnpickler.dispatch '
@@ -202,7 +202,9 @@ class Hostile(ScanCase):
             self.assertTrue(result.pickles[0].imports[0].member.startswith('Outer.'))
             self.assertEqual(from_json(json.loads(json.dumps(to_json(result)))), result)
             self.assertEqual(list(Judge().looks(result)), [])
-            self.assertEqual(list(Judge(Names([f'{__name__}.Outer.*', f'{__name__}.Outer.*.*'])).looks(result)), [])
+            judge = Judge(Names([f"{__name__}.Outer.*", f"{__name__}.Outer.*.*"]))
+            allowed = look_at_bytes("a.pkl", pickle.dumps(value, 4), Options(lists=judge.lists()))
+            self.assertEqual(list(judge.looks(allowed)), [])
         for name in ('PIL.Image.Image', 'datetime.datetime', 'numpy.random', 'array.array'):
             self.assertIsNone(Judge().mark(name))
         # (A class that begins with a small letter, of a set of the package.)

@@ -3,22 +3,29 @@ there, the pickle is only asked about. And the names that lead there: the progra
 
 from __future__ import annotations
 
+import io
 import os
+import pickle
 import re
+import struct
 import subprocess
 import sys
 import tempfile
 import unittest
+from contextlib import suppress
 from pathlib import Path
-from typing import Iterator, List, Tuple
+from typing import Any, Callable, Iterator, List, Optional, Tuple
 
 import picklestep
+from picklestep.records import Global
 from picklestep.scan import Judge, look_at_bytes
 from picklestep.scan.known import known_names
 from pickles import ROOT
 
-# (of a folder of several Pythons those that the package runs in)
-_PYTHONS = [path for path in sorted(Path(os.environ.get('PYTHONS', '/nowhere')).expanduser().glob('3.*/bin/python3')) if int(path.parts[-3].split('.')[1]) >= 8]
+# (of a folder of several Pythons those that the package runs in, and Python 2.7)
+_FOLDER = Path(os.environ.get('PYTHONS', '/nowhere')).expanduser()
+_PYTHONS = [path for path in sorted(_FOLDER.glob('3.*/bin/python3')) if int(path.parts[-3].split('.')[1]) >= 8]
+_OLD = sorted(_FOLDER.glob('2.7*/bin/python'))
 
 
 def text(value: bytes) -> bytes:
@@ -65,11 +72,17 @@ def says(python: str, statement: str, data: bytes) -> str:
     with tempfile.TemporaryDirectory() as folder:
         file = Path(folder) / 'a.pickle'
         file.write_bytes(data)
-        done = subprocess.run([python, '-B', '-c', statement, str(file)], capture_output=True, timeout=60, cwd=folder)
+        done = subprocess.run([python, '-B', '-c', statement, str(file)], capture_output=True, timeout=600, cwd=folder)
     return done.stdout.decode().strip() or done.stderr.decode()[-300:]
 
 
 _LOADS = 'import os, pickle, sys; file = open(sys.argv[1], "rb", {buffering}); print({load} == os.getpid())'
+
+
+def pythons_with(library: str) -> List[str]:
+    """The Python of the test, or the system's, if it has a library. (Of a folder of this name alone the module has no file.)"""
+    there = [python for python in (sys.executable, '/usr/bin/python3') if os.path.exists(python)]
+    return [python for python in there if says(python, f'import {library}; print(bool({library}.__file__))', b'') == 'True'][:1]
 
 
 class ReachesTheUnpickler(unittest.TestCase):
@@ -90,9 +103,7 @@ class ReachesTheUnpickler(unittest.TestCase):
         self.check(TURNED, _LOADS.format(buffering=-1, load='pickle._load(file)'), 2, self.pythons)
 
     def test_a_table_of_joblib(self) -> None:
-        has_it = says(sys.executable, 'import joblib; print(joblib)', b'')
-        self.check(OF_JOBLIB, _LOADS.format(buffering=-1, load='__import__("joblib").load(sys.argv[1])'), 2,
-                   [sys.executable] if has_it.startswith('<module') else [])
+        self.check(OF_JOBLIB, _LOADS.format(buffering=-1, load='__import__("joblib").load(sys.argv[1])'), 2, pythons_with('joblib'))
 
     def test_a_memo(self) -> None:
         self.check(GIVEN_A_MEMO, _LOADS.format(buffering=-1, load='pickle.loads(file.read())'), 5, self.pythons)
@@ -122,6 +133,167 @@ class ReachesTheUnpickler(unittest.TestCase):
                 self.assertEqual(subprocess.run([str(ROOT / 'picklestep'), 'calls', str(file)], capture_output=True).returncode, status)
 
 
+class AtPython2(unittest.TestCase):
+    """`cPickle` of Python 2.7 reads these otherwise than `calls` shows: no promise is about it, and the page says so."""
+
+    STATEMENT = ('import cPickle, sys; called = []\n'
+                 'unpickler = cPickle.Unpickler(open(sys.argv[1], "rb"))\n'
+                 'unpickler.find_global = lambda module, name: lambda *words: called.append(name)\n'
+                 'unpickler.load(); print(" ".join(called))')
+
+    def check(self, data: bytes, shown: List[str], code: Optional[str], called: str) -> None:
+        answer = picklestep.calls(data)
+        self.assertEqual(([reach.text for reach in answer if reach.what == 'call'], answer.end.code, answer.parts), (shown, code, ()))
+        for python in _OLD:
+            self.assertEqual(says(str(python), self.STATEMENT, data), called)
+
+    def test_keys(self) -> None:
+        """What PUT stored at 0 is not what BINPUT stored at 0."""
+        self.check(b'cjson\ndumps\np0\n0cposix\ngetpid\nq\x000g0\n)R.', ["call 'posix' 'getpid' () as #3"], None, 'dumps')
+
+    def test_marks(self) -> None:
+        """TUPLE2 takes an object from below a mark."""
+        self.check(b'cjson\ndumps\n(N\x860cjson\ndumps\n)R.', [], 'S2', 'dumps')
+
+
+class Unseen:
+    """An object whose methods note that they run."""
+
+    done: List[str] = []
+
+    def __init__(self, *methods: str) -> None:
+        kept = {'__iter__': lambda: iter('a'), '__len__': lambda: 1, '__length_hint__': lambda: 1, 'keys': lambda: ['a'], '__getitem__': lambda key: 1}
+        made = {name: self._noted(name, kept[name]) for name in methods}
+        self.__class__ = type('Made', (Unseen,), made)  # type: ignore[assignment]
+
+    @classmethod
+    def _noted(cls, name: str, does: Callable[..., Any]) -> Callable[..., Any]:
+        def method(self: Any, *words: Any) -> Any:
+            cls.done.append(name)
+            return does(*words)
+        return method
+
+
+class Pieces(io.RawIOBase):
+    """A raw pipe whose sender chooses what comes at one read."""
+
+    def __init__(self, *pieces: bytes) -> None:
+        super().__init__()
+        self.pieces = [*pieces, b'']
+
+    def readable(self) -> bool:
+        return True
+
+    def readinto(self, into: Any) -> int:
+        count = min(len(into), len(self.pieces[0]))
+        into[:count], self.pieces[0] = self.pieces[0][:count], self.pieces[0][count:]
+        if not self.pieces[0] and self.pieces[1:]:
+            del self.pieces[0]
+        return count
+
+
+class Fails:
+    """What raises a TypeError with a text of its own."""
+
+    class Error(TypeError):
+        def __str__(self) -> str:
+            Unseen.done.append('__str__')
+            return ''
+
+    @property
+    def __name__(self) -> str:  # type: ignore[override]
+        Unseen.done.append('__name__')
+        return 'x'
+
+    def __call__(self) -> None:
+        raise self.Error
+
+
+class AtLoaders(unittest.TestCase):
+    """What real unpicklers do, beside what is said of them."""
+
+    def test_a_frame_that_lies_over_what_a_file_shows(self) -> None:
+        """A file of `open` shows what is left of 8,192 bytes. Where a frame of 13 bytes is not all in them, C drops its rest behind a STOP."""
+        asked: List[Tuple[str, str]] = []
+
+        class Loader(pickle.Unpickler):
+            def find_class(self, module: str, name: str) -> Any:
+                asked.append((module, name))
+                return len
+
+        seen = set()
+        for at in (100, 8172, 8180, 8187, 8195):
+            rest = b'N.cin\nframe\n.'
+            data = b'B' + struct.pack('<I', at - 6) + bytes(at - 6) + b'0\x95' + struct.pack('<Q', len(rest)) + rest + b'cone\nact\n.'
+            with tempfile.TemporaryDirectory() as folder:
+                path = Path(folder) / 'a.pickle'
+                path.write_bytes(data)
+                asked.clear()
+                with open(path, 'rb', buffering=8192) as file, self.assertRaises(EOFError):
+                    while True:
+                        Loader(file).load()
+            said = [[each.name for each in part] for part in picklestep.calls(data).parts]
+            self.assertIn([Global(module.encode(), name.encode()) for module, name in asked], said, at)
+            seen.add(len(asked))
+        self.assertEqual(seen, {1, 2})
+
+    def test_a_read_that_comes_short(self) -> None:
+        """The example of the page, of which the first eleven bytes come first: no line, and the unpickler in Python calls. The others do not."""
+        data = b'\x80\x04B\x14\0\0\0XXXXcos\ngetpid\n)R0N0N.'
+        self.assertEqual((len(picklestep.calls(data)), picklestep.calls(data).end.is_stopped), (0, True))
+        asked: List[str] = []
+
+        class InPython(pickle._Unpickler):  # type: ignore[name-defined]
+            def find_class(self, module: str, name: str) -> Any:
+                asked.append(name)
+                return super().find_class(module, name)
+
+        InPython(Pieces(data[:11], data[11:])).load()
+        self.assertEqual(asked, ['getpid'])
+        InPython(io.BufferedReader(Pieces(data[:11], data[11:]))).load()
+        with self.assertRaises(pickle.UnpicklingError):
+            pickle.load(Pieces(data[:11], data[11:]))  # type: ignore[arg-type]
+        self.assertEqual(asked, ['getpid'])
+
+    def test_memory_that_is_made_writable_again(self) -> None:
+        """READONLY_BUFFER leaves the array while it can only be read, and makes a view of it once it can be written to. `calls` has one object."""
+        def sets(value: bytes) -> bytes:
+            return found(b'numpy', b'ndarray.setflags') + b'h\x00' + value + b'\x86R0'
+
+        data = b'\x80\x05' + found(b'numpy', b'zeros') + b'K\x02\x85Rq\x000' + sets(b'\x89') + b'h\x00\x98q\x01' + sets(b'\x88') + b'h\x01\x98\x86.'
+        self.assertEqual([reach.text for reach in picklestep.calls(data) if reach.what == 'readonly'], ['readonly #5 as #12'])
+        for python in pythons_with('numpy'):
+            for load in ('loads', '_loads'):
+                statement = f'import pickle, sys; print(*(type(each).__name__ for each in pickle.{load}(open(sys.argv[1], "rb").read())))'
+                self.assertEqual(says(python, statement, data), 'ndarray memoryview', load)
+
+    def test_methods_that_run_unseen(self) -> None:
+        """Each is on the page, and none has a line."""
+        page = (ROOT / 'docs/why/loaders.md').read_text('utf-8').partition('**Methods that run unseen.**')[2].partition('The object with such a method')[0]
+        given = {'f': lambda *words, **more: 0, 'lengths': Unseen('__iter__', '__len__'), 'hints': Unseen('__iter__', '__length_hint__'),
+                 'keys': Unseen('keys', '__getitem__', '__len__', '__iter__'), 'T': type('T', (), {'__new__': lambda cls, *words, **more: object.__new__(cls)}),
+                 'fails': Fails()}
+
+        class InPython(pickle._Unpickler):  # type: ignore[name-defined]
+            def find_class(self, module: str, name: str) -> Any:
+                return given[name]
+
+        class InC(pickle.Unpickler):
+            def find_class(self, module: str, name: str) -> Any:
+                return given[name]
+
+        noted = set()
+        for loader in (InPython, InC):
+            for data in (b'cm\nf\ncm\nlengths\nR.', b'cm\nf\ncm\nhints\nR.', b'cm\nT\ncm\nhints\n\x81.', b'cm\nT\n)cm\nkeys\n\x92.', b'(cm\nfails\no.'):
+                Unseen.done.clear()
+                with suppress(TypeError, pickle.UnpicklingError, AssertionError):
+                    loader(io.BytesIO(data)).load()
+                noted.update(Unseen.done)
+                for name in Unseen.done:
+                    self.assertIn(f'`{name}`', page, data)
+        self.assertGreaterEqual(noted, {'__iter__', '__len__', '__length_hint__', 'keys', '__getitem__', '__str__'})
+
+
 def names_of_the_program() -> List[str]:
     """The rows of the program's own table."""
     table = (ROOT / 'crates/pickle_further/src/leads.rt').read_text('utf-8').partition('static LEADING')[2].partition('];')[0]
@@ -129,8 +301,8 @@ def names_of_the_program() -> List[str]:
 
 
 def names_of_the_page() -> List[str]:
-    """The names of the table of docs/LOADERS.md."""
-    section = (ROOT / 'docs/LOADERS.md').read_text('utf-8').partition('### Imports that reach the unpickler\n')[2].partition('\n## ')[0]
+    """The names of the table of docs/why/loaders.md."""
+    section = (ROOT / 'docs/why/loaders.md').read_text('utf-8').partition('### Imports that reach the unpickler\n')[2].partition('\n## ')[0]
     return [name for cell in re.findall(r'^\| (`[^|]*) \|', section, re.MULTILINE) for name in re.findall('`([^`]+)`', cell)]
 
 

@@ -11,7 +11,10 @@ from typing import Iterable, Iterator
 import picklestep
 from picklestep import Opcode
 from picklestep.records import Argument, Change, Object
-from picklestep.texts import object_of, opcode_of
+from picklestep.answers import Listing
+from picklestep.tasks import Asked, modes
+from picklestep.texts import object_of
+from json_texts import listed
 from pickles import ROOT, real_pickles
 from test_reaches import decimal, quoted
 
@@ -71,20 +74,29 @@ class Lines(unittest.TestCase):
     def check(self, lines: Iterable[str]) -> int:
         count = 0
         for line in lines:
-            again = line_of_object(object_of(line)) if line.startswith('#') else line_of_opcode(opcode_of(line))
-            self.assertEqual(again, decimal(line))
+            self.assertEqual(line_of_object(object_of(line)), decimal(line))
             count += 1
         return count
 
+    def check_opcodes(self, answer: Listing, text: str) -> int:
+        """What is read of lines of JSON is what the text says, and its text is that."""
+        lines = [line for line in text.split('\n') if _OPCODE.fullmatch(line)]
+        self.assertEqual(answer.text, text)
+        self.assertEqual([*map(line_of_opcode, answer)], [*map(decimal, lines)])
+        self.assertEqual([answer[at] for at in range(len(answer))], [*answer])
+        return len(lines)
+
     def test_rows(self) -> None:
-        self.assertGreater(self.check(line for line in rows() if _OPCODE.fullmatch(line)), 200)
+        lines = [line for line in rows() if _OPCODE.fullmatch(line)]
+        end = 'highest protocol among opcodes = 5\n'
+        self.assertGreater(sum(self.check_opcodes(Listing(listed(f'{line}\n{end}')), f'{line}\n{end}') for line in lines), 200)
         self.assertGreater(self.check(match[1] for match in map(_OBJECT.fullmatch, rows()) if match), 150)
 
     def test_listings_of_real_pickles(self) -> None:
         for name, data in real_pickles().items():
             for unframed in (False, True):
-                with self.subTest(name, unframed=unframed):
-                    self.check(match[0] for match in picklestep.listing(data, many=True, unframed=unframed).matches())
+                with self.subTest(name, unframed=unframed), Asked(data, None, None) as asked:
+                    self.check_opcodes(picklestep.listing(data, many=True, unframed=unframed), asked.answer(['list', *modes(True, unframed)]))
 
     def test_reports_of_real_pickles(self) -> None:
         for name, data in real_pickles().items():

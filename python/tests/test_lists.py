@@ -2,11 +2,14 @@
 
 from __future__ import annotations
 
+import collections
+import contextlib
 import io
 import os
 import pickle
 import random
 import re
+import shlex
 import stat
 import struct
 import subprocess
@@ -14,9 +17,10 @@ import sys
 import unittest
 import unittest.mock
 from pathlib import Path
-from typing import Any, Tuple
+from typing import Any, Iterator, Tuple
 
 import picklestep
+from picklestep import entrance
 from picklestep.scan import Judge, look_at_bytes, written
 from picklestep.scan.allow import read_names
 from picklestep.scan.entries import refused_line
@@ -58,16 +62,12 @@ class Lines(unittest.TestCase):
             assert found is not None
             self.assertEqual((found.name, ' '.join(sorted(found.words)), found.note), (name, words, note), line)
 
-    def test_what_is_said_of_what_calls_make(self) -> None:
+    def test_what_is_said_of_imports(self) -> None:
         every = ('call', 'fill', 'new', 'state')
-        for line, words, made in (('a.b', 'call fill new state', 'call fill new state'), ('a.b: call', 'call new', 'call fill new state'), ('a.b: made', '', ''),
-                                  ('a.b: call made', 'call new', ''), ('a.b: made-state made', '', 'state'), ('a.b: new made-call', 'new', 'call new'),
-                                  ('a.b: call(text) made-fill', 'call new', 'fill'), ('a.b: then(text)', '', 'call fill new state')):
+        for line, words in (('a.b', 'call fill new state'), ('a.b: call', 'call new'), ('a.b: made', ''), ('a.b: call made', 'call new'),
+                            ('a.b: made-state made', ''), ('a.b: new made-call', 'new'), ('a.b: call(text) made-fill', 'call new'), ('a.b: then(text)', '')):
             names = Names([line])
-            found = (' '.join(each for each in every if names.allows_done(f'{begin}{each}', 'a.b')) for begin in ('', 'made-'))
-            self.assertEqual(tuple(found), (words, made), line)
-        names = Names(['a.b: call(text) then(text)'])
-        self.assertEqual([each for each in every for begin in ('', 'made-') if names.allows_done(f'{begin}{each}', 'a.b', False)], ['call', 'fill', 'new'])
+            self.assertEqual(' '.join(each for each in every if names.allows_done(each, 'a.b')), words, line)
 
     def test_lines_for_the_gate(self) -> None:
         """They are those of the list, without names in quotes, and say the same when they are read again."""
@@ -236,7 +236,31 @@ class Through(unittest.TestCase):
                 OfPython(io.BytesIO(content)).load()
                 self.assertEqual(Recorder.made, before + 1)
                 looks = looks_in(Judge(Names(names)), content)
-                self.assertEqual([each.rule for each in looks], ['odd' if 'made' in way else 'not-allowed-done'], looks)
+                told = ['odd' if 'made' in way else 'not-allowed-done'] * (2 if 'INST' in way else 1)  # (no list lets an INST pass)
+                self.assertEqual([each.rule for each in looks], told, looks)
+
+
+class InAnotherForm(ScanCase):
+    """What no pickler writes so passes no list, whatever it imports. It is told once, by its form or by the gate."""
+
+    JUDGE = Judge(Names(['**']))
+
+    def test_it_is_told_once(self) -> None:
+        for content in (b'\x80\x02J\1\0\0\0.', b'\x80\x04N\x85\x85\x85\x85.', b'capp\na\nNp1\n0.', b'capp\na\n.N.J\1\0\0\0.', b'capp\na\n(S"b"\ntR.'):
+            looks = looks_in(self.JUDGE, content)
+            self.assertEqual([each.rule for each in looks], ['unusual-form'], content)
+            self.assertRaisesRegex(picklestep.NotAllowed, 'not in the form', picklestep.check, content, names=['**'])
+        for content in (b'(iapp\na\n.', b'(K\1iapp\na\np0\n}p1\nb.'):
+            self.assertTrue(looks_in(self.JUDGE, content), content)
+
+    def test_what_the_gate_was_not_asked_about(self) -> None:
+        look, = self.JUDGE.looks(look_at_bytes('a.pkl', b'capp\na\n.'))
+        self.assertEqual(look.rule, 'not-allowed-done')
+        self.assertIn('no list lets it pass: it was not asked', look.text)
+
+    def test_imports_that_the_list_has_not(self) -> None:
+        looks = looks_in(Judge(Names(['app.a'])), b'capp\na\n0capp\nb\nNp1\n0.')
+        self.assertEqual([(each.rule, each.name) for each in looks], [('not-allowed', 'app.b'), ('unusual-form', '')])
 
 
 class Written(ScanCase):
@@ -395,6 +419,69 @@ class Explained(ScanCase):
     def test_words_that_are_wrong(self) -> None:
         for words in ((), ('os',), ('a.b', 'none'), ('a.b', '--many')):
             self.assertEqual(self.explain(*words), (2, ''))
+
+
+class PutTogether(ScanCase):
+    """Sets, several lists, and lists that include others, as `gate` takes them."""
+
+    ORDERED = pickle.dumps(collections.OrderedDict(a=1), 4)
+
+    def setUp(self) -> None:
+        super().setUp()
+        self.file('call', b'collections.OrderedDict: call made\n')
+        self.file('fill', b'collections.OrderedDict: made-fill\n')
+        self.file('both', b'# of us\n include call # and\ninclude fill\n')
+        self.file('named', b'# include call\ninclude.call: call\n')
+        self.file('wrong', b'include call\n\na.b: cal\n')
+        self.file('a.pkl', self.ORDERED)
+        self.file('b.pkl', b'N.')
+        self.file('numpy', b'a.b\n')
+
+    def gate(self, *words: str) -> Tuple[int, str, str]:
+        run = subprocess.run([sys.executable, '-m', 'picklestep', 'gate', *words], cwd=self.folder, env=environment(), timeout=600, capture_output=True, text=True)
+        return run.returncode, run.stdout, run.stderr
+
+    def test_what_lists_allow_together(self) -> None:
+        for words, status, output in ((('both', 'a.pkl'), 0, 'passes\n'), (('--list', 'call', '--list=fill', 'a.pkl'), 0, 'passes\n'), (('plain', 'a.pkl'), 0, 'passes\n'),
+                                      (('--list', 'fill', '--list', 'plain', 'a.pkl', 'b.pkl'), 0, "'a.pkl': passes\n'b.pkl': passes\n"),
+                                      (('--list', 'call', '--', 'b.pkl'), 0, 'passes\n'), (('./numpy', 'b.pkl'), 0, 'passes\n')):
+            with self.subTest(words):
+                self.assertEqual(self.gate(*words)[:2], (status, output))
+        for words in (('call', 'a.pkl'), ('--list', 'call', 'a.pkl'), ('./numpy', 'a.pkl'), ('torch-modules', 'a.pkl', 'b.pkl')):
+            with self.subTest(words):
+                status, output, _ = self.gate(*words)
+                self.assertEqual((status, 'not allowed' in output), (0, False) if words[0] == 'torch-modules' else (1, True))
+
+    def test_what_is_wrong(self) -> None:
+        for words, why in ((('wrong', 'b.pkl'), 'wrong, line 3: no entry of a list: a.b: cal; the nearest word is call'), (('--list', 'none', 'b.pkl'), 'cannot read none: '),
+                           (('--list', 'call'), 'it is: picklestep gate LIST FILE ..'), (('--list', 'call', '--lists', 'b.pkl'), 'gate takes no option --lists'),
+                           (('b.pkl', '--list'), '--list wants a set or a file'), (('numpy',), 'it is: picklestep gate LIST FILE ..')):
+            with self.subTest(words):
+                status, output, said = self.gate(*words)
+                self.assertEqual((status, output), (2, ''))
+                self.assertTrue(said.startswith(f'picklestep: {why}'), said)
+
+    def test_who_puts_them_together(self) -> None:
+        """The starter, a script of the shell, says the same as the package."""
+        package = Path(picklestep.__file__).parent
+        script = f'package={shlex.quote(str(package))}; . "$package/help/start.sh"; is_told_more "$@"'
+        for words, wanted in ((('call', 'b.pkl'), False), (('both', 'b.pkl'), True), (('named', 'b.pkl'), False), (('numpy', 'b.pkl'), True), (('./numpy', 'b.pkl'), False),
+                              (('--list', 'call', 'b.pkl'), True), (('call', 'b.pkl', 'b.pkl'), False)):
+            with self.subTest(words):
+                given = ['gate', *words]
+                self.assertEqual(subprocess.run(['sh', '-c', script, 'sh', *given], cwd=self.folder, timeout=600).returncode == 0, wanted)
+                with _in_folder(self.folder):
+                    self.assertEqual(entrance.gathers(given), wanted)
+
+
+@contextlib.contextmanager
+def _in_folder(folder: Path) -> Iterator[None]:
+    before = os.getcwd()
+    os.chdir(folder)
+    try:
+        yield
+    finally:
+        os.chdir(before)
 
 
 if __name__ == '__main__':

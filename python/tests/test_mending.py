@@ -24,7 +24,7 @@ from unittest import mock
 
 import cut_pickles
 import picklestep
-from examples_of_using import blocks, stories
+from examples_of_pages import stories
 from pickles import chosen, real_pickles
 from picklestep import mending
 from picklestep.mending import Mended, TooCrooked, mended
@@ -222,11 +222,9 @@ class Words(unittest.TestCase):
         cut = next(data for name, data, _, _ in stories() if name == 'cut.pickle')
         with tempfile.TemporaryDirectory() as folder:
             Path(folder, 'cut.pickle').write_bytes(cut)
-            shown = '\n'.join(blocks('mend')[1]) + '\n'
-            for words, answer in re.findall(r'\$ picklestep (.*)\n((?:[^$].*\n)*)', shown):
-                done = subprocess.run([sys.executable, '-m', 'picklestep', *words.split()], cwd=folder, env=environment(), capture_output=True, text=True,
-                                      timeout=300, check=False)
-                self.assertEqual(done.stdout, answer)
+            done = subprocess.run([sys.executable, '-m', 'picklestep', 'mend', 'cut.pickle', 'mended.pickle'], cwd=folder, env=environment(),
+                                  capture_output=True, text=True, timeout=300, check=False)
+            self.assertEqual((done.returncode, done.stderr), (1, ''))
             built = {'due': datetime.date(2026, 11, 26), 'jobs': [1, 2]}
             self.assertEqual(pickle.loads(Path(folder, 'mended.pickle').read_bytes()), built)
             self.assertEqual(pickle.loads(cut + b'eu.'), built)

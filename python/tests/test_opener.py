@@ -30,10 +30,10 @@ from typing import Callable, Dict, Iterator, List, Sequence, Tuple
 from unittest import mock
 
 import picklestep
-from examples_of_using import blocks
+from examples_of_pages import blocks
 from picklestep import scan
 from picklestep.diff import main as diff
-from picklestep.hints import WRAPPER
+from picklestep.hints import OLD_TORCH, WRAPPER
 from picklestep.mend import main as mend
 from picklestep.opens import BEGINS, SERVERS, has_zip_behind, holds_others, may_have_arrays, split
 from picklestep.place import find_program, is_module
@@ -42,8 +42,8 @@ from picklestep.scan.blobs import Limits
 from picklestep.scan.containers import CONTAINERS, STORES
 from picklestep.scan.looking import Options
 from picklestep.scan.stores.address import SERVERS as READ_BY
-from picklestep.shell import main as shell
-from picklestep.view import main as view
+from picklestep.shell.command import main as shell
+from picklestep.view.command import main as view
 from pickles import LIST, REAL, chosen
 from scan_support import HARMLESS, HOSTILE, MODELS, Made, environment, tarred, zip_of
 from test_entrance import PACKAGE, EntranceCase, ways
@@ -162,10 +162,53 @@ class WordsOfTheProgram(OpenerCase):
                     self.assertEqual((run.returncode, run.stdout), (alone.returncode, alone.stdout), run.stderr)
 
     def test_without_a_word(self) -> None:
+        """It is looked at as `scan` looks at the file, and at nothing else of it."""
         self.file('two.zip', zipped(PICKLES))
         for way, run in self.runs(['two.zip > a.pkl']):
+            self.assertEqual((run.returncode, run.stderr), (1, ''), way)
+            self.assertEqual(re.findall('  (two.zip > .*): ', run.stdout), ['two.zip > a.pkl'])
+
+    def test_scan(self) -> None:
+        inner = zipped(PICKLES)
+        self.file('outer.zip', zipped({'two.zip': inner, 'c.pkl': HOSTILE}))
+        whole = [line for line in self.start([*ways()['-I -m'], 'scan', 'outer.zip']).stdout.splitlines() if line.startswith('  outer')]
+        below = [line for line in whole if line.startswith('  outer.zip > two.zip > ')]
+        self.assertEqual((len(whole), len(below)), (len(PICKLES) + 1, len(PICKLES)))
+        for address, wanted in (('outer.zip > two.zip', below), ('outer.zip > c.pkl', [line for line in whole if line not in below])):
+            run = self.start([*ways()['-I -m'], 'scan', address])
+            self.assertEqual([line for line in run.stdout.splitlines() if line.startswith('  outer')], wanted, run.stderr)
+        run = self.start([*ways()['-I -m'], 'scan', 'outer.zip > none'])
+        self.assertEqual((run.returncode, run.stdout.split('\n')[0]), (3, "! outer.zip: cannot be read: nothing in it has the address 'none'"))
+
+    def test_members(self) -> None:
+        """The bytes at an address, whatever is in them."""
+        inner = zipped(PICKLES)
+        self.file('inner.zip', inner)
+        self.file('outer.zip', zipped({'two.zip': inner}))
+        alone = self.start([find_program(), 'members', 'inner.zip'])
+        for way, run in self.runs(['members', 'outer.zip > two.zip']):
+            self.assertEqual((run.returncode, run.stdout), (0, alone.stdout), run.stderr)
+        found = picklestep.members('outer.zip > two.zip')
+        self.assertEqual({each.name: picklestep.calls(each.address).text for each in found}, {name: picklestep.calls(data).text for name, data in PICKLES.items()})
+        self.assertEqual([(each.name, each.size) for each in picklestep.members(inner)], [(name, len(data)) for name, data in PICKLES.items()])
+        for wrong in ('outer.zip > none', self.file('a.pkl', HOSTILE)):
+            self.assertRaises(picklestep.NotOpened, picklestep.members, wrong)
+
+    def test_members_of_one_name(self) -> None:
+        self.file('two.zip', zip_of([Made(b'in.zip', zipped(PICKLES)), Made(b'in.zip', zipped({'other.pkl': HARMLESS}))]))
+        for way, run in self.runs(['members', 'two.zip > in.zip']):
             self.assertEqual((run.returncode, run.stdout), (2, ''), way)
-            self.assertEqual(run.stderr, "picklestep: 'two.zip > a.pkl' is the address of a pickle, which a word opens: picklestep calls ADDRESS\n")
+            self.assertIn('is the address of several, and loaders differ in which they take', run.stderr)
+
+    def test_what_is_not_opened(self) -> None:
+        self.file('a.7z', b'7z\xbc\xaf\x27\x1c' + bytes(40))
+        for way, run in self.runs(['calls', 'a.7z']):
+            self.assertEqual((run.returncode, run.stderr), (1, 'picklestep: a.7z begins like 7z, which is not opened here\n'), way)
+
+    def test_source_of_old_torch(self) -> None:
+        number = b'\x80\x02' + OLD_TORCH + b'.'
+        self.assertIn('torch before 1.6', picklestep.source(self.file('old.pt', number + HOSTILE)).text.splitlines()[-1])
+        self.assertNotIn('torch before 1.6', picklestep.source(number + HOSTILE).text)
 
     def test_gate(self) -> None:
         """Its list comes before the file that is opened. At an archive it looks itself."""
@@ -270,7 +313,7 @@ class Plain(OpenerCase):
         for interpreter in filter(os.path.exists, ('/bin/bash', '/bin/sh', '/bin/dash')):
             for language in ('C', 'C.UTF-8'):
                 run = subprocess.run([interpreter, '-c', script, interpreter, *files], capture_output=True, text=True, env={**os.environ, 'LC_ALL': language},
-                                     timeout=60, check=True)
+                                     timeout=600, check=True)
                 found = run.stdout.splitlines()
                 self.assertEqual(set(expected) - set(found), set(), interpreter)
                 self.assertEqual({path for path in found if 'begins_' not in path} - set(expected), set(), interpreter)
@@ -378,7 +421,7 @@ class FromPython(OpenerCase):
         self.assertEqual(picklestep.calls(address).text, picklestep.calls(HOSTILE).text)
         self.assertEqual(picklestep.calls(Path(address)).text, picklestep.calls(HOSTILE).text)
         self.assertEqual(picklestep.listing(address).text, picklestep.listing(HOSTILE).text)
-        self.assertEqual(picklestep.objects(address, timeout=60).text, picklestep.objects(HOSTILE).text)
+        self.assertEqual(picklestep.objects(address, timeout=600).text, picklestep.objects(HOSTILE).text)
         self.assertEqual(picklestep.form(address), picklestep.form(HOSTILE))
         self.assertEqual(picklestep.source(address).text, picklestep.source(HOSTILE).text)
         self.assertEqual(picklestep.tree(address).arguments, ('id',))
@@ -395,7 +438,7 @@ class FromPython(OpenerCase):
             path = str(self.file(name, content))
             self.assertEqual(picklestep.calls(path).text, picklestep.calls(HOSTILE).text)
             self.assertEqual(picklestep.listing(Path(path)).text, picklestep.listing(HOSTILE).text)
-            self.assertEqual(picklestep.objects(path, timeout=60).text, picklestep.objects(HOSTILE).text)
+            self.assertEqual(picklestep.objects(path, timeout=600).text, picklestep.objects(HOSTILE).text)
             self.assertEqual(picklestep.source(path).text, picklestep.source(HOSTILE).text)
             if name != 'a.zip':
                 self.assertEqual(picklestep.gate(path, names=['posix.system']).passes, picklestep.gate(HOSTILE, names=['posix.system']).passes)
@@ -654,12 +697,17 @@ class Hostile(OpenerCase):
         self.assertFalse(has_zip_behind(str(self.file('a.pkl', HARMLESS + b'PK\x05\x06' + bytes(30)))))
 
     def test_archives_that_are_pickles(self) -> None:
-        """The one pickle in it is opened, and it is said how its own bytes are read."""
-        self.file('a.tar', tarred({'cposix\nsystem\n(Vid\ntR.': HOSTILE}))  # (a name at which a loader begins)
+        """Nothing is opened without an address, for a loader of the file's own bytes does something else than one of the pickle in it."""
+        self.file('a.tar', tarred({'cposix\nsystem\n(Vid\ntR.': HARMLESS}))  # (a name at which a loader begins)
         self.assertIn((), [each.where for each in scan.look('a.tar').pickles])
-        for way, run in self.runs(['calls', 'a.tar']):
-            self.assertEqual((run.returncode, run.stdout), (0, picklestep.calls(HOSTILE).text), way)
-            self.assertIn('picklestep: to a loader that opens no container its bytes are a pickle too: picklestep calls /dev/stdin <a.tar\n', run.stderr)
+        for words in (['calls', 'a.tar'], ['list', 'a.tar'], ['gate', 'plain', 'a.tar']):
+            for way, run in self.runs(words):
+                self.assertEqual((run.returncode, run.stdout), (2, ''), (way, words))
+                self.assertIn('picklestep: to a loader that opens no container its bytes are a pickle too: picklestep calls /dev/stdin <a.tar\n',
+                              ''.join(line if line.startswith('picklestep: ') else f'picklestep: {line}' for line in run.stderr.splitlines(True)))
+        for ask in (picklestep.calls, lambda file: picklestep.gate(file, allow=['plain'])):
+            with self.assertRaisesRegex(picklestep.PicklestepError, 'its bytes are a pickle too'):
+                ask('a.tar')
 
     def test_names_that_a_terminal_obeys(self) -> None:
         self.file('a.zip', zip_of([Made(b'a\x1b[2J.pkl', HOSTILE), Made('б.pkl'.encode(), HARMLESS, flags=0x800)]))
@@ -684,10 +732,10 @@ class Hostile(OpenerCase):
 
 @unittest.skipIf(os.name == 'nt', 'a shell of POSIX is wanted')
 class Pages(OpenerCase):
-    """The examples of docs/USING.md."""
+    """The examples of docs/reference/common.md."""
 
     def test_using(self) -> None:
-        shown = ''.join(f'{line}\n' for block in blocks('A pickle inside another file') for line in block)
+        shown = ''.join(f'{line}\n' for block in blocks('common') for line in block)
         found = re.findall(r'^\$ (picklestep .*)\n((?:[^$].*\n)*)', shown, re.MULTILINE)
         self.assertEqual(len(found), 3)
         command = self.file('bin/picklestep', f'#!/bin/sh\nexec {" ".join(ways()["-I -m"])} "$@"\n'.encode())

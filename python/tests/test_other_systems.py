@@ -24,7 +24,7 @@ ASK = """\
 import picklestep, sys
 from picklestep import place
 hostile = b'cposix\\nsystem\\n(X\\x02\\0\\0\\0idtR.'
-print(picklestep.calls(hostile, timeout=60).calls, picklestep.objects(b'N.'), picklestep.listing(hostile)[0].argument, sep='|')
+print(picklestep.calls(hostile, timeout=600).calls, picklestep.objects(b'N.'), picklestep.listing(hostile)[0].argument, sep='|')
 with picklestep.Session(b'N.') as session:
     session.insert(0, 'NONE')
     print(session.bytes(), session.run().why)
@@ -81,7 +81,7 @@ print(source(b'N.').text.splitlines()[-1], *(name in opcode_table() for name in 
 
 def asked(*words: str, **environment: str) -> str:
     """What an interpreter says that has nothing of this one's environment."""
-    done = subprocess.run([sys.executable, *words], capture_output=True, text=True, check=False, timeout=120, cwd='/', stdin=subprocess.DEVNULL,
+    done = subprocess.run([sys.executable, *words], capture_output=True, text=True, check=False, timeout=600, cwd='/', stdin=subprocess.DEVNULL,
                           env={'PYTHONPATH': str(PACKAGE), 'PYTHONDONTWRITEBYTECODE': '1', **environment})
     return done.stdout + done.stderr
 
@@ -115,7 +115,7 @@ class OtherSystems(unittest.TestCase):
                 Path(folder, os.fsdecode(name), 'a.pickle').write_bytes(b'N.')
 
             def answer(word: bytes, current: bytes = b'') -> Tuple[int, bytes]:
-                done = subprocess.run([str(shutil.which('node')), str(MODULE), 'objects', word], capture_output=True, check=False, timeout=120,
+                done = subprocess.run([str(shutil.which('node')), str(MODULE), 'objects', word], capture_output=True, check=False, timeout=600,
                                       cwd=os.path.join(os.fsencode(folder), current))
                 return done.returncode, done.stdout + done.stderr
 
@@ -143,9 +143,9 @@ class OtherSystems(unittest.TestCase):
             node.write_text(f'#!/bin/sh\nexec {shlex.quote(str(shutil.which("node")))} --require {shlex.quote(folder)}/older.cjs "$@"\n')
             node.chmod(0o755)
             said = 'the program is a module, which runs with Node 20 or later on the path (https://nodejs.org), and this is Node 18.20.4'
-            done = subprocess.run([node, MODULE, 'list', 'none.pickle'], capture_output=True, text=True, check=False, timeout=120)
+            done = subprocess.run([node, MODULE, 'list', 'none.pickle'], capture_output=True, text=True, check=False, timeout=600)
             self.assertEqual((done.returncode, done.stdout, done.stderr), (2, '', f'picklestep: {said}\n'))
-            ask = 'import picklestep\ntry:\n    picklestep.calls(b"N.", timeout=60)\nexcept picklestep.ProgramError as error:\n    print(error)'
+            ask = 'import picklestep\ntry:\n    picklestep.calls(b"N.", timeout=600)\nexcept picklestep.ProgramError as error:\n    print(error)'
             self.assertEqual(asked('-c', ask, PATH=folder, PICKLESTEP_PROGRAM=str(MODULE)), f'{said}\n')
 
 
@@ -199,7 +199,7 @@ class Drives(unittest.TestCase):
             self.skipTest('the module or Node is not there')
         flags = ('--no-warnings', '--no-turbo-fast-api-calls', '--input-type=module')
         command = ['node', *flags, '-e', script.replace('MODULE', MODULE.as_uri()), *words]
-        done = subprocess.run(command, input=given, capture_output=True, text=True, check=False, timeout=120)
+        done = subprocess.run(command, input=given, capture_output=True, text=True, check=False, timeout=600)
         return done.stdout + done.stderr
 
     def over_node(self, *asked_of: 'tuple[tuple[str, ...], str]') -> Any:

@@ -170,11 +170,19 @@ class Answers(unittest.TestCase):
 
     def test_the_line(self) -> None:
         answer = picklestep.reach(b'N.' + SYSTEM)
-        self.assertEqual((answer.reached, answer.offset, answer.line, answer.text),
-                         (True, 2, "GLOBAL 'posix' 'system'", "reached at 2: GLOBAL 'posix' 'system'"))
+        self.assertEqual((answer.reached, answer.offset, answer.line, answer.text, answer.what, answer.names),
+                         (True, 2, "GLOBAL 'posix' 'system'", "reached at 2: GLOBAL 'posix' 'system'", 'import', (b'posix', b'system')))
         answer = picklestep.reach(b'NN\x93' + SYSTEM)
         self.assertEqual((answer.reached, answer.offset, answer.line, answer.text), (False, 2, '', 'nothing reached: every loader ends by 2, whatever follows'))
         self.assertEqual([picklestep.reach(content).whatever_follows for content in (b'NN\x93', b'N\0', b'NN', b'X\5\0\0\0a')], [True, True, False, False])
+
+    def test_what_is_reached(self) -> None:
+        for content, options, what, names in ((b'\x82\x01.', ['extensions'], 'extension', None), (b'P1\n.', ['persistent_ids'], 'persistent', None),
+                                              (b'\x97.', ['buffers'], 'buffer', None), (b'ia/b\n\xff\n', [], 'import', (b'a/b', b'\xff')),
+                                              (b'\x8c\x02os\x8c\x06system\x93.', [], 'import', None)):
+            answer = picklestep.reach(content, **{option: True for option in options})
+            self.assertEqual((answer.what, answer.names), (what, names))
+            self.assertIn(answer.frames, ('ignored', 'buffered', 'held'))
 
     def test_too_many_ways(self) -> None:
         frames = b''.join(b'\x95' + (3390 - 11 * n).to_bytes(8, 'little') + b'N' for n in range(300))
@@ -188,9 +196,10 @@ class Answers(unittest.TestCase):
                 file.flush()
                 for granted in range(8):
                     words = [word for bit, word in ((1, '--extensions'), (2, '--persistent-ids'), (4, '--buffers')) if granted & bit]
-                    wanted = run_program(['reach', file.name, *words])
-                    found: List[bytes] = [answer for answer in (library.reach(content, granted), library.answer(['reach', *words], content)) if answer is not None]
-                    self.assertEqual(found, [wanted] * len(found))
+                    for json in ([], ['--json']):
+                        asked = [library.answer(['reach', *words, *json], content), *([library.reach(content, granted)] if json else [])]
+                        found: List[bytes] = [answer for answer in asked if answer is not None]
+                        self.assertEqual(found, [run_program(['reach', file.name, *words, *json])] * len(found))
 
     def test_a_file(self) -> None:
         """Also one that is larger than what is asked about in this process."""
@@ -198,7 +207,7 @@ class Answers(unittest.TestCase):
             path = os.path.join(folder, 'numbers')
             Path(path).write_bytes(b'\x80\x04' + b'N0' * 1_000_000 + SYSTEM)
             self.assertEqual(picklestep.reach(path).offset, 2_000_002)
-            self.assertEqual(picklestep.reach(path, timeout=60).offset, 2_000_002)
+            self.assertEqual(picklestep.reach(path, timeout=600).offset, 2_000_002)
 
 
 if __name__ == '__main__':

@@ -6,13 +6,10 @@ from __future__ import annotations
 import re
 import struct
 import unittest
-from collections import Counter
 from typing import Dict, Iterator, List, Union
 
 import picklestep
 from picklestep import Brief, Briefs, Extension, Global, Reach, Ref
-from picklestep.reaches import LineKey, reach_of, reached_lines
-from picklestep.texts import begins_with_offset
 from pickles import ROOT, real_pickles
 
 # Kinds of values that stand for themselves; all others but texts, objects and names are a word and a value.
@@ -109,54 +106,30 @@ def given() -> Iterator[bytes]:
 class Lines(unittest.TestCase):
     """What is read of a line is the line."""
 
-    def check(self, lines: List[str]) -> None:
-        for line in lines:
-            self.assertEqual(line_of(reach_of(line)), decimal(line))
+    def check(self, answer: picklestep.Calls) -> int:
+        for reach in answer.everything():
+            self.assertEqual(line_of(reach), decimal(f'{reach.offset:5d}: {reach.text}'))
+        return len(answer)
 
     def test_rows(self) -> None:
-        rows = (ROOT / 'equipment' / 'calls.txt').read_text('ascii').splitlines()
-        lines = [line for line in rows if begins_with_offset(line)]
-        self.assertGreater(len(lines), 400)
-        self.check(lines)
+        rows = re.findall(r'^pickle ([0-9a-f ]+)$', (ROOT / 'equipment' / 'calls.txt').read_text('ascii'), re.MULTILINE)
+        self.assertGreater(sum(self.check(picklestep.calls(bytes.fromhex(row))) for row in rows), 200)
 
     def test_real_pickles(self) -> None:
         for name, data in real_pickles().items():
             for full in (False, True):
                 with self.subTest(name, full=full):
-                    self.check([f'{reach.offset:5d}: {reach.text}' for reach in picklestep.calls(data, full=full)])
+                    self.check(picklestep.calls(data, full=full))
 
     def test_arguments(self) -> None:
         for data in given():
-            answer = picklestep.calls(data)
-            with self.subTest(answer[-1].text):
-                self.check([f'{reach.offset:5d}: {reach.text}' for reach in answer])
+            self.check(picklestep.calls(data))
 
-
-class Rows(unittest.TestCase):
-    """Lines that call the same one after another are counted together, and no others."""
-
-    def test_real_pickles(self) -> None:
-        for name, data in real_pickles().items():
-            with self.subTest(name):
-                text = picklestep.calls(data).text
-                one_by_one: Counter[LineKey] = Counter(key for key, _, _ in reached_lines(text, 0, len(text), each=True))
-                together: Counter[LineKey] = Counter()
-                for key, count, _ in reached_lines(text, 0, len(text)):
-                    together[key] += count
-                self.assertEqual(together, one_by_one)
-
-    def test_what_is_no_row(self) -> None:
-        for first, second in (("call 'a' #1 () as #2", "call 'a' #12 () as #14"), ("call 'a' 'b' () as #2", "new 'a' 'b' () as #4"),
-                              ("import 'a' 'b' as #2", "import 'a' 'b' as #5"), ("call 'a' 'b' () as #2", "call raw 'a' 'b' () as #4"),
-                              ("state 'a' to #1", "state 'a' to #2"), ("call #1 () as #2", "call #1 () as #2"),
-                              ("call 'a' 'b' () as #2", "call 'a' 'b\\'' () as #4")):
-            with self.subTest(first):
-                text = f'    0: {first}\n   20: {second}\n'
-                self.assertEqual([count for _, count, _ in reached_lines(text, 0, len(text))], [1, 1])
-
-    def test_a_long_row(self) -> None:
-        text = ''.join(f"{at:5}: call 'a' 'b' (#{at}) as #{at + 1}\n" for at in range(5000))
-        self.assertEqual(sum(count for _, count, _ in reached_lines(text, 0, len(text))), 5000)
+    def test_long_lines(self) -> None:
+        """A line that is too long for a line of JSON has its text all the same."""
+        answer = picklestep.calls(b'cm\nn\n(X\x88\x13\0\0' + b'a' * 5000 + b'tR.', full=True)
+        self.assertEqual(len(answer[1].text), 5000 + len("call 'm' 'n' ('') as #3"))
+        self.check(answer)
 
 
 if __name__ == '__main__':

@@ -226,11 +226,11 @@ class Renames(unittest.TestCase):
         """A list of 800,000 texts is looked through once: the modules of two imports, and quoted words like their numbers."""
         texts = b'\x8c\x03old\x94\x8c\x01A\x93h\0\x8c\x01B\x93'
         data = b'\x80\x04(' + texts + b'X' + (400_000 * 3).to_bytes(4, 'little') + b' #1' * 400_000 + b'](' + b'h\0' * 800_000 + b'et.'
-        began = time.monotonic()
+        began = time.process_time()
         with Shell(data, '') as shell:
             self.assertIn('stays: it is data too', shell.obey('rename old new'))
             self.assertEqual([reach.name for reach in shell.pickle.imports()], [Global(b'new', b'A'), Global(b'new', b'B')])
-        self.assertLess(time.monotonic() - began, 90)
+        self.assertLess(time.process_time() - began, 90)
 
     def test_interrupted_before_the_check(self) -> None:
         """What Ctrl-C leaves is checked before the next line: the rename is whole, or was not made."""

@@ -91,7 +91,7 @@ def fifo(data: bytes) -> Iterator[str]:
         writer = threading.Thread(target=path.write_bytes, args=(data,), daemon=True)
         writer.start()
         yield str(path)
-        writer.join(60)
+        writer.join(600)
 
 
 def shell(folder: str, way: str, *words: str) -> str:
@@ -108,11 +108,11 @@ class LeavesNothing(unittest.TestCase):
     def setUp(self) -> None:
         library.answer(['list'], b'N.')  # (where it is a module, the process of Node that answers stays)
         gc.collect()
-        self.before = children(), open_files(), sorted(os.listdir(tempfile.gettempdir()))
+        self.before = children(), open_files()
 
     def tearDown(self) -> None:
         gc.collect()
-        self.assertEqual((children(), open_files()), self.before[:2])
+        self.assertEqual((children(), open_files()), self.before)
 
 
 class Sources(LeavesNothing):
@@ -163,12 +163,12 @@ class Sources(LeavesNothing):
                 Session(source)  # type: ignore[arg-type]
 
     def test_without_files_in_memory(self) -> None:
-        with mock.patch.object(os, 'memfd_create', None):
+        with tempfile.TemporaryDirectory() as folder, mock.patch.object(tempfile, 'tempdir', folder), mock.patch.object(os, 'memfd_create', None):
             del os.memfd_create
             self.assertEqual(len(picklestep.listing(LIST)), 7)
             with Session(LIST) as session:
                 self.assertEqual((session.insert(0, 'MARK'), session.undo(), session.bytes()), (0, 0, LIST))
-        self.assertEqual(sorted(os.listdir(tempfile.gettempdir())), self.before[2])
+            self.assertEqual(os.listdir(folder), [])
 
     def test_a_file_that_is_saved_to_is_not_open(self) -> None:
         """Where it has a name: Windows lets no program replace an open file."""
@@ -199,7 +199,7 @@ class Opened(LeavesNothing):
              ("source({}).text.count('system(')", 1), ("tree({}).how", 'call'), ("Session({}).run().place", 6))
 
     def test_a_pipe(self) -> None:
-        for more in ('', ', timeout=60'):
+        for more in ('', ', timeout=600'):
             for asked, wanted in self.ASKED:
                 with self.subTest(asked + more), pipe(HOSTILE) as path:
                     self.assertEqual(eval(f'picklestep.{asked.format(repr(path) + more)}'), wanted)
@@ -287,13 +287,11 @@ class Errors(LeavesNothing):
                         self.assertEqual(str(error), 'out of memory')
 
     def test_many_open_marks(self) -> None:
-        """A listing has four blanks for each in each line: one that would be hardly more is not read. What needs no listing is answered."""
+        """What is read of a listing has no blanks for them."""
         begun = time.process_time()
         for ask in (picklestep.listing, picklestep.source):
-            for data, memory in ((b'(' * 3_000_000, 16 * MB), (b'(' * 60_000, None)):
-                with self.assertRaisesRegex(picklestep.ProgramError, 'too many marks are open at once'):
-                    ask(data, memory=memory)
-            self.assertEqual(ask(b'(' * 2_000).end.offset, 2_000)
+            self.assertEqual(ask(b'(' * 1_000_000).end.offset, 1_000_000)
+        self.assertEqual(picklestep.listing(b'(' * 60_000)[-1].marks, 59_999)
         refused = b'(' * 60_000 + b'R.'
         for ends in (picklestep.objects(refused).end, picklestep.calls(refused).end):
             self.assertEqual((ends.code, ends.offset), ('S2', 60_000))
@@ -340,7 +338,7 @@ class Errors(LeavesNothing):
         self.assertEqual(caught.exception.status, 2)
 
     def test_a_program_that_is_killed(self) -> None:
-        with Session(LIST, timeout=60) as session:
+        with Session(LIST, timeout=600) as session:
             session.step()
             process, = children() - self.before[0]
             os.kill(process, signal.SIGKILL)
@@ -362,7 +360,7 @@ class Errors(LeavesNothing):
                 picklestep.listing(b'N.', timeout=0.2)
             with self.assertRaises(TimeoutError):
                 Session(b'N.', timeout=0.2)
-            self.assertLess(time.monotonic() - start, 5)
+            self.assertLess(time.monotonic() - start, 50)
 
     def test_timeouts_that_are_none(self) -> None:
         with program('exec sleep 60\n'):
@@ -377,11 +375,12 @@ class Errors(LeavesNothing):
 
     def test_a_listing_that_does_not_end(self) -> None:
         """The offset of a refused opcode is looked for within the time that is left."""
-        with program('case $1 in list) exec sleep 60;; esac\necho "0 imports, 0 calls"\necho "refused: item 0: S2 stack underflow"\nexit 1\n'):
+        said = subprocess.run([find_program(), 'calls', '--json', '/dev/stdin'], input=b'0.', stdout=subprocess.PIPE).stdout.decode()
+        with program(f"case $1 in list) exec sleep 60;; esac\ncat <<'END'\n{said}END\nexit 1\n"):
             start = time.monotonic()
             with self.assertRaises(TimedOut):
                 picklestep.calls(b'0.', timeout=0.3)
-            self.assertLess(time.monotonic() - start, 5)
+            self.assertLess(time.monotonic() - start, 50)
 
     def test_a_closed_session(self) -> None:
         session = Session(LIST)
@@ -392,7 +391,7 @@ class Errors(LeavesNothing):
                 action()
 
     def test_an_interrupted_question(self) -> None:
-        with Session(LIST, timeout=60) as session:
+        with Session(LIST, timeout=600) as session:
             with mock.patch('os.read', side_effect=KeyboardInterrupt), self.assertRaises(KeyboardInterrupt):
                 session.step()
             with self.assertRaises(ValueError):  # the answer to that step was never read
@@ -422,7 +421,7 @@ class NothingLeft(LeavesNothing):
             self.check_kill(code)
 
     def test_after_a_kill_with_a_session(self) -> None:
-        self.check_kill('import sys, time, picklestep\nsession = picklestep.Session(b"N.", timeout=60)\n'
+        self.check_kill('import sys, time, picklestep\nsession = picklestep.Session(b"N.", timeout=600)\n'
                         'print(session._talk._process._popen.pid, flush=True)\ntime.sleep(60)\n')
 
     def check_kill(self, code: str) -> None:
@@ -434,14 +433,14 @@ class NothingLeft(LeavesNothing):
             self.assertTrue(is_running(process))
             interpreter.kill()
             interpreter.wait()
-        for _ in range(100):
+        for _ in range(2000):
             if not is_running(process):
                 break
             time.sleep(0.05)
         self.assertFalse(is_running(process))
 
     def test_when_the_interpreter_ends(self) -> None:
-        code = 'import picklestep\nsession = picklestep.Session(b"N.", timeout=60)\nprint(session._talk._process._popen.pid)\n'
+        code = 'import picklestep\nsession = picklestep.Session(b"N.", timeout=600)\nprint(session._talk._process._popen.pid)\n'
         run = subprocess.run([sys.executable, '-W', 'error', '-c', code], stdout=subprocess.PIPE, stderr=subprocess.PIPE, check=True,
                              env={**os.environ, 'PYTHONPATH': str(PACKAGE)})
         self.assertEqual(run.stderr, b'')
@@ -528,7 +527,7 @@ class Answers(unittest.TestCase):
         answer = picklestep.listing(data)
         count = sum(1 for opcode in answer if opcode.name == 'BININT1' and opcode.argument == 7)
         self.assertEqual((count, len(answer), answer[-1].name), (500_000, 1_000_002, 'STOP'))
-        kept = sys.getsizeof(answer.text) + sys.getsizeof(answer._starts)
+        kept = sys.getsizeof(answer.json) + sys.getsizeof(answer._starts)
         self.assertLess(kept / len(answer), 300)
 
 

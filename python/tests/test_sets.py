@@ -175,7 +175,7 @@ class ByNames(ScanCase):
             for number, name in enumerate(names.names):
                 module, _, attribute = name.rpartition('.')
                 made = b')\x81' * names.allows_done('new', name)
-                made += b'}X\x01\0\0\0bK\x01sb' * (bool(made) and names.allows_done('made-state', name))
+                made += b'}X\x01\0\0\0bK\x01sb' * (bool(made) and any('made-state' in words for words in names.words_of(name)))
                 content = b'\x80\x02}X\x01\0\0\0ac' + f'{module}\n{attribute}\n'.encode() + made + b's.'
                 result = self.look(f'{library}{number}.ckpt', content, Options(lists=judge.lists()))
                 self.assertEqual([found.name for found in result.pickles[0].imports], [name])

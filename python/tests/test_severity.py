@@ -14,7 +14,7 @@ from picklestep.scan.known import known_names
 from picklestep.scan.looks import RULES
 from scan_support import HARMLESS, HOSTILE, ScanCase
 
-PAGE = Path(__file__).resolve().parents[2] / 'docs' / 'SCAN.md'
+PAGE = Path(__file__).resolve().parents[2] / 'docs' / 'reference' / 'scan.md'
 READS = b'\x80\x02clinecache\ngetline\n.'
 UNKNOWN = b'\x80\x02capp\nJob\n.'
 
@@ -50,7 +50,7 @@ class Steps(ScanCase):
             self.assertEqual(found[note], 'high', note)
 
     def test_the_page_has_the_table(self) -> None:
-        section = PAGE.read_text(encoding='utf-8').partition('### Severity')[2].partition('\n#')[0]
+        section = PAGE.read_text(encoding='utf-8').partition('## Severity')[2].partition('\n#')[0]
         rows = re.findall(r'^\| `(\w+)` \| ([^|]*) \|', section, re.MULTILINE)
         self.assertEqual(rows, [(step.name, step.means) for step in severity.STEPS.values()])
         self.assertNotIn('safe', {*severity.STEPS, *(step.means for step in severity.STEPS.values())})

@@ -74,6 +74,9 @@ HOSTILE: Tuple[Tuple[str, str, bytes], ...] = (
     ('a state of a range', 'numpy', call('numpy.random._pickle\n__randomstate_ctor', ENDLESS, b'cbuiltins\nfrozenset\n')),
     ('another maker', 'numpy', call('numpy.random._pickle\n__generator_ctor', text('a'), b'cbuiltins\nfrozenset\n')),
     ('an index over a range', 'pandas', call('pandas.core.indexes.base\n_new_Index', b'cpandas.core.indexes.base\nIndex\n', b'}' + text('data') + ENDLESS + b's')),
+    ('a set of an index', 'pandas', call('builtins\nset', call('pandas.core.indexes.base\n_new_Index', b'cpandas.core.indexes.range\nRangeIndex\n', b'}(' + b''.join(
+        text(name) + number(value) for name, value in (('start', 0), ('stop', 10 ** 12), ('step', 1))) + b'u'))),
+    ('bytes of an object', 'plain', call('copyreg\n_reconstructor', b'cbuiltins\nbytes\n' * 2, call('collections\nCounter'))),
     ('a list of a range', 'pandas', call('pandas.core.indexes.frozen\nFrozenList', ENDLESS)),
     ('a state of a long text', 'plain', call('random\nRandom') + b'(K\x02(' + text('%1500000000d') + b'tNtb'),
     ('a state of a range', 'plain', call('random\nRandom') + b'(K\x03' + ENDLESS + b'Ntb'), ('another state', 'plain', call('random\nRandom') + b'}b'),
@@ -97,7 +100,7 @@ class Sets(ScanCase):
         for name, word, made in HOSTILE:
             content = b'\x80\x02' + made + b'.'
             with self.subTest(name):
-                looks = [look for look in looks_in(Judge(read_names([word])), content) if look.rule in ('not-allowed-done', 'not-allowed')]
+                looks = [look for look in looks_in(Judge(read_names([word])), content) if look.rule in ('not-allowed-done', 'not-allowed', 'unusual-form')]
                 self.assertTrue(looks)
                 with self.assertRaises(NotAllowed):
                     picklestep.check(content, allow=[word])
@@ -226,11 +229,11 @@ class Lines(ScanCase):
                          ['made-state app.Job 40 times', 'made-state app.Task 40 times'])
 
     def test_what_calls_make_that_was_not_asked(self) -> None:
-        """An earlier result, of another list: words alone are compared."""
+        """An earlier result, of another list: nothing is allowed."""
         content = b'\x80\x02' + self.MADE + b'K\x03b.'
-        for line, count in (('app.Job: call', 0), ('app.Job: call made-state', 0), ('app.Job: call made', 1), ('app.Job: call(text number)', 1)):
+        for line in ('app.Job: call', 'app.Job: call made-state', 'app.Job: call made', 'app.Job: call(text number)', '**'):
             looks = [look for look in Judge(Names([line])).looks(look_at_bytes('a.pkl', content)) if look.rule == 'not-allowed-done']
-            self.assertEqual(len(looks), count, line)
+            self.assertEqual(len(looks), 1, line)
 
     def test_the_command_with_what_calls_make(self) -> None:
         self.file('a.pkl', b'\x80\x02' + self.MADE + b'K\x03b.')

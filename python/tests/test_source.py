@@ -14,11 +14,13 @@ import pickle
 import pickletools
 import random
 import re
+import signal
 import subprocess
 import sys
 import tempfile
 import time
 import unittest
+from pathlib import Path
 from typing import Any, Callable, List, Tuple
 
 import harmless
@@ -28,6 +30,8 @@ from picklestep.python_source import main, source
 from picklestep.python_source.code import HEAD, HEAD_OF_CUT, HEAD_OF_PART
 from picklestep.python_source.names import TAKEN
 from pickles import HOSTILE, real_pickles
+from scan_support import environment
+from terminals import heed_ctrl_c
 
 _CASES = 10_500
 _TOGETHER = 500  # pickles in one input
@@ -437,6 +441,40 @@ class Shown(unittest.TestCase):
                 self.assertEqual((made, type(made)), (pickle.loads(data), type(pickle.loads(data))))
 
 
+class First(unittest.TestCase):
+    """The first opcodes alone."""
+
+    def test_the_stack_is_that_of_python(self) -> None:
+        """After each opcode, of plain data that is not changed later; with what is below the marks."""
+        for data in (pickle.dumps({'a': [1, (2, 3, 'a')], 'b': {7: 'x', None: 2.5}}, protocol) for protocol in (0, 2, 4)):
+            machine: Any = pickle._Unpickler(io.BytesIO(data))  # type: ignore[attr-defined]
+            machine._unframer = pickle._Unframer(machine._file_read, machine._file_readline)  # type: ignore[attr-defined]
+            machine.read, machine.readinto, machine.readline = machine._unframer.read, machine._unframer.readinto, machine._unframer.readline
+            machine.metastack, machine.stack, machine.proto = [], [], 0
+            machine.append = machine.stack.append
+            count = sum(1 for _ in pickletools.genops(data))
+            for first in range(count):
+                answer = source(data, first=first)
+                found = executed(str(answer))
+                self.assertEqual(found['stack'], [each for part in (*machine.metastack, machine.stack) for each in part])
+                self.assertEqual((answer.end.how, answer.end.item, f'# the first {first} opcodes: the rest is not read, and the stack is' in answer),
+                                 ('part', first, True))
+                if first + 1 < count:
+                    machine.dispatch[machine.read(1)[0]](machine)
+            for first in (count, count + 1, None):
+                self.assertEqual(str(source(data, first=first)), str(source(data)))
+        with self.assertRaises(ValueError):
+            source(b'N.', first=-1)
+
+    def test_the_rest_is_not_read(self) -> None:
+        data = b'](' + b'K\7' * 3_000_000 + b'e'
+        begin = time.process_time()
+        self.assertEqual(source(data, first=5)[-1], 'stack = [[], 7, 7, 7]')
+        self.assertLess(time.process_time() - begin, 20)
+        self.assertEqual(source(b'NN0000.', first=2).end.how, 'part')
+        self.assertEqual(source(b'NN0000.', first=7).end.code, 'S2')
+
+
 class Large(unittest.TestCase):
     """The work grows with the pickle and not faster."""
 
@@ -464,6 +502,24 @@ class Large(unittest.TestCase):
         answer = source(pickle.dumps(values))
         self.assertLess(time.process_time() - begun, 20)
         self.assertGreater(len(answer), 200_000)
+
+
+class Interrupted(unittest.TestCase):
+    """Ctrl-C, where something takes long."""
+
+    def test_ctrl_c(self) -> None:
+        """It ends with one line and status 130."""
+        with tempfile.TemporaryDirectory() as folder:
+            for name, item in (('a', b'K\7'), ('b', b'K\x08')):
+                with open(os.path.join(folder, name), 'wb') as file:
+                    file.write(b'](' + item * 3_000_000 + b'e.')
+            for words in (['source', '--full', 'a'], ['diff', 'a', 'b']):
+                run = subprocess.Popen([sys.executable, '-m', 'picklestep', *words], cwd=folder, env=environment(), stdout=subprocess.DEVNULL,
+                                       stderr=subprocess.PIPE, preexec_fn=heed_ctrl_c, start_new_session=True)
+                while sum(map(int, Path(f'/proc/{run.pid}/stat').read_text(encoding='ascii').rpartition(')')[2].split()[11:13])) < 120:
+                    time.sleep(0.05)  # (it has begun to read once it has worked for so many hundredths of a second)
+                os.killpg(run.pid, signal.SIGINT)
+                self.assertEqual((run.communicate(timeout=600)[1], run.returncode), (b'picklestep: interrupted\n', 130), words)
 
 
 class Words(unittest.TestCase):

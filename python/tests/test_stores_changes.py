@@ -18,9 +18,9 @@ from stores_support import SECRET, StoreCase, python_with
 SCENES = Path(__file__).resolve().parent / 'stores_scenes.py'
 FEW = 1_500
 # A test in which nothing comes ends after so many seconds.
-MOST_SECONDS = 100
-# What a silent server is waited for.
-SECONDS = 2
+MOST_SECONDS = 600
+# What a silent server is waited for, and one that answers as long as another has its processor.
+SECONDS = 8
 
 
 class Scenes(StoreCase):
@@ -155,7 +155,7 @@ class Follow(StoreCase):
         port = self.redis()
         self.ask(python, port, f'[c.xadd("jobs", {{"old": {HOSTILE!r}}}) for _ in range(3)]')
         following = self.follow(python, f'redis://127.0.0.1:{port}/0?stream=jobs')
-        self.ask(python, port, '[time.sleep(0.1) for _ in range(1000) if not any(b"xrange" in each["cmd"].encode() for each in c.client_list())]')
+        self.ask(python, port, '[time.sleep(0.1) for _ in range(6000) if not any(b"xrange" in each["cmd"].encode() for each in c.client_list())]')
         self.ask(python, port, f'[c.xadd("jobs", {{"data": b"I%d\\n." % number}}) for number in range(1000)]; c.xadd("jobs", {{"data": {HOSTILE!r}}})')
         found = self.until(following, 'jobs > ')
         # (none of those that were there before, and none of the new ones is left out)
@@ -170,7 +170,7 @@ class Follow(StoreCase):
         python = python_with('redis')
         port = self.redis(0, '--notify-keyspace-events', 'EA')
         following = self.follow(python, f'redis://127.0.0.1:{port}/0')
-        wait = '[time.sleep(0.1) for _ in range(1000) if not c.pubsub_numpat()]; '
+        wait = '[time.sleep(0.1) for _ in range(6000) if not c.pubsub_numpat()]; '
         many = '*(b"I%d\\n." % number for number in range(900))'
         for word, name in (('rpush', 'right'), ('lpush', 'left')):
             self.ask(python, port, f'{wait}c.{word}("{name}", b"N.", {HOSTILE!r}, {many})')
@@ -184,7 +184,7 @@ class Follow(StoreCase):
         events = ('--notify-keyspace-events', 'EA')
         port = self.redis(0, *events)
         following = self.follow(python, f'redis://127.0.0.1:{port}/0')
-        wait = '[time.sleep(0.1) for _ in range(1000) if not c.pubsub_numpat()]; '
+        wait = '[time.sleep(0.1) for _ in range(6000) if not c.pubsub_numpat()]; '
         self.ask(python, port, f'{wait}c.set("first", {HOSTILE!r})')
         self.until(following, 'first')
         self.server.kill()

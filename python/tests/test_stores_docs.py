@@ -1,4 +1,4 @@
-"""The examples of docs/STORES.md: those with files in one folder, those with servers on real ones, on other ports."""
+"""The examples of docs/reference/stores.md: those with files in one folder, those with servers on real ones, on other ports."""
 
 from __future__ import annotations
 
@@ -19,7 +19,7 @@ from typing import Dict
 from scan_support import HARMLESS, HOSTILE, environment
 from stores_support import SECRET, StoreCase, python_with
 
-PAGE = Path(__file__).resolve().parents[2] / 'docs' / 'STORES.md'
+PAGE = Path(__file__).resolve().parents[2] / 'docs' / 'reference' / 'stores.md'
 
 
 class Hostile:
@@ -67,6 +67,7 @@ class Examples(StoreCase):
         self.file('caches/records.bin', b''.join(len(each).to_bytes(4, 'big') + each for each in (HARMLESS, HOSTILE, HARMLESS)))
         self.file('firmware.bin', b'\xff' * 5000 + HOSTILE + b'\xff' * 5000)
         self.check(' caches ', 1)
+        self.check(' caches/queue.db', 1)
         self.check("calls 'caches/queue.db > ", 1)
         self.check(' firmware.bin ', 1)
 

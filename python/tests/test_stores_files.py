@@ -661,10 +661,10 @@ class Bytes(ScanCase):
         self.assertIn('! : dbm.dumb: its index cannot be read to its end', notes_of(result))
 
     def test_an_index_that_is_one_long_text(self) -> None:
-        begin = time.monotonic()
+        begin = time.process_time()
         result = self.look_at_dumb(b"'a', (0, 10)\n" + b'\\"' * 500_000, HARMLESS)
         self.assertIn('! : dbm.dumb: its index cannot be read to its end', notes_of(result))
-        self.assertLess(time.monotonic() - begin, 20)
+        self.assertLess(time.process_time() - begin, 20)
 
     def test_several_values_of_a_key(self) -> None:
         """Berkeley DB keeps them in an item of another kind. dbm.ndbm writes none."""

@@ -4,6 +4,7 @@ from __future__ import annotations
 
 import dbm.dumb
 import pickle
+import random
 import resource
 import shutil
 import sqlite3
@@ -15,7 +16,7 @@ import zipfile
 import zlib
 from unittest import mock
 
-from picklestep.scan import Limits, Options, look
+from picklestep.scan import Limits, Options, look, look_at_bytes
 from scan_support import HARMLESS, HOSTILE, ScanCase, names_of, notes_of, places_of, python_with
 
 
@@ -175,6 +176,24 @@ class Lz4AndBlosc(ScanCase):
     def test_lz4_that_is_not_opened(self) -> None:
         with mock.patch.dict(sys.modules, {'lz4': None, 'lz4.frame': None}):
             self.assertIn('! : lz4: this kind of container is not opened', notes_of(self.look('a.pkl.lz4', LZ4)))
+
+    def test_chunks_of_lz4(self) -> None:
+        """`numcodecs.LZ4` writes the size and one block, which is the one that Blosc has. Python needs no package for it."""
+        chunk = (225).to_bytes(4, 'little') + BLOSC[24:]
+        result = self.look('0', chunk)
+        self.assertEqual((names_of(result), places_of(result), result.pickles[0].imports[0].count), (['posix.system'], ['(lz4 chunk)'], 9))
+        large = b'cposix\nsystem\n0' + bytes(range(256)) * 4096
+        length, last = divmod(len(large) - 271 - 5 - 19, 255)
+        packed = b'\xff\xff\x01' + large[:271] + b'\0\x01' + b'\xff' * length + bytes([last]) + b'\x50' + large[-5:]
+        self.assertEqual(self.look('0', len(large).to_bytes(4, 'little') + packed).pickles[0].where, ('(lz4 chunk)',))
+        for odd in (chunk[:-1], b'\xe0' + chunk[1:], chunk + b'N', chunk[:31] + b'\xff' + chunk[32:]):
+            self.assertNotIn(('(lz4 chunk)',), [pickle.where for pickle in self.look('0', odd).pickles])
+
+    def test_what_is_no_chunk_of_lz4(self) -> None:
+        chance = random.Random(75)
+        for _ in range(3000):
+            content = chance.choice((b'', bytes([chance.randrange(60), 0, 0, 0]))) + bytes(chance.choices(range(256), k=chance.randrange(40, 300)))
+            self.assertEqual(look_at_bytes('0', content).kinds, (), content)
 
     def test_blosc(self) -> None:
         self.assertIn('! 0 > (blosc chunk): import posix.system 9 times', self.scanned('numcodecs.blosc', '0', BLOSC))

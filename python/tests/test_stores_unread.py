@@ -12,10 +12,11 @@ import zipfile
 from pathlib import Path
 from typing import Dict, List
 
-from picklestep.scan import look, unread
+from picklestep import unread
+from picklestep.scan import look
 from picklestep.scan.blobs import BytesBlob
 from picklestep.scan.containers import CONTAINERS
-from picklestep.scan.unread import kind_of_file, kind_of_long, kind_of_short
+from picklestep.unread import kind_of_file, kind_of_long, kind_of_short
 from scan_support import HOSTILE, ScanCase, notes_of
 from stores_support import python_with
 

@@ -37,12 +37,12 @@ class AtATerminal(ScanCase):
             'no mark          files/good.pkl', ''])
 
     def test_the_table_of_the_page(self) -> None:
-        """docs/SCAN.md shows what these files give, which it tells its readers to make."""
+        """docs/reference/scan.md shows what these files give, which it tells its readers to make."""
         (self.folder / 'models').mkdir()
         (self.folder / 'models/a.pt').write_bytes((MODELS / 'torch_state.pt').read_bytes())
         self.file('models/b.pkl', HARMLESS)
         self.file('models/c.pkl', HOSTILE)
-        page = (Path(__file__).resolve().parents[2] / 'docs' / 'SCAN.md').read_text(encoding='utf-8')
+        page = (Path(__file__).resolve().parents[2] / 'docs' / 'reference' / 'scan.md').read_text(encoding='utf-8')
         shown = re.findall(r'(?m)^    (.*)$', page.partition('This is the table of')[2].partition('\n## ')[0])
         self.assertEqual(self.shown('models', COLUMNS='80')[:4], shown)
 

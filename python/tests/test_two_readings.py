@@ -23,7 +23,7 @@ import picklestep
 from picklestep.scan import Judge, look
 from picklestep.scan.blobs import BytesBlob
 from picklestep.scan.reach import reach_of
-from evasions import wrapper
+from evasions import ACROSS, DROPPED, LARGE, frame, tar_of_opcodes, wrapper
 from scan_support import HARMLESS, MODELS, ScanCase, names_of
 from test_scan_honest import Anything
 
@@ -51,29 +51,6 @@ def asks(path: str) -> bool:
         except Exception:
             return False
     return False
-
-
-def tar_of_opcodes(between: bytes, call: bytes = CALL) -> bytes:
-    """A tar archive in its form: a name and a group that are lengths of texts, so that `between` and the call are opcodes behind the header."""
-    skipped = 0x307e  # the group ends in these two bytes, and zeros follow
-    data = bytes(326 + skipped - 512) + between + call
-    header = tarfile.TarInfo('N0' * 48 + 'C\u07ff')
-    header.size, header.uname, header.gname, header.uid, header.gid, header.mtime = len(data), 'user', 'a' * 24 + 'B~0', 1000, 1000, 1_600_000_000
-    held = io.BytesIO()
-    with tarfile.open(fileobj=held, mode='w', format=tarfile.USTAR_FORMAT) as archive:
-        archive.addfile(header, io.BytesIO(data))
-    return held.getvalue()
-
-
-def frame(content: bytes) -> bytes:
-    return b'\x95' + struct.pack('<Q', len(content)) + content
-
-
-# A frame that the look ahead of a buffered file shows, and an argument reads across its end; and one that is larger than any buffer, whose rest
-# is dropped where an argument crosses its end.
-ACROSS = frame(b'X\x01\0') + b'\0\0a0'
-_LARGE = b'B' + struct.pack('<I', 300_000) + bytes(300_000) + b'0'
-DROPPED = frame(_LARGE + b'X\xff\xff') + b'\x01\0\0\0a0'
 
 
 class Containers(ScanCase):
@@ -258,7 +235,7 @@ class Frames(ScanCase):
 
     def test_a_mix_in_raw_numbers(self) -> None:
         """The numbers of joblib's array, to a loader that knows none: `calls` ends behind the last byte, and has no heading for the mix."""
-        dropped = frame(_LARGE + b'B\xff\xff') + b'\x01\0\0\0a0'
+        dropped = frame(LARGE + b'B\xff\xff') + b'\x01\0\0\0a0'
         across = frame(b'B\x01\0') + b'\0\0a0'
         names = b']\x94(\x8c\x05posix\x94\x8c\x06system\x94'
         for used, is_asked in ((b'h\1h\2\x93000', True), (b'N0N0N0\0', False)):
@@ -297,7 +274,7 @@ def _framed_at_random(chosen: random.Random) -> bytes:
     parts: List[bytes] = []
     for _ in range(chosen.randint(1, 4)):
         inner = chosen.choice((b'N0', b'X\x01\0\0\0a0', b'C\x03abc0', b"S'a'\n0", b'X\x03\0\0\0', b'C\x09', b'B\x04\0\0\0', b'I1\n0', b'\x8c\x02a'))
-        large = _LARGE if chosen.random() < 0.3 else b''
+        large = LARGE if chosen.random() < 0.3 else b''
         length = len(large + inner) + chosen.randint(-4, 6)
         parts.append(b'\x95' + struct.pack('<Q', max(0, length)) + large + inner + chosen.choice((b'', b'\0\0a0', b'aaa0', b'N0', b"'\n0", b'\n0')))
     return b''.join(parts) + CALL

@@ -1,4 +1,4 @@
-"""The examples of docs/USING.md that are typed into a terminal."""
+"""The examples of docs/reference that are typed into a terminal."""
 
 from __future__ import annotations
 
@@ -10,9 +10,9 @@ from pickles import ROOT
 _HEX = re.compile(r'\$ echo ([0-9a-f]+) \| xxd -r -p > (\S+)')
 
 
-def blocks(heading: str) -> List[List[str]]:
-    """The examples under a heading of docs/USING.md, by their lines."""
-    text = (ROOT / 'docs' / 'USING.md').read_text(encoding='utf-8').partition(f'\n## {heading}\n')[2].partition('\n## ')[0]
+def blocks(name: str) -> List[List[str]]:
+    """The examples of a page of docs/reference, by their lines."""
+    text = (ROOT / 'docs' / 'reference' / f'{name}.md').read_text(encoding='utf-8')
     return [[line[4:] for line in block.splitlines()] for block in re.findall(r'(?:^    .*\n)+', text, re.MULTILINE)]
 
 

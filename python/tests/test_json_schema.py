@@ -1,0 +1,117 @@
+"""The schema of the lines of JSON: what is printed fits it, and nothing else does; it has the kinds and fields of docs/reference/json.md."""
+
+from __future__ import annotations
+
+import json
+import random
+import re
+import subprocess
+import textwrap
+import unittest
+from typing import Any, Dict, Iterator, Set
+
+from json_schema import assert_fit, faults
+from picklestep.place import find_program, is_module
+from picklestep.tasks import Asked
+from pickles import ROOT, chosen, real_pickles
+from scan_support import python_with
+
+FILE = ROOT / 'share' / 'picklestep-lines.schema.json'
+SCHEMA = json.loads(FILE.read_text('ascii'))
+PAGE = (ROOT / 'docs' / 'reference' / 'json.md').read_text('utf-8')
+ASKED = ('list --many', 'list --unframed', 'form', 'reach', 'reach --extensions --persistent-ids --buffers', 'calls --full', 'calls --first', 'calls --memo kept',
+         'calls --skip 3:9')
+
+
+def pickles() -> Iterator[bytes]:
+    """The real ones, those of the rows of `calls`, and such with other bytes at random places."""
+    rows = re.findall(r'^pickle (.*)$', (ROOT / 'equipment' / 'calls.txt').read_text('ascii'), re.MULTILINE)
+    found, chance = [*real_pickles().values(), *map(bytes.fromhex, rows)], random.Random(85)
+    yield from found
+    for _ in range(200):
+        data, at = chance.choice(found)[:500], chance.randrange(100)
+        yield data[:at] + bytes(chance.randrange(256) for _ in range(chance.randrange(1, 9))) + data[at + chance.randrange(3):]
+
+
+def values_in(given: Any) -> Iterator[Dict[str, Any]]:
+    """The objects within."""
+    for each in given.values() if isinstance(given, dict) else given if isinstance(given, list) else ():
+        yield from [each] if isinstance(each, dict) else []
+        yield from values_in(each)
+
+
+def may_lack(name: str, given: Dict[str, Any]) -> bool:
+    return (name in ('mark', 'more', 'keywords', 'text') or name.endswith('_more') or (name, given['kind']) == ('memo', 'opcode')
+            or name == 'protocol' and given['how'] == 'fault')
+
+
+def named() -> Set[str]:
+    """The kinds that the page names, each behind its word."""
+    found = {f'{word}-{kind}' for word, text in re.findall(r'^## (list|form|reach)\b(.*?)(?=^## )', PAGE, re.MULTILINE | re.DOTALL)
+             for kind in re.findall(r'`{"kind":"(\w+)",\.\.}`', text)}
+    calls = PAGE.partition('\n## calls\n')[2].partition('\n## ')[0]
+    for word, text in (('calls', calls.partition('**Texts.**')[0]), ('value', calls.partition('**Operands.**')[2])):
+        found |= {f'{word}-{kind}' for row in re.findall(r'^\| (`.*?) \|', text, re.MULTILINE) for kind in re.findall('`([a-z-]+)`', row)}
+    return found
+
+
+def form_of(line: str) -> str:
+    """What is the same in lines that differ in texts and digits alone."""
+    return re.sub('[0-9]', '0', re.sub(r'("(?:argument|module|name|for_module|for_name|line|value)": ?)"(?:[^"\\\\]|\\\\.)*"', r'\1""', line))
+
+
+class Lines(unittest.TestCase):
+    """Of lines of one form one is tried."""
+
+    printed: Dict[str, Dict[str, str]]
+
+    @classmethod
+    def setUpClass(cls) -> None:
+        cls.printed = {'list': {}, 'form': {}, 'reach': {}, 'calls': {}, 'value': {}}
+        for data in chosen(pickles(), 30):
+            with Asked(data, None, None, is_opened=False) as asked:
+                for words in ASKED:
+                    word, *options = words.split()
+                    for line in asked.answer([word, '--json', *options]).splitlines():
+                        cls.printed[word].setdefault(form_of(line), line)
+        for line in cls.printed['calls'].values():
+            cls.printed['value'].update((form_of(text), text) for text in map(json.dumps, values_in(json.loads(line))))
+
+    def test_each_line_fits(self) -> None:
+        for word, lines in self.printed.items():
+            assert_fit(self, FILE, list(lines.values()), f'#/definitions/{word}')
+
+    def test_no_other_line_fits(self) -> None:
+        for word, lines in self.printed.items():
+            for line in {(given['kind'], given.get('how'), *given): line for line, given in ((line, json.loads(line)) for line in lines.values())}.values():
+                given = json.loads(line)
+                others = [({**given, name: other}, False) for name in given for other in (1.5, {})] + [({**given, 'other': 1}, False)]
+                others += [({key: given[key] for key in given if key != name}, may_lack(name, given)) for name in given]
+                for other, fits in others:
+                    self.assertEqual(not any(faults({'$ref': f'#/definitions/{word}'}, other, whole=SCHEMA)), fits, (line, other))
+
+    def test_kinds_and_fields(self) -> None:
+        self.assertEqual({name for name in SCHEMA['definitions'] if re.match('(?:list|form|reach|calls|value)-', name)}, named())
+        found = {f'{word}-{json.loads(line)["kind"]}' for word, lines in self.printed.items() for line in lines.values()}
+        self.assertEqual(found - named(), set())
+        if not is_module(find_program()):  # (where it is, there are fewer pickles)
+            self.assertEqual(found, named())
+        for name, kind in SCHEMA['definitions'].items():
+            for field, given in kind.get('properties', {}).items():
+                with self.subTest(name, field=field):
+                    self.assertRegex(SCHEMA['definitions'].get(given.get('$ref', '').rpartition('/')[2], given)['description'], r'^[A-Z].*\.$')
+                    self.assertIn(f'`{re.sub("^(?:for_module|for_name|name|line|value)_", "module_", field).replace("_more", "")}`', PAGE)
+
+    def test_example(self) -> None:
+        """The lines of Python on the page."""
+        code = re.findall(r'(?:^    .*\n)+', PAGE.partition('\n## The schema\n')[2], re.MULTILINE)[0]
+        python, lines = python_with('jsonschema'), list(self.printed['calls'].values())[:50]
+        if python is None:
+            self.skipTest('there is no jsonschema (python3-jsonschema)')
+        for given, status in ((lines, 0), ([*lines, '{"kind":"end","status":"0"}'], 1)):
+            run = subprocess.run([python, '-c', textwrap.dedent(code)], cwd=ROOT, input='\n'.join(given), text=True, capture_output=True, check=False)
+            self.assertEqual(run.returncode, status, run.stderr)
+
+
+if __name__ == '__main__':
+    unittest.main()
