@@ -1,4 +1,4 @@
-"""Prints tables as docs/MEASURED.md has them: rows with bars, from standard input, as columns of text. All else stays as it is."""
+"""Prints tables as docs/why/measured.md has them: rows with bars, from standard input, as columns of text. All else stays as it is."""
 
 from __future__ import annotations
 

@@ -27,6 +27,8 @@ AS_LONG = {'a': 1.3, 'b': 1.3, 'c': 0.8, 'e': 1.1}
 FASTER, BYTES_AN_OPCODE, AS_COPY = 80, 2.6, 2.5
 # how many times as long as `objects` `calls` may take
 AS_OBJECTS = 1.5
+# how many times the instructions of `list` `list --json` may take
+AS_LIST = 2.2
 # the most memory on 256 MiB of one-byte opcodes
 MOST_MEMORY = 700_000_000
 # instructions are counted on files of a twenty-fifth of the size
@@ -202,6 +204,15 @@ def called_row(folder: str, program: str, letter: str, what: str, write: Writer,
         letter, what, calls / opcodes, objects / opcodes, growth, ours.seconds, theirs.seconds, longer, verdict(good))
 
 
+def lines_row(folder: str, program: str, letter: str, what: str, write: Writer, count: int) -> str:
+    """A line of the table of `list --json` against `list`."""
+    path = made(folder, letter, write, count)
+    opcodes, lines, listing = opcodes_of(path), instructions([program, 'list', '--json', path]), instructions([program, 'list', path])
+    factor = lines / listing
+    return '| (%s) %s | %.0f | %.0f | %.2f | %s | %s |' % (
+        letter, what, lines / opcodes, listing / opcodes, factor, AS_LIST, verdict(factor <= AS_LIST))
+
+
 def long_string(folder: str, program: str, count: int) -> str:
     """What is said of one long string, against a copy of the listing's own text."""
     path, listed = made(folder, 'd', one_string, count), os.path.join(folder, 'listed')
@@ -268,6 +279,10 @@ def main() -> None:
         print('|---|---|---|---|---|---|---|---|')
         for letter, what, write, count in [*FILES, ('r', 'REDUCE again and again', calls, CALLED)]:
             print(called_row(folder, program, letter, what, write, int(count * scale)), flush=True)
+        print('\n| `list --json`: instructions for each opcode | lines of JSON | list | times as many | bar | |')
+        print('|---|---|---|---|---|---|')
+        for letter, what, write, count in FILES:
+            print(lines_row(folder, program, letter, what, write, int(count * scale * SMALL)), flush=True)
         print('\n| `list --many` | small pickles | list | twice as many | in instructions | memory, MB | bytes a pickle beside the file | |')
         print('|---|---|---|---|---|---|---|---|')
         print(several_row(folder, program, 's', '`N.` again and again', small_pickles, int(SEVERAL * scale)), flush=True)

@@ -41,5 +41,5 @@ with picklestep.Session(HOSTILE) as session:
 print(f'listing of a million opcodes: {shortest(3, lambda: picklestep.listing(MILLION)):.2f} s')
 answer = picklestep.listing(MILLION)
 print(f'each of its opcodes, once: {shortest(3, lambda: sum(1 for _ in answer)):.2f} s')
-kept = sys.getsizeof(answer.text) + sys.getsizeof(answer._starts)
+kept = sys.getsizeof(answer.json) + sys.getsizeof(answer._starts)
 print(f'kept: {kept / len(answer):.0f} bytes an opcode')

@@ -89,7 +89,8 @@ static uint8_t ask_with(const char *task, memory given, memory out, picklestep_w
     if (begins(task, "objects"))
         return picklestep_objects_with(o.options, given.bytes, given.size, out.bytes, out.size, written);
     if (begins(task, "calls"))
-        return picklestep_calls_with(o.options, o.holes, o.count, given.bytes, given.size, out.bytes, out.size, written);
+        return (strstr(task, " --json") ? picklestep_calls_json : picklestep_calls_with)(o.options, o.holes, o.count, given.bytes, given.size, out.bytes,
+                                                                                         out.size, written);
     if (begins(task, "debug"))
         return picklestep_debug_with(o.options, given.bytes, given.size, script.bytes, script.size, out.bytes, out.size, written);
     fputs("there is no such task\n", stderr);
@@ -145,7 +146,7 @@ static uint8_t ask_reach(const char *task, memory given, memory out, picklestep_
     for (size_t i = 0; i < sizeof GRANTED / sizeof *GRANTED; i++)
         if (strstr(task, GRANTED[i].word))
             granted |= GRANTED[i].granted;
-    return picklestep_reach(granted, given.bytes, given.size, out.bytes, out.size, written);
+    return (strstr(task, " --json") ? picklestep_reach_json : picklestep_reach)(granted, given.bytes, given.size, out.bytes, out.size, written);
 }
 
 // A task is asked of the function without options where there is one.
@@ -168,6 +169,8 @@ static uint8_t ask(const char *task, memory given, memory out, picklestep_writte
         return picklestep_form(given.bytes, given.size, out.bytes, out.size, written);
     if (!strcmp(task, "members"))
         return picklestep_members(given.bytes, given.size, out.bytes, out.size, written);
+    if (!strcmp(task, "form --json"))
+        return picklestep_form_json(given.bytes, given.size, out.bytes, out.size, written);
     if (begins(task, "gate "))
         return ask_gate(task + strlen("gate "), given, out, written);
     if (begins(task, "reach"))

@@ -10,6 +10,7 @@ const TASKS = {
     'calls --first': ['picklestep_calls_first'],
     'calls --memo kept': ['picklestep_calls_one_memo'],
     'form': ['picklestep_form'],
+    'form --json': ['picklestep_form_json'],
     'members': ['picklestep_members'],
     'debug': ['picklestep_debug', 0],
     'debug --many': ['picklestep_debug', 1],
@@ -30,10 +31,8 @@ function asked(task, library) {
         return ['picklestep_gate', place, BigInt(list.length)];
     }
     const words = task.split(' '), sum = (values) => words.map((word) => values[word] ?? 0).reduce((all, one) => all | one);
-    if (words[0] === 'reach') return ['picklestep_reach', sum(GRANTED)];
-    const options = sum(OPTIONS);
-    if (words.includes('--json')) return [`picklestep_${words[0]}_json`, options];
-    const name = `picklestep_${words[0]}_with`;
+    const options = sum(words[0] === 'reach' ? GRANTED : OPTIONS);
+    const name = `picklestep_${words[0]}${words.includes('--json') ? '_json' : words[0] === 'reach' ? '' : '_with'}`;
     if (words[0] !== 'calls') return [name, options];
     const holes = words.filter((_, at) => words[at - 1] === '--skip').flatMap((hole) => hole.split(':').map(BigInt));
     const place = library.take(BigInt(8 * holes.length + 1));

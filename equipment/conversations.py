@@ -31,7 +31,7 @@ START = re.compile(r" *(pickles?|unframed)((?: [0-9a-f]+)*)")
 TYPED = re.compile(r" *(\$) echo '([0-9a-f ]+)' \| xxd -r -p >a\.pickle")
 # the same in one line, where the answer is one line
 ROW = re.compile(r"(form|list|calls|members)((?: [0-9a-f]+)*): (.+)")
-WORD = re.compile(r"\$ (?:picklestep (\w+) a\.pickle(?: --save b\.pickle)?((?: [\w-]+)*)|xxd -p b\.pickle|(.*))")
+WORD = re.compile(r"\$ (?:(?:\./)?picklestep (\w+) a\.pickle(?: --save b\.pickle)?((?: [\w-]+)*)|xxd -p b\.pickle|(.*))")
 OPTIONS: dict[str, list[str]] = {"pickle": [], "pickles": ["--many"], "unframed": ["--unframed"]}
 # the lines with which a command has status 1
 REFUSED = ("refused: ", "fault: ")
@@ -164,7 +164,7 @@ def status_of(word: str, answer: list[str]) -> int:
 
 
 def run(program: str, words: list[str], script: bytes) -> tuple[Done, str]:
-    done = subprocess.run([program, *words], input=script, capture_output=True, timeout=120)
+    done = subprocess.run([program, *words], input=script, capture_output=True, timeout=600)
     if done.stderr:
         return done, f"errors, which begin: {done.stderr[:200]!r}"
     return done, ""

@@ -26,7 +26,8 @@ from pathlib import Path
 
 ROOT = Path(__file__).resolve().parent.parent
 SECOND = os.sysconf("SC_CLK_TCK")
-ROOM_OF_EDITS = re.compile(r"/rt-edits-\d+-[^/]*/(\w+)$")  # (where the work is that a check of an edit starts from)
+# Where the work is that a check of an edit starts from: in kit 13f a folder for each edit, in 13b one for all edits of a crate.
+ROOM_OF_EDITS = re.compile(r"/rt-edits-[^/]+(?:/(\w+))?$")
 ROOM_OF_EDIT = re.compile(r"/rt-edit-")  # (the copy of the crate that an edit is made in)
 CHECKED = re.compile(r"checked (.*), \d+ of \d+")  # (a line of `rattle check --progress`)
 BETWEEN = "between two looks"
@@ -78,6 +79,8 @@ def task_of(process: Process) -> str | None:
     crate = words[words.index("--crate-name") + 1]
     start = words[words.index("--incremental") + 1] if "--incremental" in words[:-1] else ""
     room = ROOM_OF_EDITS.search(start)
+    if room and room[1] is None:
+        return f"edits of {crate}, and their base"
     if room and room[1] == "seed":
         return f"base of the edits of {crate}"
     if room and room[1].isdigit():
@@ -117,7 +120,7 @@ class Costs:
     def _note(self, pid: int, process: Process) -> None:
         if process.words:  # (a process that has ended and that its parent has not asked for yet has none: its name stays)
             above = self.names.get(process.parent, "")
-            of_check = above.startswith(("proof of ", "tests of ", "edit of ", "base of "))
+            of_check = above.startswith(("proof of ", "tests of ", "edit of ", "edits of ", "base of "))
             self.names[pid] = task_of(process) or (above if of_check else other_task_of(process))
         self.seen[pid] = process.seconds
         self.parents[pid] = process.parent
@@ -153,9 +156,7 @@ def watch(costs: Costs) -> None:
 def check(crate: str) -> tuple[float, dict[str, float]]:
     """Checks a crate over what is kept of it. Returns processor seconds, and the seconds of the wall of each function that was checked."""
     folder, before = ROOT / "crates" / crate, resource.getrusage(resource.RUSAGE_CHILDREN)
-    started = subprocess.Popen(
-        ["rt", "check", "--jobs", "1", "--progress"], cwd=folder, stdout=subprocess.PIPE, stderr=subprocess.STDOUT, text=True
-    )
+    started = subprocess.Popen(["rt", "check", "--jobs", "1", "--progress"], cwd=folder, stdout=subprocess.PIPE, stderr=subprocess.STDOUT, text=True)
     last, functions = time.monotonic(), {}
     assert started.stdout is not None
     for line in started.stdout:

@@ -92,7 +92,7 @@ def counts(data: bytes, listing: str) -> Tuple[int, int]:
 
 def fault_of(program: str, pickle: pathlib.Path, listing: str, imports: int, calls: int) -> str:
     status = int(re.search(r"^(refused|fault|kept): ", listing, re.MULTILINE) is not None or pickle.stem in WARNED)
-    done = subprocess.run([program, "calls", "--first", str(pickle)], capture_output=True, timeout=120)
+    done = subprocess.run([program, "calls", "--first", str(pickle)], capture_output=True, timeout=600)
     if done.stderr or done.returncode != status:
         return f"status {done.returncode} and not {status}, with errors that begin: {done.stderr[:200]!r}"
     said = re.findall(rb"^\d+ imports, \d+ calls$", done.stdout, re.MULTILINE)

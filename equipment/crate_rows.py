@@ -1,7 +1,6 @@
 """Looks for the rows of the crates of tests in the tables here.
 
-These crates try what no text shows: devices, memory, the way back. Their files say of the rest, what is answered, that it is judged from outside. So
-each of their rows has to be in conversations.txt, texts.txt or calls.txt, with a question whose answer shows it.
+These crates try what no text shows. What is answered is judged from outside: each of their rows is in one of the tables, with a question about it.
 """
 
 from __future__ import annotations
@@ -61,10 +60,6 @@ def shows_object(block: Block) -> bool:
     return any(line.startswith("show ") for line in block.script)
 
 
-def shows_refusal(block: Block) -> bool:
-    return any(answer.startswith("refused: C3 ") for answer in block.answers)
-
-
 def writes(*commands: str) -> Callable[[Block], bool]:
     return lambda block: any(command.split()[0] in commands for command in block.written)
 
@@ -80,10 +75,7 @@ class Rows:
 
 
 ROWS = (
-    Rows("unit_tests/src/machine/rows.rt", ("WORKED", "FURTHER"), shows_state),
     Rows("unit_tests/src/machine/rows.rt", ("SEVERAL",), shows_state, many=True),
-    Rows("unit_tests/src/machine.rt", ("REFUSED",), shows_refusal),
-    Rows("unit_tests/src/machine.rt", ("REFUSED_OF_SEVERAL",), shows_refusal, many=True),
     Rows("document_tests/src/texts.rt", ("SHOWN",), shows_object),
     Rows("script_tests/src/texts.rt", ("ONE",), writes("list", "objects")),
     Rows("script_tests/src/texts.rt", ("SEVERAL",), writes("list", "objects"), many=True),

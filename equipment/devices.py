@@ -80,7 +80,7 @@ class Devices:
         environment = dict(os.environ, LD_PRELOAD=str(self.library()), DEVICES=str(self.count))
         environment.update({name: str(value) for name, value in breaks.items()})
         with open(self.folder / "script", "rb") as given:
-            done = subprocess.run([self.program, *words], stdin=given, capture_output=True, timeout=60, env=environment)
+            done = subprocess.run([self.program, *words], stdin=given, capture_output=True, timeout=600, env=environment)
         reads, writes, again = (int(part.split()[0]) for part in self.count.read_text().split(","))
         return done, reads, writes, again
 
@@ -171,7 +171,7 @@ class Devices:
             self.broken += 1
             cut = self.folder / "cut.pickle"
             cut.write_bytes(BY_MEMO[0][: 2 * (number - 1)])
-            wanted = subprocess.run([self.program, "list", str(cut)], capture_output=True, timeout=60)
+            wanted = subprocess.run([self.program, "list", str(cut)], capture_output=True, timeout=600)
             if (done.stdout, done.returncode, done.stderr) != (wanted.stdout, wanted.returncode, b""):
                 return f"emptied before read {number}, the output is {done.stdout!r}, status {done.returncode}"
         return ""

@@ -64,7 +64,7 @@ HEADING = re.compile(r"^a loader .*may go on:$", re.M)
 # (a STOP inside a frame, where the strict lines end and `objects` goes on)
 UNSURE_LINE = re.compile(r"^unsure: U[12] .*\n", re.M)
 MIXED_LINE = re.compile(r"^unsure: U3 .*\n\Z", re.M)
-WARNING_LINE = re.compile(r"^warning: #\d+ leads to the unpickler\n", re.M)
+WARNING_LINE = re.compile(r"^warning: #\d+ .*\n", re.M)
 CALL_LINE = re.compile(r"^ *\d+: (?:inst|call|new|state|append|set|add) ", re.M)
 WHERE = re.compile(r"at (\d+) of (\d+), offset (\d+), buffers (\d+), result (none|#\d+(?: #\d+)*), end (.*)")
 VIEW = "where\nitems\nstack\nmemo\nobjects\n"
@@ -409,7 +409,7 @@ class Case:
             answered = self.library.answers([*words, *self.options], script.encode())
             if "--save" not in words:
                 return answered[0].decode(), answered[1]
-        done = subprocess.run([self.program, *words, *self.options], input=script.encode(), capture_output=True, timeout=100)
+        done = subprocess.run([self.program, *words, *self.options], input=script.encode(), capture_output=True, timeout=600)
         if done.returncode not in (0, 1) or done.stderr:
             raise Broken(f"status {done.returncode}, errors {done.stderr[:200]!r}, words {words}, script {script!r}")
         if answered not in (None, (done.stdout, done.returncode)):

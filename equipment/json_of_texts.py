@@ -1,16 +1,16 @@
 """What `--json` has to print, made of the text that the program prints without it: one object for each line of JSON.
 
-The texts are those of docs/USING.md, and the kinds and fields those of docs/JSON.md. Nothing but tests reads texts so.
+The texts are those of docs/reference/common.md, and the kinds and fields those of docs/reference/json.md. Nothing but tests reads texts so.
 """
 
 from __future__ import annotations
 
 import re
 from collections.abc import Iterator
-from typing import Union
+from typing import Dict, Union
 
 Value = Union[int, str, bool]
-Fields = dict[str, Value]
+Fields = Dict[str, Value]  # (the package's tests import this in older versions)
 
 QUOTED = r"'(?:[^'\\]|\\.)*'"
 # (the names of opcodes are in capitals; behind the argument stands what the opcode says besides)
@@ -25,6 +25,11 @@ ESCAPE = re.compile(r"\\(?:x([0-9a-f]{2})|(.))")
 # From here on a number is printed as text: a reader that takes it for a double would round it.
 EXACT = 2**53
 NAMES = {"MARK at": "mark", "as": "memo"}
+OTHER_FORM = re.compile(r"not in form: item (\d+) at (\d+): (.*)\n")
+NOTHING_REACHED = re.compile(r"nothing reached: every loader ends by (\d+)(, whatever follows)?\n")
+REACHED = re.compile(rf"reached at (\d+): ([A-Z][A-Z0-9_]*)(?: ({QUOTED}(?: {QUOTED})?|\d+))?\n")
+# What opcodes reach, but for imports.
+REACHES = {"EXT1": "extension", "EXT2": "extension", "EXT4": "extension", "PERSID": "persistent", "BINPERSID": "persistent", "NEXT_BUFFER": "buffer"}
 # The faults of frames.
 OF_FRAMES = ("F6", "F7", "F8")
 
@@ -97,3 +102,23 @@ def of_listing(text: str) -> Iterator[Fields]:
         else:
             closing.append(line)
     yield of_end(closing)
+
+
+def of_reach(text: str) -> Fields:
+    """The object of what is reached. Which loader reaches it no text says."""
+    fields: Fields = {"kind": "end"}
+    if nothing := NOTHING_REACHED.fullmatch(text):
+        return {**fields, "how": "nothing", "offset": whole(nothing[1]), "whatever_follows": nothing[2] is not None}
+    if reached := REACHED.fullmatch(text):
+        offset, name, argument = reached.groups()
+        return {**fields, "how": "reached", "offset": whole(offset), "opcode": name, **(of_argument(argument) if argument else {}),
+                "reach": REACHES.get(name, "import")}
+    return {**fields, "how": "too_many_ways"}
+
+
+def of_form(text: str) -> Fields:
+    """The object of the form. What its reason is named no text says."""
+    other = OTHER_FORM.fullmatch(text)
+    if other is None:
+        return {"kind": "end", "how": "in_form"}
+    return {"kind": "end", "how": "other_form", "item": whole(other[1]), "offset": whole(other[2]), "words": other[3]}

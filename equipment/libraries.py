@@ -1,4 +1,4 @@
-"""Tries the library in each of its forms: each answer is, byte for byte, what the program prints. The examples of docs/LIBRARY.md run.
+"""Tries the library in each of its forms: each answer is, byte for byte, what the program prints. The examples of docs/reference/library.md run.
 
 One form gets all rows and real pickles: the shared library for x86-64, which the package asks. The others get a sample (sample.py).
 """
@@ -32,15 +32,22 @@ TASKS = (
     ("calls", "--first"),
     ("calls", "--memo", "kept"),
     ("form",),
+    ("form", "--json"),
     ("debug",),
     ("debug", "--many"),
     # (these are asked of the functions with options)
     ("list", "--unframed"),
     ("list", "--json"),
+    ("list", "--many", "--json"),
     ("list", "--many", "--unframed", "--json"),
     ("objects", "--many", "--unframed"),
     ("calls", "--full"),
+    ("calls", "--skip", "3:2"),
     ("calls", "--memo", "kept", "--skip", "3:2", "--skip", "9:40"),
+    ("calls", "--json"),
+    ("calls", "--first", "--json"),
+    ("calls", "--full", "--json", "--skip", "3:2"),
+    ("calls", "--memo", "kept", "--json", "--skip", "3:2", "--skip", "9:40"),
     ("debug", "--unframed"),
 )
 # What no function takes: options of another one, or that do not go together; holes that overlap, or end where no file does.
@@ -52,6 +59,9 @@ NO_TASKS = (
     ("session", "--window", "1000001"),
     ("calls", "--first", "--memo", "kept", "--full"),
     ("calls", "--unframed"),
+    ("calls", "--unframed", "--json"),
+    ("calls", "--json", "--first", "--memo", "kept"),
+    ("calls", "--json", "--skip", "5:2", "--skip", "6:1"),
     ("calls", "--skip", "5:2", "--skip", "6:1"),
     ("calls", "--skip", "5:2", "--skip", "3:1"),
     ("calls", "--skip", "1:4611686018427387904"),
@@ -69,6 +79,7 @@ OF_STOPS = {1: b"picklestep: out of memory\n", 2: b"picklestep: too large\n", 4:
 SEED_OF_LAWS, CASES_OF_LAWS = 2, 400
 LIMITS = (1, 1 << 16, 1 << 20, 4 << 20, 8 << 20)
 LARGE = 300_000  # strings, with which no task has enough
+STEPS, LIMIT_OF_STEPS = 100_000, 7 << 20  # (so much memory has a session that keeps few records of its steps enough of, and one that keeps all not)
 EXAMPLE_OF_SESSION = b"edited 2\nat 4\nstack #0 #2\n0 #2 tuple (#1)\n1 #1 text 'safe'\n"
 EXAMPLE = b"    0: import 'posix' 'system' as #0\n   23: call 'posix' 'system' ('id') as #3\n1 imports, 1 calls\n"
 
@@ -85,7 +96,7 @@ class Libraries(Machines):
     def call(self, *words: "str | Path", given: bytes = b"", **environment: str) -> bytes:
         """What a command prints. One that fails is a fault of the trial."""
         self.folder.mkdir(parents=True, exist_ok=True)
-        done = subprocess.run([str(word) for word in words], cwd=self.folder, input=given, capture_output=True, timeout=900, env=environment or None)
+        done = subprocess.run([str(word) for word in words], cwd=self.folder, input=given, capture_output=True, timeout=3600, env=environment or None)
         if done.returncode != 0:
             raise OSError(f"{Path(str(words[0])).name}: status {done.returncode}, {beginning(done.stderr)}")
         return done.stdout
@@ -157,7 +168,7 @@ class Libraries(Machines):
     @functools.cached_property
     def of_reach(self) -> list[Asked]:
         """The bytes of the trial of what is reached."""
-        return self.in_files("reach", ((("reach", *case.options), case.given) for case in REACHES))
+        return self.in_files("reach", ((("reach", *case.options, *json), case.given) for case in REACHES for json in ((), ("--json",))))
 
     @functools.cached_property
     def of_members(self) -> list[Asked]:
@@ -219,8 +230,8 @@ class Libraries(Machines):
     # --- The page ---
 
     def example(self, language: str) -> str:
-        """The code of a section of docs/LIBRARY.md."""
-        page = (self.root / "docs/LIBRARY.md").read_text(encoding="utf-8")
+        """The code of a section of docs/reference/library.md."""
+        page = (self.root / "docs/reference/library.md").read_text(encoding="utf-8")
         section = page.partition(f"\n## {language}\n")[2].partition("\n## ")[0]
         code = max(re.findall(r"(?:^(?:    .*)?\n)+", section, re.M), key=len)
         return re.sub("^    ", "", code, flags=re.M)
@@ -293,6 +304,16 @@ def limits(libraries: Libraries, way: str) -> str:
     return libraries.compare_answers(runs, libraries.asked(command, runs)).why
 
 
+def keeps_a_window(libraries: Libraries) -> str:
+    """A session keeps as many records as its window has, and all where it has none."""
+    libraries.folder.mkdir(parents=True, exist_ok=True)
+    file = libraries.folder / "steps.pickle"
+    file.write_bytes(b"N0" * (STEPS // 2) + b"N.")
+    runs = [Asked(words, file, b"step\n" * STEPS) for words in (("session", "--window", "1"), ("session",))]
+    lacking = [b"refused: M" in found.output for found in libraries.asked(libraries.static(), runs, LIMIT_OF_STEPS)]
+    return "" if lacking == [False, True] else f"memory runs out with a window, and without: {lacking}"
+
+
 def fuzzed(libraries: Libraries) -> Noted:
     """The laws of fuzz.py, of the library in its process. The seed is always the same, and another than that of the program's."""
     fuzz = (sys.executable, "-B", libraries.root / "equipment/fuzz.py", libraries.program, libraries.folder / "fuzz")
@@ -308,9 +329,9 @@ def too_large(libraries: Libraries) -> str:
     file = libraries.folder / "too_large.pickle"
     with file.open("wb") as opened:
         opened.truncate((1 << 30) + 1)
-    found = list(libraries.asked(libraries.static(), [Asked(("calls",), file)]))
+    found = list(libraries.asked(libraries.static(), [Asked(words, file) for words in (("calls",), ("list", "--json"))]))
     file.unlink()
-    return "" if found == [Answer(2, b"", OF_STOPS[2])] else str(found)
+    return "" if found == [Answer(2, b"", OF_STOPS[2])] * 2 else str(found)
 
 
 def example(libraries: Libraries, language: str, name: str, build: Callable[[Libraries, Path, Path], None], wanted: bytes = EXAMPLE) -> str:
@@ -367,6 +388,7 @@ ROWS: list[tuple[str, Callable[[Libraries], "str | Noted"]]] = [
     *((f"the library, {WAYS[way]}: what is reached", functools.partial(compared, way=way, kind="of_reach")) for way in (WHOLE, "arm", "module")),
     *((f"the library, {WAYS[way]}: members of archives", functools.partial(compared, way=way, kind="of_members")) for way in (WHOLE, "arm", "module")),
     *((f"the library, {WAYS[way]}: options of no task", functools.partial(no_tasks, way=way)) for way in (WHOLE, "module")),
+    ("the library: a window keeps few records", keeps_a_window),
     ("the library: random pickles and scripts", fuzzed),
     *((f"the library, {WAYS[way]}: out of memory is an answer", functools.partial(limits, way=way)) for way in ("static", "shared", "musl", "arm")),
     ("the library: too large is an answer", too_large),

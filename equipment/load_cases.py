@@ -300,33 +300,42 @@ def wide(seed: int, count: int) -> Iterator[bytes]:
         yield b"".join(framed(chance, maker.opcodes, odd) if chance.random() < 0.7 else maker.opcodes)
 
 
+# What stands in a frame that is crossed. The last is larger than what C asks a file for at once (and one opcode, since Python's unpickler is slow).
+BODIES = [b"N0" * 5, b"N0" * 300, b"N0" * 300, b"N0" * 5000, b"B" + struct.pack("<I", 140000) + bytes(140000) + b"0"]
+
+
 def _crossed(chance: random.Random) -> bytes:
     """A frame that is crossed. To go on, a loader takes the first kind as from bytes and the second as a buffer; the third is no frame."""
     how = chance.randrange(3)
     if how == 0:
         return b"\x95" + struct.pack("<Q", 3) + b"NX\x01\0\0\0a00"
     if how == 1:
-        body = b"N0" * chance.choice([5, 300, 300, 5000, 70000]) + b"X\xff\xff\xff"
+        body = chance.choice(BODIES) + b"X\xff\xff\xff"
         return b"\x95" + struct.pack("<Q", len(body)) + body + b"\x01\0\0\0a0"
     return b"c" + chance.choice(MODULES) + b"\n" + chance.choice(MEMBERS) + b"\n" + chance.choice([b"0", b")R0", b"q\x00Na0"])
 
 
-def mixed(seed: int, count: int) -> Iterator[bytes]:
-    """Pickles whose frames are crossed on purpose, with acts between."""
+def _mixed(chance: random.Random) -> bytes:
+    parts = []
+    for _ in range(chance.choice([1, 2, 3, 4])):
+        parts.append(_crossed(chance))
+        if chance.random() < 0.2:
+            parts.append(b"B" + struct.pack("<I", 500) + bytes(500) + b"0")
+    return b"".join(parts) + b"clast\nact\n)R."
+
+
+def mixed(seed: int, count: int, most: int = 1) -> Iterator[bytes]:
+    """Rows of pickles, up to so many, whose frames are crossed on purpose, with acts between."""
     chance = random.Random(f"mixed {seed}")
     for _ in range(count):
-        parts = []
-        for _ in range(chance.choice([1, 2, 3, 4])):
-            parts.append(_crossed(chance))
-            if chance.random() < 0.2:
-                parts.append(b"B" + struct.pack("<I", 500) + bytes(500) + b"0")
-        yield b"".join(parts) + b"clast\nact\n)R."
+        yield b"".join(_mixed(chance) for _ in range(chance.choice(range(1, most + 1))))
 
 
 # What brings something from elsewhere, in all ways.
 FIRST_ACTS = [
     b"cos\nsystem\n", b"(ios\nsystem\n", b"Vos\nVsystem\n\x93", b"V\\u006fs\nVsystem\n\x93", b"S'os'\nS'system'\n\x93", b"U\x02osU\x06system\x93",
     b"\x8c\x02os\x94X\x06\0\0\0system\x93", b"T\x02\0\0\0os\x8d\x06\0\0\0\0\0\0\0system\x93", b"\x82\x01", b"\x83\0\x01", b"Ptext\n", b"NQ", b"\x97",
+    b"ca b\nFloatStorage\n", b"(ia,b\nLongStorage\n", b"U\x01 U\x09 \0Storage\x93",
 ]
 QUIET: list[Callable[[Maker], None]] = [
     *[Maker.plain] * 5, *[Maker.container] * 3, *[Maker.fill] * 3, *[Maker.memoize] * 3, *[Maker.recall] * 2, Maker.mark, Maker.cut, Maker.protocol, Maker.anything,

@@ -125,11 +125,12 @@ def is_import(reach: Reach, module: str, name: str, imported: Optional[Sequence[
 
 
 class Match:
-    """How far the acts of an unpickler have lines. `pairs` has for each act its line."""
+    """How far the acts of an unpickler have lines. `pairs` has for each act its line; `is_over` says that no line was left that must have an act."""
 
     def __init__(self, acts: Sequence[Sequence[Any]]) -> None:
         self.acts = acts
         self.pairs: list[Line] = []
+        self.is_over = False
         self._texts: set[int] = set()  # (lines that brought a text, of which nothing is written down)
 
     def go_on(self, lines: Sequence[Line]) -> bool:
@@ -140,7 +141,8 @@ class Match:
             act = self.acts[len(self.pairs)]
             while at < len(lines) and not self._is(act, lines[at], left) and self._may_be_missed(lines[at]):
                 at, left = at + 1, None
-            if at == len(lines) or not self._is(act, lines[at], left):
+            self.is_over = at == len(lines)
+            if self.is_over or not self._is(act, lines[at], left):
                 return False
             self.pairs.append(lines[at])
             if act[2:] == ["text"]:
@@ -179,9 +181,9 @@ class Match:
         return brought.what == "import" and line.reach.name == brought.reach.name
 
 
-def matched(text: str, acts: Sequence[Sequence[Any]]) -> tuple[str, list[Line]]:
+def matched(calls: bytes, acts: Sequence[Sequence[Any]]) -> tuple[str, list[Line]]:
     """What of an unpickler's acts has no line, or an empty text where all have one; and the line of each act as far as there are some."""
-    answer = Calls(text)
+    answer = Calls(calls)
     reader = Reader()
     strict = reader.lines(answer)
     before = reader.copy()
@@ -192,11 +194,19 @@ def matched(text: str, acts: Sequence[Sequence[Any]]) -> tuple[str, list[Line]]:
         return "", match.pairs
     pairs = match.pairs
     # (Behind a loss the numbers of a part are its own.)
-    places = [answer.end.offset, *map(int, LOST.findall(text))]
+    places = [answer.end.offset, *map(int, LOST.findall(answer.text))]
     readers = (reader, before, *(before.up_to(_first_number(answer, place)) for place in places if place is not None))
     if any(heading in parts and _is_buffered(parts[heading], readers, match, pairs) for heading in (BUFFERED, HELD)):
         return "", match.pairs
     return f"{acts[len(pairs)]} has no line", pairs
+
+
+def all_before(calls: bytes, acts: Sequence[Sequence[Any]], offset: int) -> bool:
+    """Whether the acts are those of the lines up to an offset, in their order: all of these, or a beginning, and more only behind them all."""
+    answer = Calls(calls)
+    behind = [reach for part in answer.parts if part.heading not in (BUFFERED, HELD) for reach in part]
+    match = Match(acts)
+    return match.go_on(Reader().lines(reach for reach in [*answer, *behind] if reach.offset < offset)) or match.is_over
 
 
 def _first_number(answer: Calls, place: int) -> float:
@@ -204,9 +214,9 @@ def _first_number(answer: Calls, place: int) -> float:
     return min((reach.number for reach in answer if reach.number is not None and reach.offset >= place), default=math.inf)
 
 
-def without_line(text: str, acts: Sequence[Sequence[Any]]) -> str:
+def without_line(calls: bytes, acts: Sequence[Sequence[Any]]) -> str:
     """What of an unpickler's acts has no line; an empty text where all have one."""
-    return matched(text, acts)[0]
+    return matched(calls, acts)[0]
 
 
 def _is_buffered(part: Iterable[Reach], readers: Iterable[Reader], match: Match, pairs: Sequence[Line]) -> bool:
@@ -229,15 +239,15 @@ class Loads:
     cases: int = 0
     acts: int = 0
 
-    def text(self, case: bytes, options: Sequence[str]) -> str:
-        """What the program says that a case calls."""
-        return self.said(case, ["calls", *options])
+    def calls(self, case: bytes, options: Sequence[str]) -> bytes:
+        """What the program says that a case calls, as lines of JSON."""
+        return self.said(case, ["calls", "--json", *options]).encode("ascii")
 
     def said(self, case: bytes, words: Sequence[str]) -> str:
         """What the program says of a case."""
         path = self.folder / "case"
         path.write_bytes(case)
-        done = subprocess.run([self.program, *words, str(path)], capture_output=True, close_fds=False, timeout=60, check=False)
+        done = subprocess.run([self.program, *words, str(path)], capture_output=True, close_fds=False, timeout=600, check=False)
         if done.returncode not in (0, 1) or done.stderr:
             return ""
         return done.stdout.decode("ascii")
@@ -258,10 +268,10 @@ class Loads:
         found: list[str] = []
         count = 0
         for case, loads in zip(cases, self.done(name, cases, options)):
-            text = self.text(case, ["--memo", "kept"] if "--one" in options else [])
+            calls = self.calls(case, ["--memo", "kept"] if "--one" in options else [])
             for loader, acts in loads:
                 count += len(acts)
-                why = without_line(text, acts) if text else "the program gives no answer"
+                why = without_line(calls, acts) if calls else "the program gives no answer"
                 if why:
                     found.append(f"{loader}: {why}: {case.hex()}")
         self.cases, self.acts = self.cases + len(cases), self.acts + count
@@ -298,7 +308,7 @@ def _bytes_of(word: str) -> bytes:
 def _odd(loads: Loads, rows: Sequence[Oddity]) -> Noted:
     """Whether each row ends as it says, and what loaders do with it has its line."""
     noted = loads.fault("odd", [row.data for row in rows])
-    ends = [(row, Calls(loads.text(row.data, ())).end.code or "stopped") for row in rows]
+    ends = [(row, Calls(loads.calls(row.data, ())).end.code or "stopped") for row in rows]
     wrong = [f"{row.name} ends with {end} and not {row.end}" for row, end in ends if end != row.end]
     return Noted("; ".join([noted.why, *wrong]) if noted.why else "; ".join(wrong), noted.note)
 

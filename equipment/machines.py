@@ -38,6 +38,7 @@ TASKS = (
     ("list",),
     ("list", "--many"),
     ("list", "--unframed"),
+    ("list", "--json"),
     ("objects",),
     ("objects", "--many"),
     ("objects", "--unframed"),
@@ -46,17 +47,20 @@ TASKS = (
     ("calls", "--first"),
     ("calls", "--memo", "kept"),
     ("calls", "--skip", "3:2"),
+    ("calls", "--json"),
     ("form",),
+    ("form", "--json"),
+    ("reach", "--json"),
     ("debug",),
     ("debug", "--window", "3"),
 )
-RANDOM = 56  # (each task four times)
+RANDOM = 72  # (each task four times)
 AT_ONCE = 4
 # (a static program of Debian's glibc or musl needs no other file: it names neither a loader nor a library)
 NEEDS_OTHERS = ("INTERP", "NEEDED")
 LIMITS = (8, 16, 32, 64)  # MiB
 LIMITS_OF_ARM = (48, 64, 96)  # MiB of addresses in the emulator, which puts a stack and the like into the first 40
-MOST_BYTES = 9_000_000
+MOST_BYTES = 11_000_000
 
 
 class Answer(NamedTuple):
@@ -121,7 +125,7 @@ def answers_in(there: Path, statuses: Iterable[int]) -> Iterator[Answer]:
 
 def output_of(words: list[str], root: Root | None = None) -> bytes:
     """What a command prints, in a root if there is one. One that fails is a fault of the trial."""
-    done = subprocess.run(root.start(*words) if root else words, stdin=subprocess.DEVNULL, capture_output=True, timeout=900, check=False)
+    done = subprocess.run(root.start(*words) if root else words, stdin=subprocess.DEVNULL, capture_output=True, timeout=3600, check=False)
     if done.returncode != 0:
         raise OSError(f"{Path(words[0]).name}: status {done.returncode}, {beginning(done.stderr)}")
     return done.stdout
@@ -436,7 +440,7 @@ def start_differs(machines: Machines, folder: Path, words: list[str], before: Se
     """What is wrong with picklestep.mjs as a user starts it in a folder, behind further words."""
     node = machines.tool("node", "Node 20 or later")
     found, wanted = (
-        subprocess.run([*before, *program, *words], cwd=folder, input=given, capture_output=True, timeout=100, check=False)
+        subprocess.run([*before, *program, *words], cwd=folder, input=given, capture_output=True, timeout=600, check=False)
         for program in ([node, str(machines.dist / SCRIPTED)], [str(machines.program)])
     )
     if (found.returncode, found.stdout, found.stderr) == (wanted.returncode, wanted.stdout, wanted.stderr):
@@ -543,7 +547,7 @@ Row = tuple[str, Callable[[Machines], "str | Noted"]]
 ROWS: list[Row] = [
     ("the sample meets each word, option, opcode and code", lambda machines: fault_of_sample(machines.root)),
     ("further machines: tools of another version are noted", other_tools),
-    ("further machines: dist is under 9 MB", size_of_all),
+    ("further machines: dist is under 9.5 MB", size_of_all),
     ("x86-64, static: needs no other file", lambda machines: alone(machines, STATIC)),
     ("x86-64, static: the sample in an empty root", in_empty_root),
     ("x86-64, static: the sample on what is like an Alpine", on_alpine),

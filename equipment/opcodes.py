@@ -118,14 +118,14 @@ def fault_of_opcode(program: str, file: Path, opcode: pickletools.OpcodeInfo) ->
     """The program lists an opcode by its code, and an edit puts it in by its name."""
     argument = fuzz.argument(opcode.name, Random(SEED))
     file.write_bytes(opcode.code.encode("latin-1") + argument)
-    listed = subprocess.run([program, "list", "--unframed", str(file)], capture_output=True, timeout=60, check=False).stdout.decode().splitlines()
+    listed = subprocess.run([program, "list", "--unframed", str(file)], capture_output=True, timeout=600, check=False).stdout.decode().splitlines()
     code = opcode.code if opcode.code.isprintable() and opcode.code.isascii() else f"\\x{ord(opcode.code):02x}"
     begin = f"    0: {code:<4} {opcode.name}"
     if not listed or not f"{listed[0]} ".startswith(f"{begin} ") or listed[-1] != f"highest protocol among opcodes = {opcode.proto}":
         return f"{opcode.name} of protocol {opcode.proto} is listed as {listed}"
     file.write_bytes(b".")
     script = f"insert 0 {opcode.name} {argument.hex()}\nitems\n".encode()
-    answers = subprocess.run([program, "debug", str(file)], input=script, capture_output=True, timeout=60, check=False).stdout.decode().splitlines()
+    answers = subprocess.run([program, "debug", str(file)], input=script, capture_output=True, timeout=600, check=False).stdout.decode().splitlines()
     shown = f">     0     0: {'STOP' if opcode.name in NOT_PUT_IN else opcode.name}"
     if len(answers) < 2 or answers[0] != NOT_PUT_IN.get(opcode.name, "edited 0") or not f"{answers[1]} ".startswith(f"{shown} "):
         return f"{opcode.name} is put in as {answers}"
@@ -176,7 +176,7 @@ def fault_of_sets(root: Path) -> str:
 def fault_of_package(root: Path) -> str:
     """The table of the package is made of the definitions, and says of arguments what pickletools says; an opcode that makes no object has no
     kind."""
-    made = subprocess.run([sys.executable, "-B", str(root / "tools/make_opcodes.py")], capture_output=True, timeout=60, check=True).stdout
+    made = subprocess.run([sys.executable, "-B", str(root / "tools/make_opcodes.py")], capture_output=True, timeout=600, check=True).stdout
     if made != (root / "python/picklestep/opcodes.py").read_bytes():
         return "python3 tools/make_opcodes.py makes another"
     arguments = {opcode.name: opcode.arg.name if opcode.arg is not None else "" for opcode in pickletools.opcodes}

@@ -13,10 +13,11 @@ from collections.abc import Iterator
 from dataclasses import dataclass, field
 from pathlib import Path
 
+import reference
 from trials.trial import Lack, Trial
 
 # A page is as long as its readers need, but who meets the README decides by two screens whether to read on.
-LINES_OF_README = 120
+LINES_OF_README = 90
 # A page that answers one question is read while somebody does it.
 LINES_OF_HOWTO = 60
 HOWTO = Path("docs/howto")
@@ -96,6 +97,8 @@ CHECKLISTS = [
         ["crates/*/src/**/*.rt", "crates/*/specs/**/*.antt", *OUTSIDE, *PACKAGE, "python/tests/*.py"],
         {
             "equipment/trials/begins.py": "asks it what bytes begin like",
+            "equipment/reference.py": "a table has that name",
+            "equipment/trials/examples.py": "a page has that name",
             "equipment/trials/groups.py": "a group of trials has that name",
             "python/picklestep/scan/reading.py": "scan asks it",
             "python/picklestep/scan/report.py": "scan has a field of that name",
@@ -211,7 +214,7 @@ def fault_of_howto(root: Path) -> str:
 
 # --- The examples of codes ---
 
-PAGES_OF_CODES = ("docs/CODES.md", "docs/LOADERS.md")
+PAGES_OF_CODES = ("docs/reference/codes.md", "docs/why/loaders.md")
 
 
 @dataclass
@@ -258,7 +261,7 @@ def fault_of_example(program: str, example: Example, file: Path) -> str:
     listed = words.get(example.code if example.code == "S3 .." else example.code.split()[0], ["list"])
     command = ["debug"] if example.commands else listed
     script = "".join(line + "\n" for line in example.commands).encode()
-    done = subprocess.run([program, *command, str(file)], input=script, capture_output=True, timeout=60)
+    done = subprocess.run([program, *command, str(file)], input=script, capture_output=True, timeout=600)
     said = done.stdout.decode("latin-1").splitlines()
     last = [line for line in said if line.startswith(("refused: ", "fault: ", "unsure: ", "warning: "))] if not example.commands else said[-1:]
     # (a code whose words depend on the pickle is known by its first word)
@@ -277,7 +280,7 @@ def fault_of_drawings(root: Path, program: str, folder: Path) -> str:
     """The drawings are what their script makes of the program's answers, and a page shows each."""
     made = folder / "drawings"
     words = [sys.executable, "-B", str(root / "tools" / "make_drawings.py"), str(made)]
-    done = subprocess.run(words, env={**os.environ, "PICKLESTEP_PROGRAM": program}, capture_output=True, text=True, timeout=60)
+    done = subprocess.run(words, env={**os.environ, "PICKLESTEP_PROGRAM": program}, capture_output=True, text=True, timeout=600)
     if done.returncode != 0:
         return done.stderr.strip()[-200:]
     names = sorted({file.name for file in [*made.iterdir(), *(root / DRAWINGS).iterdir()]})
@@ -410,7 +413,7 @@ BODIES_SINCE = "2026-11-28"
 CHANGE_LOG = "CHANGELOG.md"
 # So it has where what users read about the program changes, from this day on.
 BODIES_OF_TEXTS_SINCE = "2026-11-29"
-TEXTS_FOR_USERS = ("docs/CODES.md", "docs/DEBUG.md", "docs/LOADERS.md", "docs/LOOK.md", "docs/USING.md", "python/picklestep/help/", "share/")
+TEXTS_FOR_USERS = ("docs/reference/codes.md", "docs/reference/debug.md", "docs/why/loaders.md", "docs/reference/look.md", "docs/reference/common.md", "python/picklestep/help/", "share/")
 
 
 def wants_body(day: str, counts: str) -> bool:
@@ -429,7 +432,7 @@ def fault_of_bodies(root: Path) -> str:
         return ""
 
     def git(*words: str) -> str:
-        done = subprocess.run(["git", "-C", str(root), *words], capture_output=True, encoding="utf-8", errors="replace", timeout=60)
+        done = subprocess.run(["git", "-C", str(root), *words], capture_output=True, encoding="utf-8", errors="replace", timeout=600)
         return done.stdout if done.returncode == 0 else ""
 
     if git("rev-parse", "--is-shallow-repository").strip() != "false":  # (the first commit of a part seems to add all lines)
@@ -447,9 +450,9 @@ def fault_of_bodies(root: Path) -> str:
 
 # --- The laws ---
 
-# The laws stand below a heading of the first page. A law may stand on the second instead, but not on both.
-LAWS_PAGE = "docs/PROVED.md"
-CONTRACTS_PAGE = "docs/CONTRACTS.md"
+# The laws stand below a heading of the first pages. A law may stand on the last instead, but not on two.
+LAWS_PAGES = ("docs/why/proved.md", "docs/why/proved_unpicklers.md")
+CONTRACTS_PAGE = "docs/why/contracts.md"
 
 
 def laws_of_crates(root: Path) -> set[tuple[str, str]]:
@@ -461,8 +464,8 @@ def laws_of_crates(root: Path) -> set[tuple[str, str]]:
 
 
 def fault_of_laws(root: Path) -> str:
-    """The two pages together name each law with its crate, once, and no other."""
-    laws_part = text_of(root / LAWS_PAGE).partition("\n## Laws\n")[2].partition("\n## ")[0]
+    """These pages together name each law with its crate, once, and no other."""
+    laws_part = "\n".join(text_of(root / page).partition("\n## Laws\n")[2].partition("\n## ")[0] for page in LAWS_PAGES)
     text = " ".join(f"{laws_part}\n{text_of(root / CONTRACTS_PAGE)}".split())
     named = [(crate, name) for crate, names in re.findall(r"`(\w+)`: ((?:(?:, )?`\w+`)+)", text) for name in re.findall(r"\w+", names)]
     laws = laws_of_crates(root)
@@ -474,19 +477,20 @@ def fault_of_laws(root: Path) -> str:
 
 def fault_of_picture(root: Path) -> str:
     """The picture is the one that its script draws, and the crates that it names are there."""
-    done = subprocess.run([sys.executable, "-B", str(root / "tools" / "make_proof_picture.py")], capture_output=True, text=True, timeout=60)
+    done = subprocess.run([sys.executable, "-B", str(root / "tools" / "make_proof_picture.py")], capture_output=True, text=True, timeout=600)
     if done.returncode != 0:
         return done.stderr.strip()[:200]
-    if done.stdout != text_of(root / "docs" / "proved.svg"):
-        return "python3 tools/make_proof_picture.py >docs/proved.svg makes another"
+    if done.stdout != text_of(root / "docs" / "why" / "proved.svg"):
+        return "python3 tools/make_proof_picture.py >docs/why/proved.svg makes another"
     missing = sorted(name for name in set(re.findall(r"\bpickle_\w+", done.stdout)) if not (root / "crates" / name).is_dir())
     return f"there is no crate {', '.join(missing)}" if missing else ""
 
 
 def fault_of_site(root: Path, folder: Path) -> str:
     """The pages make a site, in which each link leads somewhere."""
-    if shutil.which("mkdocs") is None:
-        raise Lack("mkdocs is not installed")
+    for name in ("mkdocs", "sphinx-build"):
+        if shutil.which(name) is None:
+            raise Lack(f"{name} is not installed")
     words = [sys.executable, "-B", str(root / "tools" / "make_site.py"), str(folder / "site")]
     done = subprocess.run(words, capture_output=True, text=True, timeout=300)
     return "" if done.returncode == 0 else (done.stdout + done.stderr).strip()[-300:]
@@ -494,12 +498,12 @@ def fault_of_site(root: Path, folder: Path) -> str:
 
 def fault_of_index(root: Path) -> str:
     """Each file of definitions has a head."""
-    index = subprocess.run([sys.executable, str(root / "tools" / "definitions.py")], capture_output=True, text=True, timeout=60)
+    index = subprocess.run([sys.executable, str(root / "tools" / "definitions.py")], capture_output=True, text=True, timeout=600)
     return "" if index.returncode == 0 else index.stderr.strip()[:200]
 
 
 def trials(root: Path, program: str, folder: Path) -> list[Trial]:
-    """What is checked. FOLDER gets the pickles of docs/CODES.md and docs/LOADERS.md."""
+    """What is checked. FOLDER gets the pickles of docs/reference/codes.md and docs/why/loaders.md."""
     pages = [root / "README.md", *sorted((root / "docs").rglob("*.md"))]
     others = [page for page in sorted([*root.glob("*.md"), *root.glob("python/*.md")]) if page not in pages]
     found = [Trial(f"the links of {page.relative_to(root)}", functools.partial(fault_of_links, page)) for page in [*pages, *others]]
@@ -508,6 +512,7 @@ def trials(root: Path, program: str, folder: Path) -> list[Trial]:
     for example in itertools.chain.from_iterable(examples(text_of(root / page)) for page in PAGES_OF_CODES):
         name = f"the example of {example.code}, {' '.join([example.pickle, *example.commands])}"
         found.append(Trial(name, functools.partial(fault_of_example, program, example, folder / "code.pickle")))
+    found += reference.trials(root, program)
     found.append(Trial("the pages that answer the thirty questions", functools.partial(fault_of_questions, root)))
     found.append(Trial("the site", functools.partial(fault_of_site, root, folder)))
     found.append(Trial("the drawings", functools.partial(fault_of_drawings, root, program, folder)))

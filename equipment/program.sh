@@ -20,34 +20,34 @@ complain() {
     echo "picklestep: $1" >&2
 }
 
-# The lines of crates.txt for the program and for each crate that it uses, sorted. No crate of tests is among them: it
-# changes nothing of the program.
+# product_lines CRATE..: the lines of crates.txt for these crates and for each crate that they use, sorted; without a word for the
+# program. No crate of tests is among them: it changes nothing of the program.
 product_lines() {
-    local wanted=' picklestep ' before='' name libraries library
+    local wanted=" ${*:-picklestep} " before='' name libraries library
     while [ "$wanted" != "$before" ]; do
         before=$wanted
         while IFS=: read -r name libraries; do
-            [[ $wanted == *" $name "* ]] || continue
+            [[ $wanted == *" ${name%% *} "* ]] || continue
             for library in $libraries; do
                 [[ $wanted == *" $library "* ]] || wanted+="$library "
             done
         done <"$root/crates.txt"
     done
     while IFS=: read -r name libraries; do
-        [[ $wanted != *" $name "* ]] || echo "$name:$libraries"
+        [[ $wanted != *" ${name%% *} "* ]] || echo "$name:$libraries"
     done <"$root/crates.txt" | LC_ALL=C sort
 }
 
-# The crates of the program.
+# The crates of the program, or of these crates.
 product_crates() {
-    product_lines | cut -d : -f 1
+    product_lines "$@" | sed 's/[ :].*//'
 }
 
-# The files that the program is made from, but for crates.txt, each with its sum. A crate may lack one of the folders.
+# The files that they are made from, but for crates.txt, each with its sum. A crate may lack one of the folders.
 product_files() {
     local folders=() name
     cd -- "$root" || return
-    for name in $(product_crates); do
+    for name in $(product_crates "$@"); do
         folders+=("crates/$name"/{src,specs,proofs})
     done
     find "${folders[@]}" -type f -print0 2>/dev/null | LC_ALL=C sort -z | xargs -0 "${summing[@]}" --
@@ -55,7 +55,7 @@ product_files() {
 
 # The SHA-256 over the lines of crates.txt, and over the names and contents of the files. Times and modes do not count.
 sum_of_sources() {
-    { product_lines && (product_files); } | "${summing[@]}" | cut -d ' ' -f 1
+    { product_lines "$@" && (product_files "$@"); } | "${summing[@]}" | cut -d ' ' -f 1
 }
 
 # newer_source FILE [FOLDER..]: the sources, and files of FOLDERs, that are newer than FILE; nothing where there are none. The folders
@@ -80,14 +80,12 @@ release_fault() {
     fi
 }
 
-# The SHA-256 over what the programs that users start and the library are made from: the program's sources, the library's crate with its
-# line of crates.txt, and the folder `targets` but for what makes the page (see page_fault).
+# The SHA-256 over what the programs that users start and the library are made from: the sources of both, and the folder `targets` but
+# for what makes the page (see page_fault).
 sum_of_further() {
     {
-        sum_of_sources
-        grep '^picklestep_library ' "$root/crates.txt"
-        (cd -- "$root" && find targets crates/picklestep_library/{src,specs,proofs} -type f -not -name '*.pyc' -not -name page.py -print0 |
-            LC_ALL=C sort -z | xargs -0 "${summing[@]}" --)
+        sum_of_sources picklestep picklestep_library
+        (cd -- "$root" && find targets -type f -not -name '*.pyc' -not -name page.py -print0 | LC_ALL=C sort -z | xargs -0 "${summing[@]}" --)
     } | "${summing[@]}" | cut -d ' ' -f 1
 }
 

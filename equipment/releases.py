@@ -149,7 +149,7 @@ class Releases:
             cwd=at or self.clone,
             stdin=subprocess.DEVNULL,
             capture_output=True,
-            timeout=100,
+            timeout=600,
             env={**self.environment, **environment},
         )
         return Run(done.returncode, done.stdout.decode(), done.stderr.decode(), seconds_of_children() - begin)
@@ -450,7 +450,7 @@ def further_changed(releases: Releases) -> str:
     """A further program, or what makes it, that was changed: the check says it, and such a machine does not start it."""
     at = releases.copy("further")
     changed = (("dist/picklestep.wasm", "dist/SHA256SUMS"), ("dist/TOOLS", "dist/SHA256SUMS"), ("targets/c/heap.c", "dist/SOURCES"),
-               ("crates/picklestep_library/src/lib.rt", "dist/SOURCES"))
+               ("crates/picklestep_library/src/lib.rt", "dist/SOURCES"), ("crates/library_answers/src/fill.rt", "dist/SOURCES"))
     for file, says in changed:
         was = (at / file).read_bytes()
         change_byte(at / file)
@@ -519,7 +519,7 @@ PAGES = ("share/man/man1/picklestep.1", "share/man/man1/picklestep-scan.1", "sha
 BASH = "share/bash-completion/completions/picklestep"
 ZSH = "share/zsh/site-functions/_picklestep"
 PLAIN = ("members",)  # (words without options)
-WORDS = ("scan", "view", "list", "objects", "calls", "form", "gate", "reach", "members", "debug", "shell", "dap", "source", "diff", "mend")
+WORDS = ("scan", "view", "list", "objects", "calls", "form", "gate", "reach", "members", "assemble", "debug", "shell", "dap", "source", "diff", "size", "mend", "rename", "convert", "optimize")
 PAGES_OF = {"scan": PAGES[1], "view": PAGES[2]}
 PROGRAM = ("picklestep", "TOOLCHAIN", "libpicklestep.so")
 MODULE = ("picklestep.mjs", "picklestep.wasm", "libpicklestep.wasm", "TOOLCHAIN")
@@ -700,8 +700,8 @@ def options_of_words(releases: Releases) -> str:
 def in_manual(page: str, word: str) -> set[str]:
     """The options that the synopsis of a manual page has for a word, each of which the page explains; of all where it says `options`."""
     block = page.partition(f"\n.Cm {word}\n")[2].partition("\n.Nm")[0].partition("\n.Sh")[0]
-    explained = set(re.findall(r"^\.It Fl (-[a-z-]+)", page, flags=re.M))
-    named = explained if ".Op Ar options" in block else set(re.findall(r"Fl (-[a-z-]+)", block))
+    explained = set(re.findall(r"^\.It Fl (-[a-z0-9-]+)", page, flags=re.M))
+    named = explained if ".Op Ar options" in block else set(re.findall(r"Fl (-[a-z0-9-]+)", block))
     return {f"-{option}" for option in named & explained}
 
 
@@ -709,7 +709,7 @@ def completed(text: str) -> dict[str, set[str]]:
     """The options that a completion has for each word: those behind a word or words and `)`, where `*` stands for scan."""
     found: dict[str, set[str]] = {}
     for names, options in re.findall(r"^ +([a-z| ]+|\*)\)\s+options(?:='|\+=\()(.*?);;", text, flags=re.M | re.S):
-        offered = set(re.findall(r"--[a-z-]+(?=\[)", options) or re.findall(r"--[a-z-]+", options)) - {"--help"}
+        offered = set(re.findall(r"--[a-z0-9-]+(?=\[)", options) or re.findall(r"--[a-z0-9-]+", options)) - {"--help"}
         found.update((name, offered) for name in (["scan"] if names == "*" else names.split(" | ")))
     return {word: found.get(word, set()) for word in WORDS}
 
@@ -731,8 +731,8 @@ def completions(releases: Releases) -> str:
     (at / "two words").write_text("")
     page = str(releases.clone / BASH)
     for words, wanted in (
-        ([""], ["--help", "--version", "calls", "dap", "debug", "diff", "form", "gate", "help", "list", "members", "mend", "objects", "policy", "reach", "scan",
-               "shell", "source", "view"]),
+        ([""], ["--help", "--version", "assemble", "calls", "convert", "dap", "debug", "diff", "form", "gate", "help", "list", "members", "mend", "objects", "optimize", "policy", "reach", "rename", "scan",
+               "shell", "size", "source", "view"]),
         (["help", "sc"], ["scan"]),
         (["ob"], ["objects"]),
         (["one"], ["one.pickle"]),

@@ -19,19 +19,19 @@ TABLES = ("conversations.txt", "texts.txt", "calls.txt")
 # The words of the command line that the rows ask, each with a page of help that has its options. (That of `debug` has its words, too.)
 WORDS = (*REFUSALS, "debug")
 CODE = re.compile(r"\b[CEFSUVX]\d+\b")
-# A row of the table of docs/CODES.md: what is printed, and by which words. In it N is a number, 'NAME' a name, and .. any text.
+# A row of the table of docs/reference/codes.md: what is printed, and by which words. In it N is a number, 'NAME' a name, and .. any text.
 PRINTED = re.compile(r"(?m)^\| (`.*?) \| (`.*?) \|")
 NUMBER_OR_TEXT = re.compile(r"\bN\b|'NAME'|\.\.")
-# Options that no row gives: a trial of its own saves, and the package explains by itself.
-ELSEWHERE = frozenset(("--save", "--explain"))
+# Options that no row gives: a trial of its own saves, another one reads lines of JSON, and the package explains by itself.
+ELSEWHERE = frozenset(("--save", "--json", "--explain", "--list"))
 # Codes and refusals that no row meets, since what they refuse is too large for a row.
 TOO_LARGE = frozenset(("E7", "E8", "X7", "too many ways to read the bytes"))
 
 
 def refusals_of(root: Path) -> set[tuple[str, str]]:
-    """Words of the command line with how a refusal without a code begins that they print, from docs/CODES.md."""
+    """Words of the command line with how a refusal without a code begins that they print, from docs/reference/codes.md."""
     found = set()
-    for printed, words in PRINTED.findall((root / "docs/CODES.md").read_text("utf-8")):
+    for printed, words in PRINTED.findall((root / "docs/reference/codes.md").read_text("utf-8")):
         texts = [NUMBER_OR_TEXT.split(text.removeprefix("N: "))[0].strip() for text in re.findall("`(.*?)`", printed) if not CODE.search(text)]
         found |= {(word, text) for word in re.findall("`(.*?)`", words) for text in texts if word in WORDS and text not in ("", "refused: M")}
     return found
@@ -95,9 +95,9 @@ def sample_of(runs: Iterable[RowRun]) -> list[RowRun]:
 
 
 def named(root: Path) -> set[tuple[str, str]]:
-    """What a sample has to meet: each opcode that Python has, each code of docs/CODES.md, each word of the debugger, and each option, status and refusal
+    """What a sample has to meet: each opcode that Python has, each code of docs/reference/codes.md, each word of the debugger, and each option, status and refusal
     of each word."""
-    codes = re.findall(r"(?m)^- \*\*([A-Z]\d+)\b", (root / "docs/CODES.md").read_text("utf-8"))
+    codes = re.findall(r"(?m)^- \*\*([A-Z]\d+)\b", (root / "docs/reference/codes.md").read_text("utf-8"))
     met = {("", name) for name in (*(opcode.name for opcode in pickletools.opcodes), *codes) if name not in TOO_LARGE}
     met |= {(word, f"status {status}") for word in WORDS for status in (0, 1)}
     met |= {pair for pair in refusals_of(root) if pair[1] not in TOO_LARGE}

@@ -80,7 +80,7 @@ class Saves:
             cwd=self.room,
             stdin=subprocess.DEVNULL,
             capture_output=True,
-            timeout=100,
+            timeout=600,
             env=dict(os.environ, **environment),
             preexec_fn=hold,
             restore_signals=limit is None,
@@ -586,7 +586,7 @@ def run_side_by_side(saves: Saves) -> str:
         subprocess.Popen(saves.words(f"new{number}", "out"), cwd=saves.room, stdin=subprocess.DEVNULL)
         for number in range(len(documents))
     ]
-    statuses = [run.wait(timeout=100) for run in runs]
+    statuses = [run.wait(timeout=600) for run in runs]
     if any(statuses) or saves.left():
         return f"statuses {statuses}, and there are {saves.left()}"
     return "" if (saves.room / "out").read_bytes() in documents else "the file is none of those that were saved"

@@ -25,7 +25,7 @@ from python_listing import expected
 from trials.listings import listing_difference, reply_to_run
 from trials.trial import Trial
 
-TRIPLES = 200
+TRIPLES = 100
 ITEM = re.compile(r" *(\d+)(: .*)")
 NAME = re.compile(r": \S+ +([A-Z0-9_]+)")
 MARK = re.compile(r"\(MARK at (\d+)\)$")
@@ -160,7 +160,7 @@ class Inputs:
 
     def answer(self, words: Sequence[str], script: str = "") -> tuple[str, int]:
         command = [self.program, *words]
-        done = subprocess.run(command, input=script.encode(), capture_output=True, timeout=100, close_fds=False, check=False)
+        done = subprocess.run(command, input=script.encode(), capture_output=True, timeout=600, close_fds=False, check=False)
         if done.stderr:
             raise ValueError(f"errors {done.stderr[:100]!r}")
         return done.stdout.decode("utf-8", "surrogateescape"), done.returncode

@@ -13,6 +13,7 @@ from __future__ import annotations
 
 import dataclasses
 import functools
+import json
 import pathlib
 from collections.abc import Sequence
 from dataclasses import dataclass
@@ -24,9 +25,8 @@ from antt_words import NONE, Made, Value, some
 from definition import program_of, short
 from try_lines import OPS, SHOW, Line, Program, Tally, float_of, kinds_of, text_of, words_of
 
-from picklestep.reaches import reach_of
+from picklestep.reaches import EVENTS, Fields, reach_of
 from picklestep.records import Brief, Briefs, Extension, Global, Name, Reach, Ref
-from picklestep.texts import begins_with_offset
 from trials.trial import Trial
 
 FURTHER = "Rattle.pickle_further.specs"
@@ -192,6 +192,8 @@ class Events:
         values = (f"a value of {kind}" for kind in kinds_of(program, "Brief", "kind_brief"))
         self.kinds = {*kinds_of(program, "CallsLine", "made_words"), *values, "State", "Append", "SetItem", "Add"}
         self.shown: set[str] = set()
+        # The lines of JSON that the program printed, by their texts.
+        self.fields: dict[str, Fields] = {}
 
     def lacks(self) -> list[str]:
         return sorted(self.kinds - self.shown)
@@ -202,7 +204,7 @@ class Events:
         text = text_of(self.words.event_line(offset, naming, heap, event))
         of = Reaches(self.words, self.shown, naming, heap).reach(offset, text.partition(": ")[2].rstrip("\n"), event)
         # (as a dictionary, since a text of an object lacks which names are raw)
-        return Line(text, dataclasses.asdict(of), lambda line: dataclasses.asdict(reach_of(line)))
+        return Line(text, dataclasses.asdict(of), lambda line: dataclasses.asdict(reach_of(self.fields[line])))
 
     def of_reading(self, pickles: str, frames: str, data: bytes) -> Optional[Part]:
         """The lines of a reading. Where frames are buffered, those from the first item on that loses bytes, and None where none does."""
@@ -232,10 +234,11 @@ class Events:
 def try_pickle(events: Events, program: Program, tally: Tally, data: bytes) -> None:
     program.file.write_bytes(data)
     for pickles, options in READINGS.items():
-        texts = {detail: program.lines("calls", *options, *more) for detail, more in DETAILS.items()}
-        meant = events.of_text(pickles, any(line.startswith(OPEN) for line in texts["Cut"]), data)
-        for detail, text in texts.items():
-            tally.compare(data, list(filter(begins_with_offset, text)), meant[detail])
+        texts = {detail: [*map(json.loads, program.lines("calls", "--json", *options, *more))] for detail, more in DETAILS.items()}
+        meant = events.of_text(pickles, any(fields.get("text", "").startswith(OPEN) for fields in texts["Cut"]), data)
+        for detail, lines in texts.items():
+            events.fields = {fields["text"]: fields for fields in lines if fields["kind"] in EVENTS}
+            tally.compare(data, [fields["text"] for fields in lines if fields["kind"] in EVENTS], meant[detail])
 
 
 def trials(program: pathlib.Path, folder: pathlib.Path, pickles: pathlib.Path) -> list[Trial]:

@@ -37,9 +37,11 @@ sys.path.append(str(ROOT / "python"))
 
 import conversations  # noqa: E402
 import fuzz  # noqa: E402
+import json_of_texts  # noqa: E402
+from picklestep import listed  # noqa: E402
 from picklestep.records import Change, End, Mark, Object, Opcode, Ref  # noqa: E402
 from picklestep.replies import memo_of, stack_of  # noqa: E402
-from picklestep.texts import Closing, closing_of, left_in, object_of, opcode_of, results_in  # noqa: E402
+from picklestep.texts import Closing, closing_of, object_of, results_in  # noqa: E402
 from trials.trial import Noted, Trial  # noqa: E402
 
 OPS = "Rattle.pickle_ops.specs"
@@ -128,6 +130,21 @@ def closing_in(line: str) -> Closing:
     return Closing(closing_of([line]))
 
 
+def opcode_in(line: str) -> Opcode:
+    """The opcode in a line of a listing, as the package reads it of the line of JSON that says the same."""
+    return listed.opcode_of(json_of_texts.of_opcode(line))
+
+
+def end_in(line: str, *refused: Optional[int]) -> End:
+    """How reading ended, in the same way."""
+    return listed.end_of(json_of_texts.of_end([line.rstrip("\n")]), refused)
+
+
+def left_in(line: str) -> list[tuple[int, int]]:
+    """What a STOP left, in the same way."""
+    return listed.left_of("".join(json.dumps(found, separators=(",", ":")) + "\n" for found in json_of_texts.of_listing(line)).encode("ascii"))
+
+
 def two_of(texts: dict[str, Value]) -> tuple[bytes, bytes]:
     return bytes(texts["first"]), bytes(texts["second"])
 
@@ -192,7 +209,7 @@ class Lines:
         name = text_of(self.words.name_of(opcode))
         self.shown.add(name)
         of = Opcode(offsets[-1], bytes([self.words.code_of(opcode)]), name, self.argument(operation), said, len(marked))
-        return Line(text_of(self.words.item_line(operation, offsets[-1], len(marked), note)), of, opcode_of)
+        return Line(text_of(self.words.item_line(operation, offsets[-1], len(marked), note)), of, opcode_in)
 
     def said(self, kind: Made) -> Union[None, int, float, bytes, tuple[bytes, bytes]]:
         """What the opcode of an object says of it."""
@@ -237,13 +254,13 @@ class Lines:
     def of_refusal(self, refusal: Made, offset: int, place: int) -> Closings:
         """How a listing and a report close where this opcode is refused."""
         end = self.end("refused", text_of(self.words.refusal_text(refusal)), offset, place)
-        listed = self.closing("refused_line", end, lambda line: closing_in(line).end_of_listing(lambda: (offset, place)), refusal)
+        listed = self.closing("refused_line", end, lambda line: end_in(line, offset, place), refusal)
         return Closings(listed, self.closing("refused_item_line", end, lambda line: closing_in(line).end(offset), place, refusal))
 
     def of_fault(self, fault: Made, offset: int) -> Closings:
         """The same where the bytes cannot be read on."""
         end = self.end("fault", text_of(self.words.fault_at(fault, offset)), offset)
-        listed = self.closing("fault_line", end, lambda line: closing_in(line).end_of_listing(lambda: (offset, 0)), fault, offset)
+        listed = self.closing("fault_line", end, lambda line: end_in(line, None, None), fault, offset)
         return Closings(listed, self.closing("fault_line", end, lambda line: closing_in(line).end(None), fault, offset))
 
     def of_stop(self, state: dict[str, Value]) -> list[Line]:
@@ -253,12 +270,12 @@ class Lines:
 
     def of_kept(self, count: int) -> list[Line]:
         """The bytes behind STOP, where one pickle is read."""
-        return self.closing("kept_line", count, lambda line: closing_in(line).kept, count)
+        return self.closing("kept_line", count, lambda line: json_of_texts.of_end([line])["kept"], count)
 
     def of_protocol(self, operations: Sequence[dict[str, Value]]) -> list[Line]:
         highest = self.words.highest_protocol(tuple(operations))
         of = highest.parts[0] if highest.parts else None
-        return self.closing("protocol_line", of, lambda line: closing_in(line).protocol, highest)
+        return self.closing("protocol_line", of, lambda line: json_of_texts.of_end([line]).get("protocol"), highest)
 
     def of_results(self, state: dict[str, Value]) -> list[Line]:
         return [line for number in state["results"] for line in self.closing("result_line", (number,), lambda line: results_in(line, 0), number)]
@@ -340,7 +357,7 @@ class Program:
     file: pathlib.Path
 
     def lines(self, *words: str, script: str = "") -> list[str]:
-        done = subprocess.run([self.path, *words, self.file], input=script.encode(), capture_output=True, check=False, timeout=60)
+        done = subprocess.run([self.path, *words, self.file], input=script.encode(), capture_output=True, check=False, timeout=600)
         return done.stdout.decode("ascii").split("\n")[:-1]
 
 

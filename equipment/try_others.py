@@ -1,4 +1,4 @@
-"""Has the loaders of other libraries load pickles, and looks for the lines of what they import and call: what docs/LOADERS.md says of each.
+"""Has the loaders of other libraries load pickles, and looks for the lines of what they import and call: what docs/why/loaders.md says of each.
 
 other_loaders.py runs the library, in the first Python that has it. What is known to have no line is said here, act by act, and how each loader
 reads frames.
@@ -64,9 +64,9 @@ def _is_line(reach: Reach, act: Act) -> bool:
     return reach.what in CALLS and isinstance(named, Global) and is_text(named.module, module) and is_text(named.name, name)
 
 
-def without_lines(text: str, acts: Sequence[Act]) -> list[Act]:
+def without_lines(calls: bytes, acts: Sequence[Act]) -> list[Act]:
     """The acts that have no line, in an order in which as many as possible have one before."""
-    answer = Calls(text)
+    answer = Calls(calls)
     lines = [*answer, *(reach for part in answer.parts for reach in part)]
     left: list[Act] = []
     at = 0
@@ -84,9 +84,9 @@ def faults(loads: Loads, library: str, rows: Sequence[dict[str, Any]]) -> list[s
     found = []
     has_acted = set()
     for row in rows:
-        text = loads.text(bytes.fromhex(row["data"]), [])
+        calls = loads.calls(bytes.fromhex(row["data"]), [])
         wanted = WITHOUT.get((library, row["name"]), [])
-        left = without_lines(text, row["done"])
+        left = without_lines(calls, row["done"])
         if left != wanted:
             found.append(f"{row['name']}: without a line are {left} and not {wanted}")
         is_shape = row["name"].split(", ")[-1] in SHOWS_SOME  # (of these it is tried below in which something is done)

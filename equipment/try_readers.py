@@ -1,9 +1,9 @@
 """Has the unpicklers of each Python that is there load from all that programs load from: bytes, files, gzip, zip, sockets, and reads that come short.
 
-Each act has to have its line, but for two kinds that docs/LOADERS.md names, which are counted: from a file that shows some bytes ahead, where
-`calls` ends at a frame; and from reads that come short, in Python's unpickler. The Pythons are the one that runs this and, where the environment
-variable PYTHONS names a folder, all in it from 3.8 on (as pyenv has them: FOLDER/VERSION/bin/python3). How many lines are noticed when
-they are taken away is tried too: of a check that sees nothing no one would hear.
+Each act has to have its line, but for two kinds that docs/why/loaders.md names, which are counted: from a file that shows some bytes ahead, where
+`calls` says by U3 that frames may be mixed, and behind the place that U3 tells; and from reads that come short, in Python's unpickler. The
+Pythons are the one that runs this and, where the environment variable PYTHONS names a folder, all in it from 3.8 on (as pyenv has them:
+FOLDER/VERSION/bin/python3). How many lines are noticed when they are taken away is tried too: of a check that sees nothing no one would hear.
 
 What a loader does first has to be reached, as `reach` says it: of a loader that was given no more than what this needs. The cases are pickles that
 do nothing for long, in frames of any lengths.
@@ -26,13 +26,13 @@ import sys
 import tempfile
 from collections.abc import Callable, Iterator, Sequence
 from dataclasses import dataclass, field
-from typing import Any
+from typing import Any, Optional
 
 import load_cases
 from load_readers import CUT_SHORT, SHOW_SOME
-from loads import BUFFERED, HELD, MOST_SHOWN, ROOT, SEED, Loads, matched, old_names, without_line
+from loads import MOST_SHOWN, ROOT, SEED, Loads, all_before, matched, old_names, without_line
 from picklestep.answers import Calls
-from picklestep.hints import AT_FRAMES
+from picklestep.records import Reach
 from trials.trial import Noted, Trial
 
 COUNT = 600
@@ -43,11 +43,15 @@ FIRST = (3, 8)
 # Of 100 lines that are taken away so many are noticed. (The rest are those of what has no effect that an unpickler notes: nothing is filled in.)
 NOTICED = 98
 LINES = 400
+# The kinds of acts without a line that the pages name.
+MIXES, SHORT = "mixes of frames", "short reads"
 Acts = Sequence[Sequence[Any]]
 # What a loader has to be given for an act to be its first one.
 GIVEN = {"persistent": ("--persistent-ids",), "buffer": ("--buffers",), "extension": ("--extensions",)}
 # No module has such a sign in its name. (A loader that imports from one raises, if no point stands before that.)
 NO_MODULE = re.compile(r"""[^.]*[\0-\x20\x7f"&'()*,:-?\[\]{|}]""")
+# A name with this in it torch's loader answers before it imports, whatever the module is called.
+ANSWERED = "Storage"
 # So many cases in a hundred begin with an act, at least, and so many reach nothing.
 BEGUN, QUIET = 30, 15
 
@@ -65,12 +69,13 @@ class Kind:
 
 
 KINDS = {
-    "singles": Kind(0.3, load_cases.singles),
+    "singles": Kind(0.25, load_cases.singles),
     "strings as bytes": Kind(0.1, lambda seed, count, real: load_cases.singles(seed + 1, count, real), ("--bytes",)),
     "rows": Kind(0.15, lambda seed, count, real: load_cases.rows(seed, count)),
     "one unpickler": Kind(0.15, lambda seed, count, real: load_cases.rows(seed + 1, count), ("--one",)),
     "wide": Kind(0.1, lambda seed, count, real: load_cases.wide(seed, count)),
-    "mixed": Kind(0.2, lambda seed, count, real: load_cases.mixed(seed, count)),
+    "mixed": Kind(0.15, lambda seed, count, real: load_cases.mixed(seed, count)),
+    "mixed, one unpickler": Kind(0.1, lambda seed, count, real: load_cases.mixed(seed + 1, count, 3), ("--one",)),
 }
 
 
@@ -78,7 +83,7 @@ def version_of(python: str) -> tuple[int, ...]:
     """The version of a Python, or nothing where it is none."""
     words = [python, "-c", "import sys; print(*sys.version_info[:3])"]
     try:
-        done = subprocess.run(words, capture_output=True, text=True, check=False, timeout=60)
+        done = subprocess.run(words, capture_output=True, text=True, check=False, timeout=600)
     except OSError:
         return ()
     return tuple(map(int, done.stdout.split())) if done.returncode == 0 else ()
@@ -93,37 +98,53 @@ def pythons() -> dict[str, str]:
     return {".".join(map(str, version)): path for version, path in ordered}
 
 
-def is_known(reader: str, text: str, is_one: bool) -> str:
-    """The kind of act without a line that the pages name, or an empty text where they name none."""
-    answer = Calls(text)
-    # (from a file that shows some bytes ahead a loader may do what no line shows where U3 says so; and one unpickler that loads again where a
-    # frame may be crossed or left early)
-    is_at_frame = answer.end.code in AT_FRAMES or "unsure: U2 " in text or any(part.heading in (BUFFERED, HELD) for part in answer.parts)
-    if reader in SHOW_SOME and (answer.mixed is not None or (is_one and is_at_frame)):
-        return "mixes of frames"
-    return "short reads" if reader == CUT_SHORT else ""
+def mixed_at(calls: bytes) -> Optional[int]:
+    """Where U3 says that frames may be mixed, or None where the lines have no U3."""
+    said = Calls(calls).mixed
+    return int(said.rpartition(" ")[2]) if said is not None else None
 
 
 @dataclass
 class Tally:
+    """What was tried. Of `known` the kinds are those that the pages name; `told` counts the cases with U3, `mixes` those in which one is seen."""
+
     loads: int = 0
     acts: int = 0
+    told: int = 0
+    mixes: int = 0
     known: collections.Counter[str] = field(default_factory=collections.Counter)
     found: list[str] = field(default_factory=list)
 
-    def add(self, text: str, loads: Sequence[tuple[str, Acts]], case: bytes, is_one: bool) -> None:
+    def add(self, calls: bytes, loads: Sequence[tuple[str, Acts]], case: bytes) -> None:
         """Judges what the readers do with one case. Most do the same."""
         judged: dict[str, str] = {}
+        place = mixed_at(calls) if calls else None
+        before = self.known[MIXES]
         for reader, acts in loads:
             self.loads, self.acts = self.loads + 1, self.acts + len(acts)
             key = json.dumps(acts)
             if key not in judged:
-                judged[key] = without_line(text, acts) if text else "the program gives no answer"
-            known = is_known(reader, text, is_one) if judged[key] and text else ""
-            if known:
-                self.known[known] += 1
-            elif judged[key]:
-                self.found.append(f"{reader}: {judged[key]}: {case.hex()[:6000]}")
+                judged[key] = without_line(calls, acts) if calls else "the program gives no answer"
+            why = self._unknown(reader, calls, acts, place) if judged[key] and calls else ""
+            if judged[key] and (why or not calls):
+                self.found.append(f"{reader}: {judged[key]}{why}: {case.hex()[:6000]}")
+        self.told += place is not None
+        self.mixes += self.known[MIXES] > before
+
+    def _unknown(self, reader: str, calls: bytes, acts: Acts, place: Optional[int]) -> str:
+        """Why an act without a line is none that the pages name. If they name it, it is counted, and nothing is answered."""
+        if reader in SHOW_SOME and place is None:
+            return ", and there is no U3"
+        if reader in SHOW_SOME and not all_before(calls, acts, place or 0):
+            return f", and it comes before U3 at {place}"
+        if reader not in SHOW_SOME and reader != CUT_SHORT:
+            return " (no known kind)"
+        self.known[MIXES if reader in SHOW_SOME else SHORT] += 1
+        return ""
+
+    def note(self) -> str:
+        mixes = f"{self.known[MIXES]} loads of {self.mixes} cases with mixes, behind a U3 each ({self.told} cases have one)"
+        return f"{self.loads} loads, {self.acts} acts; without a line, as the pages say: {mixes}, {self.known[SHORT]} loads with short reads"
 
 
 def try_python(loads: Loads, version: str, python: str, seed: int, count: int, real: Sequence[bytes]) -> Noted:
@@ -135,13 +156,12 @@ def try_python(loads: Loads, version: str, python: str, seed: int, count: int, r
         given = list(kind.make(seed, round(count * kind.share), real))
         cases += len(given)
         for case, done in zip(given, loads.done(f"readers {version} {name}", given, ["--all", *kind.options], python)):
-            tally.add(loads.text(case, kind.words()), done, case, bool(kind.words()))
+            tally.add(loads.calls(case, kind.words()), done, case)
     shown = "; ".join(sorted(tally.found, key=len)[:MOST_SHOWN])
     why = f"{len(tally.found)} differences, first {shown}" if tally.found else ""
     # (A trial that never meets a mix would not see one that is new.)
-    why = why or "; ".join(f"no case has {what}" for what in ("mixes of frames", "short reads") if count >= COUNT and not tally.known[what])
-    known = ", ".join(f"{number} with {what}" for what, number in sorted(tally.known.items()))
-    return Noted(why, f": {cases} cases, {tally.loads} loads, {tally.acts} acts; without a line, as the pages say: {known or 'none'}")
+    why = why or "; ".join(f"no case has {what}" for what in (MIXES, SHORT) if count >= COUNT and not tally.known[what])
+    return Noted(why, f": {cases} cases, {tally.note()}")
 
 
 @dataclass
@@ -169,12 +189,13 @@ class Reached:
 
 
 def _given(acts: Acts) -> list[tuple[str, ...]]:
-    """What a loader was given that does these; nothing where it does nothing, or imports first from what can be no module."""
+    """What a loader was given that does these; nothing where it does nothing, or imports first from what can be no module. (The loaders here have an
+    answer for all names, as torch's has for some.)"""
     if not acts:
         return []
     what, _, *rest = acts[0]
     if what == "import" and rest[0] != "extension":
-        return [()] if rest[0] and not NO_MODULE.match(rest[0]) else []
+        return [()] if ANSWERED in rest[1] or rest[0] and not NO_MODULE.match(rest[0]) else []
     return [GIVEN.get("extension" if what == "import" else what, ())]
 
 
@@ -192,10 +213,9 @@ def try_reach(loads: Loads, python: str, seed: int, count: int) -> Noted:
     return Noted(why, f": {count} cases, {reached.loaded} loads, in {reached.begun} something is reached, {reached.nothing} answers that nothing is")
 
 
-def _without(text: str, offset: int, line: str) -> str:
-    """A text without the lines of this opcode that say this."""
-    begin = re.compile(rf" *{offset}: ")
-    return "\n".join(each for each in text.split("\n") if not (begin.match(each) and each.endswith(line)))
+def _without(calls: bytes, gone: Reach) -> bytes:
+    """The lines but those of this opcode that say this."""
+    return b"".join(line for line in calls.splitlines(keepends=True) if json.loads(line).get("text", "") != f"{gone.offset:5}: {gone.text}")
 
 
 def try_noticed(loads: Loads, real: Sequence[bytes]) -> Noted:
@@ -206,14 +226,14 @@ def try_noticed(loads: Loads, real: Sequence[bytes]) -> Noted:
     tried = 0
     missed: list[str] = []
     for case, done in zip(cases, loads.done("noticed", cases, [])):
-        text = loads.text(case, [])
+        calls = loads.calls(case, [])
         acts: Acts = chance.choice(done)[1]
-        why, lines = matched(text, acts) if text else ("no answer", [])
+        why, lines = matched(calls, acts) if calls else ("no answer", [])
         if why or not acts:
             continue
         gone = chance.choice(lines).reach
         tried += 1
-        if not without_line(_without(text, gone.offset, gone.text), acts):
+        if not without_line(_without(calls, gone), acts):
             missed.append(f"{gone.text}: {case.hex()[:400]}")
     noticed = tried - len(missed)
     why = "" if noticed * 100 >= tried * NOTICED > 0 else f"too few: {'; '.join(sorted(missed, key=len)[:MOST_SHOWN])}"

@@ -26,11 +26,11 @@ hostile = b'cposix\\nsystem\\n(X\\x02\\0\\0\\0idtR.'
 print([reach.text for reach in picklestep.calls(hostile)], picklestep.listing(hostile)[0].name, picklestep.objects(b'0.').end.offset)
 with picklestep.Session(hostile) as session:
     session.insert(0, 'NONE')
-    print(session.bytes() == b'N' + hostile, picklestep.calls(hostile, timeout=60).calls, picklestep.calls(hostile, memory=64 << 20).imports)
+    print(session.bytes() == b'N' + hostile, picklestep.calls(hostile, timeout=600).calls, picklestep.calls(hostile, memory=64 << 20).imports)
 print(library.answer(['calls'], hostile) is not None, place.find_program().rpartition('/')[2])
 """
 SAID = "[\"import 'posix' 'system' as #0\", \"call 'posix' 'system' ('id') as #3\"] GLOBAL 0\nTrue 1 1\n"
-SECONDS = 900
+SECONDS = 3600
 RELEASED = "dist/linux-x86_64-static/picklestep"
 
 

@@ -65,6 +65,8 @@ MADE = (*PROGRAMS, *(f'{folder}/{part}' for folder in LIBRARIES.values() for par
 # What a crate is to rattle: its row of crates.txt, its root file, and words.
 CRATES = {'picklestep': ('picklestep:', 'src/main.rt', []),
           'picklestep_library': ('picklestep_library staticlib:', 'src/lib.rt', ['--crate-type', 'staticlib'])}
+# The crate that only the library uses.
+BESIDE = 'library_answers'
 # The keeper stands in for clang while rattle builds. The object file that rattle asks it for is used by nobody, so it is an empty one: to
 # compile the module would take as long as for a target.
 KEEPER = """#!/bin/bash
@@ -122,6 +124,13 @@ def libraries(row: str) -> list[str]:
         if f'dependency={own}' not in words:
             words += ['-L', f'dependency={own}']
     return words
+
+
+def build_beside() -> None:
+    """Proves and builds what `./build` does not. What `rt ci` built is of the sources as they are, and it leaves no stamp."""
+    own = ROOT / 'crates' / BESIDE / 'out/rlib'
+    if (own / 'stamp').exists() or not (own / f'{BESIDE}.rlib').exists():
+        run(KIT / 'bin/rt', 'lib', at=ROOT / 'crates' / BESIDE)
 
 
 def keep_module(crate: str, folder: Path) -> Path:
@@ -263,6 +272,8 @@ def make_all(to: Path) -> None:
         for file in MADE:
             (made / file).parent.mkdir(parents=True, exist_ok=True)
         kept = os.environ.get('PICKLESTEP_MODULES')  # (a folder of them, while one works on this file)
+        if not kept:
+            build_beside()
         with ThreadPoolExecutor() as pool:
             modules = dict(zip(CRATES, pool.map(lambda crate: Path(kept, f'{crate}.bc') if kept else keep_module(crate, folder), CRATES)))
         maker = Maker(folder, *(plain_text(module, folder, crate) for crate, module in modules.items()))

@@ -21,6 +21,7 @@ ROOT = Path(__file__).resolve().parent.parent
 sys.path.insert(0, str(ROOT / 'python'))
 sys.dont_write_bytecode = True
 
+from picklestep.plain import PLAIN  # noqa: E402
 from picklestep.view.opcodes import opcode_table, source_facts  # noqa: E402
 
 VIEW = ROOT / 'python/picklestep/view'
@@ -77,7 +78,7 @@ def make(folder: Path, before: Path) -> bytes:
     page = re.sub(r'<script src="[a-z]+\.js" defer></script>\n', '', page)
     data = [element('script', read(*WORKER), ' type="text/plain" id="worker-code"'),
             *(element('script', json.dumps(facts, separators=(',', ':')), f' type="application/json" id="{name}"')
-              for name, facts in (('opcodes', opcode_table()), ('source-facts', source_facts()))),
+              for name, facts in (('opcodes', opcode_table()), ('source-facts', source_facts()), ('plain', PLAIN))),
             *(packed(name, (folder / file).read_bytes(), kept) for name, file in MODULES.items())]
     for old, new in (('<meta charset="utf-8">', f'<meta charset="utf-8">\n<meta http-equiv="Content-Security-Policy" content="{policy}">'),
                      ('href="icon.svg"', f'href="data:image/svg+xml;base64,{icon}"'),

@@ -1,4 +1,4 @@
-"""Makes the drawings of docs/PICKLES.md, docs/PROMISE.md, docs/start and docs/why: what the program answers about small pickles, step by step.
+"""Makes the drawings of docs/start/pickles.md, docs/why/promise.md, docs/start and docs/why: what the program answers about small pickles, step by step.
 
     python3 tools/make_drawings.py [FOLDER]
 
@@ -255,11 +255,29 @@ def trust() -> Drawing:
     return drawing
 
 
+def beginning() -> Drawing:
+    """The lines of a pickle, and how far an unpickler comes in three environments."""
+    drawing = Drawing(810, 240, 'The lines of calls, and below them what an unpickler does in three environments: each time a beginning of the lines')
+    drawing.text(20, 58, 'lines of calls', font=SANS, weight='bold')
+    lefts = (240, 420, 600)
+    for left, fill, words in zip(lefts, (IMPORT, CALL, IMPORT), ('import date', 'call date (0, 1, 1)', 'import time')):
+        drawing.box(left, 30, 170, 44, fill)
+        drawing.text(left + 85, 57, words, anchor='middle', size=12)
+    for row, (words, acts) in enumerate((('no module datetime', 1), ('the call raises', 2), ('nothing raises', 3))):
+        top = 96 + 44 * row
+        drawing.text(20, top + 20, words, font=SANS)
+        for number in range(acts):
+            is_last = number == acts - 1
+            drawing.box(lefts[number], top, 170, 32, PLAIN)
+            drawing.text(lefts[number] + 85, top + 20, 'raises' if is_last and acts < 3 else 'done', FAINT, SANS, 12, 'middle')
+    return drawing
+
+
 def main(words: Sequence[str]) -> int:
     """Writes all drawings into a folder."""
     folder = Path(words[0]) if words else ROOT / 'docs' / 'drawings'
     folder.mkdir(parents=True, exist_ok=True)
-    drawings = {'machine': machine(), 'trust': trust(), 'bytes': bytes_of_opcodes(), 'frames': frames()}
+    drawings = {'machine': machine(), 'trust': trust(), 'bytes': bytes_of_opcodes(), 'frames': frames(), 'beginning': beginning()}
     drawings['stack'] = panels(b'K\x01K\x02\x86.', 'The stack after each of three opcodes')
     drawings['marks'] = panels(b'](K\x01K\x02e.', 'The stack with a mark, after each of five opcodes')
     drawings['memo'] = panels(b']\x94h\x00a.', 'The stack and the memo after each of four opcodes')

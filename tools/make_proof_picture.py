@@ -1,7 +1,7 @@
 #!/usr/bin/env python3
-"""Prints the picture of docs/PROVED.md: what is proved of what, and what is only tested.
+"""Prints the picture of docs/why/proved.md: what is proved of what, and what is only tested.
 
-    python3 tools/make_proof_picture.py >docs/proved.svg
+    python3 tools/make_proof_picture.py >docs/why/proved.svg
 """
 
 from __future__ import annotations

@@ -1,4 +1,4 @@
-"""Makes the screenshots of docs/PYTHON.md: the page of `picklestep view` on two real pickles. It needs chromium.
+"""Makes the screenshots of docs/reference/python.md: the page of `picklestep view` on two real pickles. It needs chromium.
 
     python3 tools/make_screenshots.py
 """

@@ -3,9 +3,9 @@
 
     python3 tools/make_site.py OUT
 
-OUT is a folder that gets the site. It needs Debian's package mkdocs. The site asks nothing of the network, and can be opened from a disk: begin with
+OUT is a folder that gets the site. It needs Debian's packages mkdocs and python3-sphinx. The site asks nothing of the network, and can be opened from a disk: begin with
 OUT/index.html. The pages stay as they are: what they link to is copied beside them, and lists get the indents that mkdocs asks for. One page more
-has each name of the Python package, with its docstring.
+has each name of the Python package, as Sphinx shows its docstring.
 """
 
 from __future__ import annotations
@@ -25,6 +25,8 @@ from urllib.parse import unquote, urlsplit
 
 ROOT = Path(__file__).resolve().parent.parent
 SITE = ROOT / 'docs' / 'site'
+# Debian's packages of the programs that make the site.
+NEEDED = {'mkdocs': 'mkdocs', 'sphinx-build': 'python3-sphinx'}
 sys.path[:0] = [str(ROOT / 'equipment'), str(ROOT / 'python')]
 
 from pages import without_code  # noqa: E402
@@ -65,7 +67,7 @@ def indented(line: str) -> str:
     blanks = len(line) - len(line.lstrip(' '))
     if blanks >= 6:  # (code within an item)
         return '  ' + line
-    return ' ' * (4 * ((blanks + 1) // 2)) + line.lstrip(' ')
+    return ' ' * (4 * (blanks // 2)) + line.lstrip(' ')  # (below a numbered item a level has three blanks)
 
 
 def with_lists(text: str) -> str:
@@ -93,42 +95,41 @@ def with_lists(text: str) -> str:
 
 # --- The names of the package ---
 
-def described(docstring: str) -> List[str]:
-    """The lines of a docstring, with its examples as code."""
-    lines: List[str] = []
-    is_example = False
-    for line in inspect.cleandoc(docstring).splitlines():
-        if line.startswith('>>> ') and not is_example and lines and lines[-1]:
-            lines.append('')
-        is_example = line.startswith('>>> ') or is_example and bool(line)
-        lines.append(f'    {line}' if is_example else line)
-    return lines
+# What Sphinx makes of a name: what each is, and what it has that users call.
+SETTINGS = '''extensions = ['sphinx.ext.autodoc']
+default_role = 'code'
+smartquotes = False
+html_permalinks = False
+html_theme = 'basic'
+autodoc_member_order = 'bysource'
 
 
-def members_of(found: type) -> Iterator[Tuple[str, str, str]]:
-    """What a class itself has that users call: each heading, with the signature and the docstring."""
-    for name, member in vars(found).items():
-        plain = inspect.unwrap(member) if inspect.isfunction(member) else member
-        if not name.startswith('_') and (inspect.isfunction(plain) or isinstance(plain, property)) and plain.__doc__:
-            yield name, f'{name}{inspect.signature(plain)}' if inspect.isfunction(plain) else name, plain.__doc__
+def setup(app):
+    app.connect('autodoc-skip-member', lambda app, what, name, found, skip, options: skip or (found.__doc__ or '').startswith('Alias for field'))
+'''
+OF_SPHINX = '<div class="names">'
 
 
-def page_of_names() -> str:
-    """Each public name of the package, with what its docstring says."""
+def page_of_names(folder: Path) -> str:
+    """Each public name of the package, with what its docstring says, as Sphinx shows it."""
     import picklestep
 
-    lines = ['# All names of the package', '', '[From Python](../PYTHON.md) explains how they belong together. `help` in Python shows the same.']
+    lines = ['Names', '=====', '', '.. currentmodule:: picklestep']
     for name in sorted(picklestep.__all__, key=str.lower):
         found = getattr(picklestep, name)
-        if not (inspect.isclass(found) or inspect.isfunction(found)):
-            continue
-        lines += ['', f'## {name}', '']
-        if inspect.isfunction(found) or not issubclass(found, Exception):
-            lines += [f'    picklestep.{name}{inspect.signature(found)}', '']
-        lines += described(found.__doc__ or '')
-        for heading, signature, docstring in members_of(found) if inspect.isclass(found) else ():
-            lines += ['', f'### {name}.{heading}', '', f'    {signature}', '', *described(docstring)]
-    return '\n'.join(lines) + '\n'
+        if inspect.isclass(found):
+            lines += ['', name, '-' * len(name), '', f'.. autoclass:: {name}', '   :members:']
+        elif inspect.isfunction(found):
+            lines += ['', name, '-' * len(name), '', f'.. autofunction:: {name}']
+    folder.mkdir()
+    (folder / 'conf.py').write_text(SETTINGS, encoding='utf-8')
+    (folder / 'index.rst').write_text('\n'.join(lines) + '\n', encoding='utf-8')
+    environment = {**os.environ, 'PYTHONPATH': str(ROOT / 'python'), 'PYTHONDONTWRITEBYTECODE': '1'}
+    subprocess.run(['sphinx-build', '-b', 'html', '-Q', str(folder), str(folder / 'out')], env=environment, check=True)
+    page = (folder / 'out' / 'index.html').read_text(encoding='utf-8')
+    body = page.partition('<section id="names">')[2].rpartition('</section>')[0].partition('</h1>')[2]
+    intro = '[From Python](python.md) explains how they belong together. `help` in Python shows the same.'
+    return f'# All names of the package\n\n{intro}\n\n{OF_SPHINX}\n{body}\n</div>\n'
 
 
 # --- What mkdocs asks this file for ---
@@ -144,7 +145,7 @@ def on_config(config: Any) -> Any:
 
 
 def on_page_markdown(markdown: str, **_: Any) -> str:
-    return with_lists(markdown)
+    return markdown if OF_SPHINX in markdown else with_lists(markdown)
 
 
 # --- Links ---
@@ -187,12 +188,7 @@ def faults(out: Path) -> Iterator[str]:
 
 
 def left_out() -> Iterator[str]:
-    """The pages of docs that the menu does not name, and the words of picklestep that the index of the reference does not."""
-    help_page = (ROOT / 'python' / 'picklestep' / 'help' / 'picklestep.txt').read_text(encoding='utf-8')
-    index = (ROOT / 'docs' / 'reference' / 'README.md').read_text(encoding='utf-8')
-    for word in re.findall(r'^  ([a-z]+) {2,}\S', help_page, flags=re.M):
-        if index.count(f'\n| `{word}` |') != 1:
-            yield f'docs/reference/README.md does not have a row for {word}'
+    """The pages of docs that the menu does not name."""
     named = set(re.findall(r': (\S+\.md)$', (SITE / 'mkdocs.yml').read_text(encoding='utf-8'), flags=re.M))
     for page in sorted((ROOT / 'docs').rglob('*.md')):
         if str(page.relative_to(ROOT)) not in named:
@@ -205,7 +201,7 @@ def build(out: Path) -> None:
     with tempfile.TemporaryDirectory() as name:
         folder = Path(name)
         copied(folder / 'pages')
-        (folder / 'pages' / 'docs' / 'reference' / 'names.md').write_text(page_of_names(), encoding='utf-8')
+        (folder / 'pages' / 'docs' / 'reference' / 'names.md').write_text(page_of_names(folder / 'names'), encoding='utf-8')
         shutil.copytree(SITE / 'theme', folder / 'theme')
         config = (SITE / 'mkdocs.yml').read_text(encoding='utf-8')
         settings = {'docs_dir': str(folder / 'pages'), 'site_dir': str(out), 'hooks': [str(Path(__file__).resolve())]}
@@ -221,9 +217,10 @@ def main(words: List[str]) -> int:
     if len(words) != 1:
         print(__doc__, file=sys.stderr)
         return 2
-    if shutil.which('mkdocs') is None:
-        print('make_site: mkdocs is not installed: apt-get install mkdocs', file=sys.stderr)
-        return 2
+    for program, package in NEEDED.items():
+        if shutil.which(program) is None:
+            print(f'make_site: {program} is not installed: apt-get install {package}', file=sys.stderr)
+            return 2
     out = Path(words[0]).resolve()
     build(out)
     found = [*faults(out), *left_out()]

@@ -49,8 +49,7 @@ ATTACKS = [
     ('build_on_a_module', b'cbuiltins\n__dict__\n}' + text(b'print') + SYSTEM + b'sb.', 'BUILD changes what names mean'),
     ('memo_entry_overwritten', b'\x80\x02cbuiltins\nprint\nq\x00' + b'0' + SYSTEM + b'q\x00' + b'0h\x00' + text(PAYLOAD) + b'\x85R.',
      'a name in the memo is stored again'),
-    ('memo_entry_overwritten_late', b"(S'harmless'\np0\n" + SYSTEM + b'p0\n(g0\nV' + PAYLOAD + b'\no.',
-     'likewise, as text'),
+    ('memo_entry_overwritten_late', b"(S'harmless'\np0\n" + SYSTEM + b'p0\n(g0\nV' + PAYLOAD + b'\no.', 'likewise, as text'),
     ('memo_count_after_overwriting', b'\x80\x04N\x94q\x00N\x94N\x94]h\x01\x85.', 'MEMOIZE counts entries, not what was stored'),
     ('memo_key_far_away', b'\x80\x02' + SYSTEM + b'r\xff\xff\xff\x7f0j\xff\xff\xff\x7f' + text(PAYLOAD) + b'\x85R.',
      'a key that a table of memo entries cannot hold'),
@@ -131,9 +130,7 @@ REFUSED = [
 ]
 
 # opcodes that only Python 2 writes
-OLD = [
-    ('python_2_strings_by_hand', b"\x80\x02(S'line'\nU\x05shortT" + struct.pack('<i', 300) + b'long ' * 60 + b't.', 'three strings'),
-]
+OLD = [('python_2_strings_by_hand', b"\x80\x02(S'line'\nU\x05shortT" + struct.pack('<i', 300) + b'long ' * 60 + b't.', 'three strings')]
 
 NO_PICKLES = [
     ('empty_file', b'', 'no byte'),

@@ -164,8 +164,7 @@ def objects() -> Any:
 def exceptions() -> Any:
     fault: Any = ValueError('a value', 17)
     fault.note = 'an attribute'
-    return [fault, KeyError('k'), OSError(2, 'No such file', 'name.txt'), UnicodeDecodeError('utf-8', b'\xff', 0, 1, 'why'),
-            StopIteration()]
+    return [fault, KeyError('k'), OSError(2, 'No such file', 'name.txt'), UnicodeDecodeError('utf-8', b'\xff', 0, 1, 'why'), StopIteration()]
 
 
 def log_record() -> Any:

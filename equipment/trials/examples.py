@@ -15,11 +15,14 @@ from .trial import Trial
 
 COMMAND = "    $ "
 MARGIN = "    "
-COMMANDS = ("README.md", "docs/PICKLES.md", "docs/PROMISE.md", "docs/LOOK.md", "docs/LOADERS.md", "docs/ARCHIVES.md", "docs/JSON.md", "docs/howto/*.md")
-PAGES = ("docs/USING.md", "docs/DEBUG.md", "equipment/conversations.txt", "equipment/texts.txt", "equipment/calls.txt")
+COMMANDS = ("README.md", "docs/FAQ.md", "docs/start/*.md", "docs/howto/*.md", "docs/why/*.md", "docs/reference/*.md")
+# Pages that need files or a server beside them: the package's tests run their commands.
+APART = tuple(f"docs/reference/{name}.md" for name in ("common", "lists", "policy", "scan", "scan_missed", "scan_rule", "shell", "stores"))
+# This page has conversations, with a.pickle and b.pickle, and commands with other files.
+DEBUG = "docs/reference/debug.md"
+CONVERSATIONS = ("calls", "debug", "reach")
+PAGES = (*(f"docs/reference/{name}.md" for name in CONVERSATIONS), "equipment/conversations.txt", "equipment/texts.txt", "equipment/calls.txt")
 BLOCK = re.compile(r"^ *(?:(?:pickles?|unframed)(?: [0-9a-f ]+)?|(?:form|list|calls|members)(?: [0-9a-f ]+)?: .+|\$ echo '[0-9a-f ]+' \| xxd -r -p >a\.pickle)$", re.MULTILINE)
-# Pages whose commands may be typed at the prompt of the shell too.
-TYPED = ("docs/FAQ.md", "docs/start/*.md", "docs/why/*.md", "docs/reference/*.md")
 PROMPT = "(pickle) "
 
 
@@ -54,6 +57,8 @@ class Commands:
 
     def __post_init__(self) -> None:
         self.examples = list(examples_of((self.room.root / self.page).read_text("utf-8")))
+        if self.page == DEBUG:
+            self.examples = [example for example in self.examples if not re.search(r"\b[ab]\.pickle", example[0])]
 
     @functools.cached_property
     def folder(self) -> Path:
@@ -79,8 +84,8 @@ class Commands:
 
 def of_commands(room: Room) -> list[Trial]:
     trials = []
-    pages = [str(page.relative_to(room.root)) for pattern in (*COMMANDS, *TYPED) for page in sorted(room.root.glob(pattern))]
-    for page in pages:
+    pages = [str(page.relative_to(room.root)) for pattern in COMMANDS for page in sorted(room.root.glob(pattern))]
+    for page in (page for page in pages if page not in APART):
         commands = Commands(room, page)
         trials += [Trial(f"the example '{command}' of {page}", functools.partial(commands.fault, number))
                    for number, (command, _) in enumerate(commands.examples)]

@@ -138,7 +138,7 @@ WAYS: dict[str, Callable[[object, int], bytes]] = {
 
 
 def said(room: Room, path: Path) -> bytes:
-    return subprocess.run([str(room.program), "form", str(path)], capture_output=True, timeout=60).stdout
+    return subprocess.run([str(room.program), "form", str(path)], capture_output=True, timeout=600).stdout
 
 
 def fault_of_way(room: Room, way: Callable[[object, int], bytes]) -> Noted:

@@ -39,6 +39,9 @@ CALLED_BEHIND = b"\x80\x02cm\nP\nq\x00)Rq\x01(K\x01K\x02K\x03tq\x02b)Rq\x03."
 ANY_STATE = b"m.C: new made-call made-new made-state made-fill\nposix.system:\n"
 # `bytes` in protocol 2: a call with a text and the name of an encoding.
 ENCODED = pickle.dumps(b"abc", 2)
+# Protocol 3: `set` of a list, and of what a call made. Protocol 2: `bytearray` of what `encode` makes.
+SET, SET_OF_CALL = (b"\x80\x03cbuiltins\nset\nq\x00" + given for given in (b"]q\x01K\x01a\x85q\x02Rq\x03.", b"ccollections\nOrderedDict\nq\x01)Rq\x02\x85q\x03Rq\x04."))
+ARRAY_OF_BYTES = pickle._dumps(bytearray(b"ab"), 2)  # type: ignore[attr-defined]
 # In Python 2 `reduce` was in `__builtin__`.
 RENAMED = b"\x80\x02c__builtin__\nreduce\nq\x00."
 PERSISTENT = b"\x80\x02X\x01\x00\x00\x00aq\x00Q."
@@ -171,6 +174,9 @@ CASES = (
     Case("arguments of __new__", b"m.C: call(held)\n", WITH_STATE, NEW),
     Case("arguments of __new__ by its own word", b"m.C: new call(held)\n", WITH_STATE, NEW),
     Case("a state of a shape, of what __new__ made", b"m.C: new then(held)\n", WITH_STATE, STATE),
+    Case("a list that the pickle wrote out", b"builtins.set: call(listed)\n", SET, PASSES),
+    Case("what a call made in its place", b"builtins.set: call(listed)\ncollections.OrderedDict: call\n", SET_OF_CALL, "52: not allowed: call 'builtins' 'set' (#3) as #5\n"),
+    Case("bytes that a call makes", b"builtins.bytearray: call(bytes)\n_codecs.encode: call\n", ARRAY_OF_BYTES, PASSES),
     Case("an archive of a pickle, of numbers and of a text", b"collections.OrderedDict: call made-fill\n", MODEL, PASSES),
     Case("an archive without members", b"", zipped(), PASSES),
     Case("a member that is not allowed", b"", MODEL, f"'archive/data.pkl': {IMPORT}"),
@@ -179,6 +185,7 @@ CASES = (
     Case("a member that no pickler writes, in which something is", b"", zipped(("a.pkl", b"J\x01\0\0\0" + SYSTEM)), "'a.pkl': not in form: item 0 at 0: a number that has a shorter form\n"),
     Case("a text of which a loader imports what stands before a point", b"", zipped(("a", b"cthis.a b\nx\n")), "'a': not in form: item 0 at 0: an import whose names are not plain\n"),
     Case("a text that no loader imports from", b"", zipped(("a", b"ca b.this\nx\n")), PASSES),
+    Case("a module that can be none, with a name that torch answers", b"torch.*Storage:\n", zipped(("a/data.pkl", b"c a\nFloatStorage\n0" + SYSTEM)), "'a/data.pkl': not in form: item 0 at 0: an import whose names are not plain\n"),
     Case("a member that ends too early", b"**", zipped(("a.pkl", ORDERED[:-1])), "'a.pkl': not in form: item 10 at 44: no opcode can be read\n"),
     Case("packed members", b"collections.OrderedDict: call made-fill", PACKED, PASSES),
     Case("a packed member that is not allowed", b"", PACKED, f"'a.pkl': {IMPORT}"),

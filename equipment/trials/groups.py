@@ -120,6 +120,7 @@ def of_pickles(room: Room) -> list[AnyGroup]:
         group("lines", line_trials, room),
         Group("calls", functools.partial(count_calls.trials, counts, room.pickles), counts.closing),
         group("there-and-back", listings.there_and_back, room),
+        group("assembled", listings.assembled, room),
         Group("several", functools.partial(several.trials, inputs, room.pickles, room.listings), inputs.closing),
         group("large", large.trials, room),
     ]

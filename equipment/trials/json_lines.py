@@ -4,10 +4,13 @@ from __future__ import annotations
 
 import functools
 import json
+import re
 import shutil
-from collections.abc import Sequence
+from collections.abc import Iterable, Iterator, Sequence
 from pathlib import Path
 
+import calls_of_json
+import conversations
 import json_of_texts
 
 from .listings import start_of
@@ -17,6 +20,7 @@ from .samples import PAIR_JSON
 from .trial import Lack, Trial
 
 MODES: Sequence[Sequence[str]] = ((), ("--many",), ("--unframed",), ("--many", "--unframed"))
+CALLS_MODES: Sequence[Sequence[str]] = ((), ("--first",), ("--memo", "kept"), ("--full",), ("--memo", "kept", "--full"))
 # Reads lines of JSON, and writes each again without white space.
 NODE = """
 const lines = require('fs').readFileSync(0, 'utf8').split('\\n');
@@ -38,12 +42,10 @@ def of_python(lines: bytes) -> bytes:
     return b"".join(json.dumps(json.loads(line), ensure_ascii=False, separators=(",", ":")).encode() + b"\n" for line in lines_of(lines))
 
 
-def fault_of_lines(room: Room, lines: bytes, text: bytes) -> str:
-    """Each line is an object in ASCII which both read as the same, and which says what the text says."""
+def fault_of_lines(lines: bytes, text: bytes) -> str:
+    """Each line is an object in ASCII, which says what the text says."""
     if not lines.isascii() or not lines.endswith(b"\n"):
         return f"no lines in ASCII, but: {beginning(lines)}"
-    if of_node(room, lines) != of_python(lines):
-        return "Node reads other values than Python"
     wanted = list(json_of_texts.of_listing(text.decode()))
     found = [json.loads(line) for line in lines_of(lines)]
     for number, (one, other) in enumerate(zip(found, wanted), 1):
@@ -53,12 +55,67 @@ def fault_of_lines(room: Room, lines: bytes, text: bytes) -> str:
 
 
 def fault_of(room: Room, pickle: Path) -> str:
+    """In each mode. Node is started once for all of them."""
+    printed = b""
     for mode in MODES:
         text, lines = (room.observe(start_of(room, pickle), "list", *mode, *options, pickle) for options in ((), ("--json",)))
-        why = lines.fault_of_status(text.status) or fault_of_lines(room, lines.output, text.output)
+        why = lines.fault_of_status(text.status) or fault_of_lines(lines.output, text.output)
         if why or lines.errors:
             return f"{' '.join(mode)}: {why or beginning(lines.errors)}"
-    return ""
+        printed += lines.output
+    return "" if of_node(room, printed) == of_python(printed) else "Node reads other values than Python"
+
+
+def calls_as_lines(room: Room, pickle: Path, mode: Sequence[str]) -> tuple[bytes, str]:
+    """The lines of `calls`, and what is wrong: they have to say its text, with its status."""
+    text, lines = (run([room.program, "calls", *mode, *options, pickle], room.files) for options in ((), ("--json",)))
+    if not lines.output.isascii() or not lines.output.endswith(b"\n") or lines.errors:
+        return lines.output, f"{' '.join(mode)}: no lines in ASCII, but: {beginning(lines.output + lines.errors)}"
+    said, status = calls_of_json.of_lines([json.loads(line) for line in lines_of(lines.output)])
+    why = lines.fault_of_status(text.status) or ("" if status == text.status else f"the last line has the status {status}")
+    wanted = text.output.decode()
+    return lines.output, why or ("" if said == wanted else f"{' '.join(mode)}: they say {beginning(said.encode())} and not {beginning(wanted.encode())}")
+
+
+def fault_of_calls(room: Room, asked: Iterable[tuple[Path, Sequence[str]]]) -> str:
+    """Of pickles, each with its options. Node is started once for all of them."""
+    printed = b""
+    for pickle, mode in asked:
+        lines, why = calls_as_lines(room, pickle, mode)
+        if why:
+            return f"{pickle.read_bytes()[:100].hex()}: {why}"
+        printed += lines
+    return "" if of_node(room, printed) == of_python(printed) else "Node reads other values than Python"
+
+
+def rows_of_calls(room: Room) -> Iterator[tuple[Path, Sequence[str]]]:
+    """Each pickle of calls.txt, with the options of each of its rows."""
+    rows = (room.equipment / "calls.txt").read_text()
+    for number, found in enumerate(re.finditer(r"^pickle (.*)\n((?:.+\n)*)", rows, re.MULTILINE)):
+        pickle = room.files / f"row_{number}.pickle"
+        pickle.write_bytes(bytes.fromhex(found[1]))
+        for options in re.findall(r"^\$ calls(.*)$", found[2], re.MULTILINE):
+            yield pickle, options.split()
+
+
+def fault_of_forms(room: Room, page: Path) -> str:
+    """Of each row of `form`: the line of JSON says what the text says, and each reason has a name of its own."""
+    folder = room.folder / "forms"
+    folder.mkdir(parents=True, exist_ok=True)
+    file, names, said = folder / "a.pickle", {}, {}
+    for block in conversations.blocks_of(page.read_text()):
+        if "form" not in block.written:
+            continue
+        file.write_bytes(block.pickle)
+        text, lines = (run([room.program, "form", *options, file], folder) for options in ((), ("--json",)))
+        fields = json.loads(lines.output)
+        name, words = fields.pop("reason", ""), fields.get("words", "")
+        wanted = json_of_texts.of_form(text.output.decode())
+        if list(fields.items()) != list(wanted.items()) or (name == "") != (words == "") or lines.fault_of_status(text.status):
+            return f"{block.name}: {beginning(lines.output)}"
+        if names.setdefault(words, name) != name or said.setdefault(name, words) != words:
+            return f"{block.name}: '{words}' is {name}"
+    return "" if len(names) > 30 else f"there are {len(names)} reasons"
 
 
 def opcode(offset: int, name: str, rest: str = "") -> str:
@@ -74,6 +131,7 @@ ROWS = (
     Row("JSON of two pickles", ("list", "--many", "--json", "twice.pickle"), output=TWICE),
     Row("JSON of an argument that is cut", ("list", "--json", "cut_short.pickle"), status=1,
         output='{"kind":"end","how":"fault","code":"F3","words":"truncated","offset":0,"of_frame":false}\n'),
+    fails("JSON of a file past the size limit", "too large", "list", "--json", "too_large.pickle"),
     fails("JSON, on a full device", "cannot write", "list", "--json", "pair.pickle", through=FULL),
     fails("JSON, with closed standard output", "cannot write", "list", "--json", "pair.pickle", through=CLOSED),
 )
@@ -82,5 +140,11 @@ ROWS = (
 def trials(room: Room) -> list[Trial]:
     return [
         *trials_of(ROWS, room),
+        Trial("JSON of forms", functools.partial(fault_of_forms, room, room.equipment / "conversations.txt")),
         *(Trial(f"JSON of {pickle.stem}", functools.partial(fault_of, room, pickle)) for pickle in sorted(room.pickles.glob("*.pickle"))),
+        *(
+            Trial(f"JSON of the calls of {pickle.stem}", functools.partial(fault_of_calls, room, [(pickle, mode) for mode in CALLS_MODES]))
+            for pickle in sorted(room.pickles.glob("*.pickle"))
+        ),
+        Trial("JSON of the rows of calls.txt", lambda: fault_of_calls(room, rows_of_calls(room))),
     ]

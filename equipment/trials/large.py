@@ -26,31 +26,14 @@ EDITS = (
     ),
 )
 FORM = Row("the form of a large input", ("form", "large_dump.pickle"), output="in form\n")
-LONGER = Row(
-    "an edit of the largest input",
-    ("debug", "largest.pickle"),
-    "insert 0 NONE\n",
-    status=1,
-    output="refused: C9 E8 too large\n",
-)
+LONGER = Row("an edit of the largest input", ("debug", "largest.pickle"), "insert 0 NONE\n", status=1, output="refused: C9 E8 too large\n")
 # Through a pipe, of which the system says no size: the most bytes are read, and one more is too many.
 PIPES = (
-    Row(
-        "the largest input through a pipe",
-        ("calls", "/dev/stdin"),
-        output="0 imports, 0 calls\n",
-        through='cat largest.pickle | "$@"',
-    ),
-    fails(
-        "an input past the size limit through a pipe",
-        "too large",
-        "calls",
-        "/dev/stdin",
-        through='{ cat largest.pickle; printf N; } | "$@"',
-    ),
+    Row("the largest input through a pipe", ("calls", "/dev/stdin"), output="0 imports, 0 calls\n", through='cat largest.pickle | "$@"'),
+    fails("an input past the size limit through a pipe", "too large", "calls", "/dev/stdin", through='{ cat largest.pickle; printf N; } | "$@"'),
 )
 GIGABYTES = 6
-MOST_SECONDS = 300
+MOST_SECONDS = 1800
 CHUNK = 1 << 20
 
 
@@ -85,9 +68,7 @@ def zeros_between(before: str, count: int, behind: str) -> Iterator[bytes]:
 def writes(room: Room, task: str, file: str, pieces: Iterator[bytes]) -> str:
     """A task writes this text, and ends well."""
     words: list[Word] = ["timeout", str(MOST_SECONDS), room.start, task, file]
-    with subprocess.Popen(
-        words, cwd=room.files, stdin=subprocess.DEVNULL, stdout=subprocess.PIPE, stderr=subprocess.PIPE
-    ) as writer:
+    with subprocess.Popen(words, cwd=room.files, stdin=subprocess.DEVNULL, stdout=subprocess.PIPE, stderr=subprocess.PIPE) as writer:
         assert writer.stdout and writer.stderr
         is_same = all(writer.stdout.read(len(piece)) == piece for piece in pieces)
         is_same = is_same and not writer.stdout.read(1)

@@ -6,11 +6,13 @@ import functools
 import re
 from collections.abc import Sequence
 from pathlib import Path
+from pickle import decode_long, encode_long
 
-from python_listing import ITEM, NOTE, behind, expected, kept_lines, outline, refusal_of
+from python_listing import ITEM, NOTE, Read, behind, expected, kept_lines, outline, refusal_of
 from real_pickles.answers import closing_of, document_of, lenient
 
 from .room import Room, beginning, first_difference, lines_of
+from .row import MISSING, Row, fails, trials_of
 from .trial import Trial
 
 # What a rule of real_pickles/README.md lets a listing end before, where Python goes on and refuses the pickle later.
@@ -139,10 +141,69 @@ def fault_there_and_back(room: Room, pickle: Path, window: Sequence[str]) -> str
 def there_and_back(room: Room) -> list[Trial]:
     """Each pickle with all records, and with the latest few."""
     return [
-        Trial(
-            " ".join([f"{pickle.stem}, debugged there and back", *window]),
-            functools.partial(fault_there_and_back, room, pickle, window),
-        )
+        Trial(" ".join([f"{pickle.stem}, debugged there and back", *window]), functools.partial(fault_there_and_back, room, pickle, window))
         for pickle in sorted(room.pickles.glob("*.pickle"))
         for window in WINDOWS
     ]
+
+
+# --- Assembled again ---
+
+# What a listing says where it does not show all bytes.
+GAP = re.compile(rb"^(?:kept|fault|refused): .*\n", re.MULTILINE)
+LEFT_OUT = "the listing does not show all bytes of its pickle"
+MOST_DECIMAL = 16  # bytes of a number that a listing shows in decimal digits
+COUNTS = {"LONG1": 1, "LONG4": 4}
+
+
+def spelled(data: bytes, read: Read) -> bytes:
+    """The bytes of an opcode, a number in as few digits and bytes as Python needs for it: a listing shows no others."""
+    code, argument = data[read.start : read.start + 1], data[read.start + 1 : read.end]
+    if read.name in ("GET", "PUT"):
+        return code + b"%d\n" % int(argument)
+    width = COUNTS.get(read.name, 0)
+    if width and len(argument) - width <= MOST_DECIMAL:
+        number = encode_long(decode_long(argument[width:]))
+        return code + len(number).to_bytes(width, "little") + number
+    return data[read.start : read.end]
+
+
+def fault_assembled(room: Room, file: Path) -> str:
+    """The listing of a pickle, assembled, is the bytes of the opcodes that are listed. With a line that bytes are not shown it is refused."""
+    listing, data = room.observe(start_of(room, file), "list", file).output, file.read_bytes()
+    items = len(re.findall(rb"^ *\d+: ", listing, re.MULTILINE))
+    found = room.observe(room.start, "assemble", "/dev/stdin", given=GAP.sub(b"", listing))
+    if found.output != b"".join(spelled(data, read) for read in lenient(data)[0][:items]) or found.status or found.errors:
+        return f"status {found.status}, {len(found.output)} bytes: {beginning(found.output)}"
+    gap = GAP.search(listing)
+    if gap is None:
+        return ""
+    line = listing.count(b"\n", 0, gap.start()) + 1
+    return room.observe(room.start, "assemble", "/dev/stdin", given=listing).difference(1, f"refused: line {line}: {LEFT_OUT}\n", "")
+
+
+REFUSED = (
+    ("BINIT1 1", "no opcode has this name"),
+    ("BININT1 one", "the opcode wants a whole number"),
+    ("BININT1 256", "the number does not fit into the opcode's bytes"),
+    ("BINUNICODE 'a", "the opcode wants a text in single quotes"),
+    (f"SHORT_BINBYTES '{'a' * 256}'", "the text is too long for the opcode"),
+    ("BINFLOAT 1.5", "the opcode wants f8: and hexadecimal digits"),
+    ("raw: 7g", "these are no pairs of hexadecimal digits"),
+    ("BININT1 hex: 0102", "the bytes are no argument of the opcode"),
+    ("NONE 'a'", "the line goes on behind the argument"),
+)
+GIVEN = "4: K BININT1 7 (a note) # a comment\n\nraw: 7F00\nGET 007\nLONG1 255\nLONG1 -128\nBINUNICODE '\xe9\\x0a'\nSHORT_BINBYTES hex: 0107\nSTOP"
+MADE = b"K\x07\x7f\0g007\n\x8a\2\xff\0\x8a\1\x80X\3\0\0\0\xc3\xa9\nC\1\7."
+ROWS = (
+    *(Row(f"no line: {line[:20]}", ("assemble", "/dev/stdin"), f"STOP\n{line}\n", 1, f"refused: line 2: {why}\n") for line, why in REFUSED),
+    Row("lines of each kind", ("assemble", "/dev/stdin"), GIVEN, output=MADE.hex(), through='"$@" | od -An -v -tx1 | tr -d " \\n"'),
+    Row("a pickle saved", ("assemble", "/dev/stdin", "--save", "again.pickle"), through='"$1" list pair.pickle | "$@"', saved=("again.pickle", "pair.pickle")),
+    Row("none saved", ("assemble", "/dev/stdin", "--save=no.pickle"), "NON", 1, "refused: line 1: no opcode has this name\n", unmade="no.pickle"),
+    fails("a text that is missing", "cannot read", "assemble", "missing.txt", unread=f"missing.txt: {MISSING}"),
+)
+
+
+def assembled(room: Room) -> list[Trial]:
+    tried = [Trial(f"{file.stem}, assembled again", functools.partial(fault_assembled, room, file)) for file in sorted(room.pickles.glob("*.pickle"))]
+    return [*tried, *trials_of(ROWS, room)]

@@ -93,16 +93,8 @@ NOTED_TESTS = (
 SCRIPTS = ("sklearn_tree_protocol_4", "sklearn_pipeline_protocol_4", "sklearn_encoder_protocol_0")
 # Two tests of a crate that ask for memory as often, and so what the second does besides asks for none.
 ALIKE = (
-    (
-        "no step back and no free step asks for memory",
-        "unit_tests",
-        ("machine::forwards", "machine::there_and_back_again"),
-    ),
-    (
-        "no free step and no way back of a session asks for memory",
-        "unit_tests",
-        ("session::forwards", "session::no_memory_for_free_steps"),
-    ),
+    ("no step back and no free step asks for memory", "unit_tests", ("machine::forwards", "machine::there_and_back_again")),
+    ("no free step and no way back of a session asks for memory", "unit_tests", ("session::forwards", "session::no_memory_for_free_steps")),
 )
 
 

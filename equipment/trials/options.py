@@ -21,13 +21,7 @@ NO_WINDOWS = (
 
 WINDOWS = (
     *(
-        Row(
-            f"breakpoints in a window of {count}",
-            ("debug", "dump.pickle", "--window", str(count)),
-            BREAK_LINES,
-            BREAK_STATUS,
-            BREAK_ANSWERS,
-        )
+        Row(f"breakpoints in a window of {count}", ("debug", "dump.pickle", "--window", str(count)), BREAK_LINES, BREAK_STATUS, BREAK_ANSWERS)
         for count in (1, 2, 3, 1_000_000)
     ),
     Row(
@@ -59,14 +53,7 @@ def saves(name: str, wanted: str, out: str, *options: str) -> Row:
 
 
 SAVES = (
-    saves(
-        "an argument cut short, saved",
-        "cut_short.pickle",
-        "saved.pickle",
-        "cut_short.pickle",
-        "--save",
-        "saved.pickle",
-    ),
+    saves("an argument cut short, saved", "cut_short.pickle", "saved.pickle", "cut_short.pickle", "--save", "saved.pickle"),
     Row(
         "a pickle saved after its lines",
         ("debug", "--save", "shorter.pickle", "doubled.pickle"),
@@ -76,14 +63,7 @@ SAVES = (
         through='cp long.pickle shorter.pickle && "$@"',
         saved=("shorter.pickle", "doubled.pickle"),
     ),
-    saves(
-        "a pickle saved over itself",
-        "doubled.pickle",
-        "itself.pickle",
-        "itself.pickle",
-        "--save",
-        "itself.pickle",
-    ),
+    saves("a pickle saved over itself", "doubled.pickle", "itself.pickle", "itself.pickle", "--save", "itself.pickle"),
     Row(
         "a pickle saved from a window",
         ("debug", "doubled.pickle", "--save", "window.pickle", "--window", "2"),
@@ -102,15 +82,7 @@ SAVES = (
         "--save",
         "unframed.pickle",
     ),
-    saves(
-        "options before the file",
-        "doubled.pickle",
-        "first.pickle",
-        "--window",
-        "7",
-        "--save=first.pickle",
-        "doubled.pickle",
-    ),
+    saves("options before the file", "doubled.pickle", "first.pickle", "--window", "7", "--save=first.pickle", "doubled.pickle"),
     saves("a long pickle saved", "long.pickle", "again.pickle", "long.pickle", "--save", "again.pickle"),
     fails("a pickle saved to a full device", "cannot write", "debug", "kept.pickle", "--save", "/dev/full"),
     Row(
@@ -122,15 +94,7 @@ SAVES = (
     ),
     fails("a pickle saved to a folder", "cannot write", "debug", "doubled.pickle", "--save", "another folder"),
     fails("a pickle saved to no name", "cannot write", "debug", "doubled.pickle", "--save", ""),
-    fails(
-        "a pickle saved into no folder",
-        "cannot write",
-        "debug",
-        "doubled.pickle",
-        "--save",
-        "none/saved.pickle",
-        unmade="none",
-    ),
+    fails("a pickle saved into no folder", "cannot write", "debug", "doubled.pickle", "--save", "none/saved.pickle", unmade="none"),
     fails(
         "no pickle saved after a failed write",
         "cannot write",

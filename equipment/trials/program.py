@@ -41,55 +41,16 @@ LISTINGS = (
     Row("a file named -", ("list", "-"), output=PAIR_LISTING),
     Row("a file named - after --", ("list", "--", "-"), output=PAIR_LISTING),
     Row("a start through a link", ("list", "pair.pickle"), output=PAIR_LISTING, through='shift; ./linked "$@"'),
-    Row(
-        "a start by its name alone",
-        ("list", "pair.pickle"),
-        output=PAIR_LISTING,
-        through='PATH=${1%/*}:$PATH; shift; picklestep "$@"',
-    ),
-    Row(
-        "standard input as a file",
-        ("list", "/dev/stdin"),
-        output=PAIR_LISTING,
-        through='exec "$@" <pair.pickle',
-    ),
+    Row("a start by its name alone", ("list", "pair.pickle"), output=PAIR_LISTING, through='PATH=${1%/*}:$PATH; shift; picklestep "$@"'),
+    Row("standard input as a file", ("list", "/dev/stdin"), output=PAIR_LISTING, through='exec "$@" <pair.pickle'),
     Row("a pipe as a file", ("list", "/dev/stdin"), output=PAIR_LISTING, through='cat pair.pickle | "$@"'),
     Row("a FIFO as a file", ("list",), output=PAIR_LISTING, through=FIFO_GIVES),
-    Row(
-        "a pickle saved into a FIFO",
-        ("debug", "doubled.pickle", "--save"),
-        through=FIFO_TAKES,
-        saved=("from_fifo", "doubled.pickle"),
-    ),
-    Row(
-        "lines from a FIFO that is closed in the middle of one",
-        ("debug", "doubled.pickle"),
-        status=1,
-        output="at 1\n" + UNKNOWN,
-        through=FIFO_ENDS,
-    ),
-    Row(
-        "a file in the middle of which its writer stops",
-        ("list", "/dev/stdin"),
-        status=1,
-        output=CUT_LISTING,
-        through=CUT,
-    ),
-    Row(
-        "a conversation that ends in the middle of a line",
-        ("debug", "doubled.pickle"),
-        "step\nba",
-        status=1,
-        output="at 1\n" + UNKNOWN,
-    ),
+    Row("a pickle saved into a FIFO", ("debug", "doubled.pickle", "--save"), through=FIFO_TAKES, saved=("from_fifo", "doubled.pickle")),
+    Row("lines from a FIFO that is closed in the middle of one", ("debug", "doubled.pickle"), status=1, output="at 1\n" + UNKNOWN, through=FIFO_ENDS),
+    Row("a file in the middle of which its writer stops", ("list", "/dev/stdin"), status=1, output=CUT_LISTING, through=CUT),
+    Row("a conversation that ends in the middle of a line", ("debug", "doubled.pickle"), "step\nba", status=1, output="at 1\n" + UNKNOWN),
     Row("a listing with a small stack", ("list", "pair.pickle"), output=PAIR_LISTING, through=SMALL_STACK),
-    Row(
-        "a conversation with a small stack",
-        ("debug", "doubled.pickle"),
-        "step\n",
-        output="at 1\n",
-        through=SMALL_STACK,
-    ),
+    Row("a conversation with a small stack", ("debug", "doubled.pickle"), "step\n", output="at 1\n", through=SMALL_STACK),
     Row("closed standard input", ("list", "pair.pickle"), output=PAIR_LISTING, through='exec "$@" <&-'),
 )
 
@@ -127,19 +88,8 @@ def holes_fail(name: str, why: str, file: str, *holes: str, through: str = "") -
 CALLS = (
     Row("the calls of a pair", ("calls", "pair.pickle"), output=NO_CALLS),
     Row("the calls of several pickles", ("calls", "--many", "pair.pickle"), output=NO_CALLS),
-    Row(
-        "the calls of an empty file",
-        ("calls", "empty.pickle"),
-        status=1,
-        output=NO_CALLS + "fault: F1 ended at 0\n",
-    ),
-    Row(
-        "the calls of a file that ends too early",
-        ("calls", "/dev/stdin"),
-        status=1,
-        output=NO_CALLS + "fault: F3 truncated at 2\n",
-        through=CUT,
-    ),
+    Row("the calls of an empty file", ("calls", "empty.pickle"), status=1, output=NO_CALLS + "fault: F1 ended at 0\n"),
+    Row("the calls of a file that ends too early", ("calls", "/dev/stdin"), status=1, output=NO_CALLS + "fault: F3 truncated at 2\n", through=CUT),
     Row("the calls of a long file", ("calls", "long.pickle"), output=NO_CALLS),
     fails("the calls of no such file", "cannot read", "calls", "missing.pickle", unread=f"missing.pickle: {MISSING}"),
     fails("the calls of a file past the size limit", "too large", "calls", "too_large.pickle"),
@@ -170,28 +120,11 @@ CALLS = (
 CONVERSATIONS = (
     Row("a conversation", ("debug", "doubled.pickle"), STEPS, status=1, output=STEPS_ANSWERED),
     Row("a conversation without a line", ("debug", "doubled.pickle")),
-    Row(
-        "lines with returns and tabs, the last without its end",
-        ("debug", "popped.pickle"),
-        "step\r\n\tstep\t\nstep",
-        output="at 1\nat 2\nat 3\n",
-    ),
+    Row("lines with returns and tabs, the last without its end", ("debug", "popped.pickle"), "step\r\n\tstep\t\nstep", output="at 1\nat 2\nat 3\n"),
     Row("lines of blanks", ("debug", "none.pickle"), "\n \t\r\n\nstack\n \r\t", output="stack\n"),
     Row("a number between blanks", ("debug", "none.pickle"), f"\tgoto  {1:040} \n", output="at 1\n"),
-    Row(
-        "a refused line without its end",
-        ("debug", "none.pickle"),
-        "back",
-        status=1,
-        output="refused: C1 at the start\n",
-    ),
-    Row(
-        "lines of 65,536 bytes and of one more",
-        ("debug", "popped.pickle"),
-        LONG_LINES,
-        status=1,
-        output=LONG_LINES_ANSWERED,
-    ),
+    Row("a refused line without its end", ("debug", "none.pickle"), "back", status=1, output="refused: C1 at the start\n"),
+    Row("lines of 65,536 bytes and of one more", ("debug", "popped.pickle"), LONG_LINES, status=1, output=LONG_LINES_ANSWERED),
     Row("a quit without its end", ("debug", "none.pickle"), "step\nquit", output="at 1\n"),
     Row(
         "signs that are no blanks",
@@ -200,48 +133,14 @@ CONVERSATIONS = (
         status=1,
         output=UNKNOWN + "refused: X3 bad number\n" + UNKNOWN * 6,
     ),
-    Row(
-        "a conversation of 100,000 lines",
-        ("debug", "long.pickle"),
-        "step\nback\n" * MANY,
-        output="at 1\nat 0\n" * MANY,
-    ),
+    Row("a conversation of 100,000 lines", ("debug", "long.pickle"), "step\nback\n" * MANY, output="at 1\nat 0\n" * MANY),
     fails("a conversation about no such file", "cannot read", "debug", "missing.pickle", unread=f"missing.pickle: {MISSING}"),
     fails("a conversation about a file past the size limit", "too large", "debug", "too_large.pickle"),
-    fails(
-        "a conversation with a full device", "cannot write", "debug", "doubled.pickle", given="step\n", through=FULL
-    ),
-    fails(
-        "a full device, and a line that quits",
-        "cannot write",
-        "debug",
-        "doubled.pickle",
-        given="step\nquit\n",
-        through=FULL,
-    ),
-    fails(
-        "a full device, and a line without its end",
-        "cannot write",
-        "debug",
-        "doubled.pickle",
-        given="step",
-        through=FULL,
-    ),
-    fails(
-        "a conversation with closed standard output",
-        "cannot write",
-        "debug",
-        "doubled.pickle",
-        given="step\n",
-        through=CLOSED,
-    ),
-    fails(
-        "a conversation whose input cannot be read",
-        "cannot read",
-        "debug",
-        "doubled.pickle",
-        through='exec "$@" </',
-    ),
+    fails("a conversation with a full device", "cannot write", "debug", "doubled.pickle", given="step\n", through=FULL),
+    fails("a full device, and a line that quits", "cannot write", "debug", "doubled.pickle", given="step\nquit\n", through=FULL),
+    fails("a full device, and a line without its end", "cannot write", "debug", "doubled.pickle", given="step", through=FULL),
+    fails("a conversation with closed standard output", "cannot write", "debug", "doubled.pickle", given="step\n", through=CLOSED),
+    fails("a conversation whose input cannot be read", "cannot read", "debug", "doubled.pickle", through='exec "$@" </'),
 )
 
 FAULTS = (
@@ -336,9 +235,7 @@ def talks_at_a_terminal(room: Room) -> str:
     try:
         # (a raw terminal neither shows what is typed nor changes the ends of lines)
         tty.setraw(terminal)
-        with subprocess.Popen(
-            debugger(room), cwd=room.files, stdin=terminal, stdout=terminal, stderr=subprocess.PIPE
-        ) as talker:
+        with subprocess.Popen(debugger(room), cwd=room.files, stdin=terminal, stdout=terminal, stderr=subprocess.PIPE) as talker:
             assert talker.stderr
             why = difference_in([[exchange] for exchange in TALK], person, person)
             os.write(person, b"quit\n")

@@ -6,15 +6,20 @@ What is wanted follows from what CPython's unpicklers read of the bytes: from by
 from __future__ import annotations
 
 import functools
+import json
 from dataclasses import dataclass
 
-from .room import Room, run
+import json_of_texts
+
+from .room import Room, Run, beginning, run
 from .row import CLOSED, FULL, LITTLE_MEMORY, MISSING, Row, fails, trials_of
 from .trial import Trial
 
 SYSTEM = b"cposix\nsystem\n"
 CALLED = SYSTEM + b"(S'x'\ntR."
 LINE = "GLOBAL 'posix' 'system'"
+# What a loader does with frames.
+LOADERS = ("ignored", "buffered", "held")
 PNG = b"\x89PNG\r\n\x1a\n"
 
 
@@ -52,7 +57,16 @@ class Case:
         folder = room.folder / "reach"
         folder.mkdir(parents=True, exist_ok=True)
         (folder / "given").write_bytes(self.given)
-        return run([room.program, "reach", "given", *self.options], folder).difference(self.status, self.output, "")
+        asked = [room.program, "reach", "given", *self.options]
+        return run(asked, folder).difference(self.status, self.output, "") or self.fault_of_json(run([*asked, "--json"], folder))
+
+    def fault_of_json(self, found: Run) -> str:
+        """The line of JSON says what the text says, and which loader reaches something."""
+        fields = json.loads(found.output) if found.output.isascii() and found.output.count(b"\n") == 1 else {}
+        loader = (fields.pop("frames", None) in LOADERS, isinstance(fields.pop("in_buffer", None), int))
+        if list(fields.items()) != list(json_of_texts.of_reach(self.output).items()) or loader != (("reach" in fields),) * 2 or found.errors:
+            return f"with --json: {beginning(found.output or found.errors)}"
+        return found.fault_of_status(self.status)
 
 
 # The first frame ends in a text, behind which a reader may show nothing, a part or all of the second one. Of that the last text is read by what is
@@ -70,6 +84,10 @@ CASES = (
     Case("a module before the point of a name that can be none", b"cthis.a b\nx\n", reached(0, "GLOBAL 'this.a b' 'x'")),
     Case("a text that begins so", b"\x8c\x08this.a b\x8c\x01x\x93", reached(13, "STACK_GLOBAL")),
     Case("a name that can be none, and a point", b"ca b.this\nx\n.", nothing(0)),
+    Case("the same with a name that torch answers", b"ca b\nFloatStorage\n", reached(0, "GLOBAL 'a b' 'FloatStorage'")),
+    Case("an instance of nothing by such a name", b"i\nLongStorage\n", reached(0, "INST '' 'LongStorage'")),
+    Case("a text with such a name", b"\x8c\x03a b\x8c\x0ba Storage=1\x93", reached(18, "STACK_GLOBAL")),
+    Case("a module with such a name", b"ca Storage\nx\n", nothing(0)),
     Case("a module of an archive", b"ca/b\nx\n.", reached(0, "GLOBAL 'a/b' 'x'")),
     Case("a line that the end cuts", b"cos", reached(0, "GLOBAL 'o' ''")),
     Case("an integer, and an import", b"I1\n" + SYSTEM, reached(3)),
@@ -104,6 +122,8 @@ ROWS = (
     fails("what is reached past the size limit, with little memory", "too large", "reach", "too_large.pickle", through=LITTLE_MEMORY),
     fails("what is reached, on a full device", "cannot write", "reach", "pair.pickle", through=FULL),
     fails("what is reached, with closed standard output", "cannot write", "reach", "pair.pickle", through=CLOSED),
+    fails("JSON of what is reached, past the size limit", "too large", "reach", "--json", "too_large.pickle"),
+    fails("JSON of what is reached, on a full device", "cannot write", "reach", "--json", "pair.pickle", through=FULL),
 )
 
 

@@ -16,7 +16,7 @@ from typing import Optional, Union
 from . import samples
 
 Word = Union[str, bytes, Path]
-SECONDS = 120
+SECONDS = 600
 BEGINNING = 200
 
 

@@ -12,7 +12,7 @@ from .row import Row, fails, misused, repeated, trials_of, unexpected, valueless
 from .trial import Trial
 
 OF_ONE_FILE = ("list", "objects", "calls", "debug", "form")
-TASKS = (*OF_ONE_FILE, "gate", "reach", "members")
+TASKS = (*OF_ONE_FILE, "gate", "reach", "members", "assemble")
 ANY_TASK = "<COMMAND>"
 GATE = "gate <LIST> <FILE>..."
 MEMBERS = "members <FILE>"
@@ -44,9 +44,9 @@ WORDS = (
     *(
         misused(f"{task} with two files", task, "pair.pickle", "none.pickle", why="unexpected argument 'none.pickle' found", usage=f"{task} [OPTIONS] <FILE>")
         for task in TASKS
-        if task not in ("gate", "members")
+        if task not in ("gate", "members", "assemble")
     ),
-    misused("members with two files", "members", "pair.pickle", "none.pickle", why="unexpected argument 'none.pickle' found", usage=MEMBERS),
+    *(misused(f"{task} with two files", task, "pair.pickle", "none.pickle", why="unexpected argument 'none.pickle' found", usage=f"{task} <FILE>") for task in ("members", "assemble")),
     misused("a gate without a file", "gate", why=f"{MISSING}\n  <LIST>\n  <FILE>...", usage=GATE),
     misused("a gate with a list alone", "gate", "names.list", why=f"{FILE_MISSING}...", usage=GATE),
     unexpected("several pickles of a file at a gate", "--many", GATE, "gate", "names.list", "pair.pickle", "--many"),
@@ -114,6 +114,7 @@ CALLS = (
 FILE_HELP = "Arguments:\n  <FILE>  the pickle\n"
 MANY_HELP = "read FILE as pickles that follow one another: go on after each STOP"
 UNFRAMED_HELP = "take FRAME for an opcode like others, as a pickle needs that was cut off"
+JSON_HELP = ("    --json", "print JSON Lines, for programs: an object in each line")
 WHAT_EACH_DOES = (
     ("list", "Lists the opcodes of FILE with their offsets and arguments"),
     ("objects", "Prints the objects that the opcodes of FILE make, and which of them is the result"),
@@ -124,15 +125,17 @@ WHAT_EACH_DOES = (
 GATE_DOES = ("gate", "Says whether all that the pickle in FILE imports and uses is in LIST, else what is not")
 REACH_DOES = ("reach", "Says whether any loader of FILE comes to an import or a call, whatever FILE is")
 MEMBERS_DOES = ("members", "Prints the members of FILE, if it is a zip archive in the form that writers write, else where it is not and why")
+ASSEMBLE_DOES = ("assemble", "Writes the pickle whose opcodes stand in FILE as `list` prints them, else says which line is none")
 GATE_FILES = (("<LIST>", "the list of names, and of what may be done with each"), ("<FILE>...", "a pickle or a zip archive, or several"))
 OPTIONS = {
-    "list": (("    --many", MANY_HELP), ("    --unframed", UNFRAMED_HELP), ("    --json", "print JSON Lines, for programs: an object in each line")),
+    "list": (("    --many", MANY_HELP), ("    --unframed", UNFRAMED_HELP), JSON_HELP),
     "objects": (("    --many", MANY_HELP), ("    --unframed", UNFRAMED_HELP)),
-    "form": (("    --many", "changes nothing: FILE is to be one pickle"),),
+    "form": (("    --many", "changes nothing: FILE is to be one pickle"), JSON_HELP),
     "reach": (
         ("    --extensions", "the loader knows extension codes"),
         ("    --persistent-ids", "the loader has a persistent_load"),
         ("    --buffers", "the loader was given buffers"),
+        JSON_HELP,
     ),
     "calls": (
         ("    --many", "changes nothing: all pickles of FILE are read without it too"),
@@ -140,6 +143,7 @@ OPTIONS = {
         ("    --memo <kept>", "read FILE as one unpickler does that loads again and again and keeps its memo"),
         ("    --full", "print arguments in full: whole texts, and all parts of a tuple"),
         ("    --skip <OFFSET:LENGTH>", "leave bytes of FILE out, as raw numbers between opcodes; offsets stay those in FILE"),
+        JSON_HELP,
     ),
     "debug": (
         ("    --many", MANY_HELP),
@@ -165,7 +169,7 @@ def help_of(name: str, about: str) -> Row:
 
 PROGRAM_HELP = (
     "Shows what a Python pickle would import, call and build, and runs nothing of it\n\nUsage: picklestep <COMMAND>\n\n"
-    + columns("Commands:\n", (*WHAT_EACH_DOES, GATE_DOES, REACH_DOES, MEMBERS_DOES, ("help", "Print this message or the help of the given subcommand(s)")))
+    + columns("Commands:\n", (*WHAT_EACH_DOES, GATE_DOES, REACH_DOES, MEMBERS_DOES, ASSEMBLE_DOES, ("help", "Print this message or the help of the given subcommand(s)")))
     + columns("\nOptions:\n", (NO_MORE_HELP,))
 )
 HELPS = (
@@ -181,12 +185,15 @@ HELPS = (
         errors=f"{GATE_DOES[1]}\n\nUsage: picklestep {GATE}\n\n" + columns("Arguments:\n", GATE_FILES) + columns("\nOptions:\n", (NO_MORE_HELP,)),
         is_bare=True,
     ),
-    Row(
-        "the help of members",
-        ("members", "--help"),
-        status=2,
-        errors=f"{MEMBERS_DOES[1]}\n\nUsage: picklestep {MEMBERS}\n\n{FILE_HELP}" + columns("\nOptions:\n", (NO_MORE_HELP,)),
-        is_bare=True,
+    *(
+        Row(
+            f"the help of {name}",
+            (name, "--help"),
+            status=2,
+            errors=f"{does}\n\nUsage: picklestep {name} <FILE>\n\n{FILE_HELP}" + columns("\nOptions:\n", (NO_MORE_HELP,)),
+            is_bare=True,
+        )
+        for name, does in (MEMBERS_DOES, ASSEMBLE_DOES)
     ),
 )
 

@@ -17,6 +17,8 @@ import sys
 import threading
 from collections.abc import Iterator, Sequence
 
+sys.path.insert(0, str(pathlib.Path(__file__).resolve().parents[1] / "equipment"))
+
 import load_cases
 import loads
 from antt_words import Function, Made, Value

@@ -21,6 +21,8 @@ from pathlib import Path
 from random import Random
 from typing import Optional
 
+sys.path.insert(0, str(Path(__file__).resolve().parents[1] / "equipment"))
+
 from trials.gate import deflated
 
 STRATEGIES = (zlib.Z_DEFAULT_STRATEGY, zlib.Z_FILTERED, zlib.Z_HUFFMAN_ONLY, zlib.Z_RLE, zlib.Z_FIXED)
