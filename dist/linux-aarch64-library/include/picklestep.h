@@ -56,6 +56,8 @@ uint8_t picklestep_calls_one_memo(const uint8_t *bytes, size_t length, uint8_t *
 /* Whether the bytes are one pickle in the form that picklers write, with nothing behind it, or the first place at which they are not, and why
  * (`picklestep form FILE`). */
 uint8_t picklestep_form(const uint8_t *bytes, size_t length, uint8_t *out, size_t room, picklestep_written *written);
+/* The same as a line of JSON (`picklestep form --json FILE`). */
+uint8_t picklestep_form_json(const uint8_t *bytes, size_t length, uint8_t *out, size_t room, picklestep_written *written);
 
 /* Whether the bytes are one pickle that passes a list, of `list_length` bytes, or the first place at which they do not, and why
  * (`picklestep gate LIST FILE`). Where a line of the list is no entry, the text says which, and the status is 2. */
@@ -72,6 +74,8 @@ enum {
 /* Whether any loader that begins at the first of the bytes reaches something, and by which opcode first, whatever it does with frames
  * (`picklestep reach FILE`). The bytes need not be a pickle. PICKLESTEP_NO_TASK where `granted` is no such sum. */
 uint8_t picklestep_reach(uint32_t granted, const uint8_t *bytes, size_t length, uint8_t *out, size_t room, picklestep_written *written);
+/* The same as a line of JSON (`picklestep reach --json FILE`). */
+uint8_t picklestep_reach_json(uint32_t granted, const uint8_t *bytes, size_t length, uint8_t *out, size_t room, picklestep_written *written);
 
 /* The members of the zip archive that the bytes are, in the form in which usual writers write, or the first rule that they break, and where
  * (`picklestep members FILE`). */
@@ -85,7 +89,7 @@ uint8_t picklestep_debug(bool many, const uint8_t *bytes, size_t length, const u
 /* The options of the functions below, whose sum is given: those of the program. */
 enum {
     PICKLESTEP_MANY = 1,      /* --many */
-    PICKLESTEP_UNFRAMED = 2,  /* --unframed (not for picklestep_calls_with) */
+    PICKLESTEP_UNFRAMED = 2,  /* --unframed (not for calls) */
     PICKLESTEP_FIRST = 4,     /* --first (for calls) */
     PICKLESTEP_MEMO_KEPT = 8, /* --memo kept (for calls, not with --first) */
     PICKLESTEP_FULL = 16      /* --full (for calls) */
@@ -104,6 +108,9 @@ uint8_t picklestep_list_with(uint32_t options, const uint8_t *bytes, size_t leng
 uint8_t picklestep_list_json(uint32_t options, const uint8_t *bytes, size_t length, uint8_t *out, size_t room, picklestep_written *written);
 uint8_t picklestep_objects_with(uint32_t options, const uint8_t *bytes, size_t length, uint8_t *out, size_t room, picklestep_written *written);
 uint8_t picklestep_calls_with(uint32_t options, const picklestep_hole *holes, size_t count, const uint8_t *bytes, size_t length, uint8_t *out,
+                              size_t room, picklestep_written *written);
+/* What is imported and called as JSON Lines (`picklestep calls --json FILE`), with the options and the holes of picklestep_calls_with. */
+uint8_t picklestep_calls_json(uint32_t options, const picklestep_hole *holes, size_t count, const uint8_t *bytes, size_t length, uint8_t *out,
                               size_t room, picklestep_written *written);
 uint8_t picklestep_debug_with(uint32_t options, const uint8_t *bytes, size_t length, const uint8_t *script, size_t script_length, uint8_t *out,
                               size_t room, picklestep_written *written);
