@@ -1,6 +1,6 @@
 -- Where an archive passes, no member fails, unless loaders may read it in too many ways.
-use Rattle.std.proofs.Common.{◌≡◌, ◌≢◌, ℕ, zero, suc, ◌<◌, ◌≤◌, ◌^◌, Bool, true, false, List, [], ◌∷◌, ◌++◌, length, length-drop, drop, Some, inl, inr, refl, sym, ap, subst, ◌∙◌, arith}
-use Rattle.std.specs.Prelude.{◌⊎◌}
+use Rattle.std.proofs.Common.{◌≡◌, ◌≢◌, ℕ, zero, suc, ◌<◌, ◌≤◌, ◌^◌, Bool, true, false, List, [], ◌∷◌, ◌++◌, length, length-drop, drop, Some, Ok, Err, inl, inr, refl, sym, ap, subst, ◌∙◌, arith}
+use Rattle.std.specs.Prelude.{◌⊎◌, Result}
 use Rattle.pickle_doc.specs.Document.{AreBytes, size_limit}
 use Rattle.pickle_allow.specs.declared.list.Entry.{Entry as Allowed}
 use Rattle.pickle_gate.specs.declared.verdict.Verdict.{Verdict}
@@ -19,7 +19,13 @@ use Rattle.zip_archive.specs.Reader.{member_of}
 use Rattle.archive_gate.specs.declared.fault.Fault.{Fault}
 use Rattle.archive_gate.specs.declared.fault.Fault.TheVariants as fault
 use Rattle.zip_open.specs.Opened.{OpensTo, IsOpenable, AreOpenable, unpacked_total}
-use Rattle.archive_gate.specs.Members.{with_ids, header_size, behind_header, Gives, BytesPass, MemberPasses, AllPass, BytesFail, IsRefusedAs, OpenedFails, HasFault}
+use Rattle.npy_form.specs.declared.reason.Refusal.{Refusal}
+use Rattle.npy_form.specs.declared.array.Held.{Held}
+use Rattle.npy_form.specs.declared.array.Held.TheVariants as held
+use Rattle.npy_form.specs.Npy.{header_size, behind_header}
+use Rattle.archive_gate.specs.declared.fault.ArrayFault.{ArrayFault}
+use Rattle.archive_gate.specs.declared.fault.ArrayFault.TheVariants as array_fault
+use Rattle.archive_gate.specs.Members.{with_ids, Gives, ArrayPasses, BytesPass, MemberPasses, AllPass, ArrayFails, BytesFail, IsRefusedAs, OpenedFails, HasFault}
 use Rattle.archive_gate.specs.File.{NoneFails}
 use Rattle.zip_open.proofs.Opening.{same_opening, broken_opens, small_opened}
 use Rattle.zip_open.proofs.Openable.{openable_in, openable_among}
@@ -74,10 +80,26 @@ refused_ways list bytes v small few (inl passes) r =
 refused_ways list bytes v small few (inr (inl raises)) r = let bad : false ≡ true = sym r.goes ∙ raises in absurd cc
 refused_ways list bytes v small few (inr (inr nothing)) r = only_ways bytes r.found nothing r.reach r.reaches
 
-dropped_bytes : (n : ℕ) (xs : List ℕ) → AreBytes xs → AreBytes (drop n xs)
+pub dropped_bytes : (n : ℕ) (xs : List ℕ) → AreBytes xs → AreBytes (drop n xs)
 dropped_bytes zero xs h = h
 dropped_bytes (suc n) [] h = h
 dropped_bytes (suc n) (x ∷ xs) h = dropped_bytes n xs (λ i. h (suc i))
+
+-- an array is read as one thing
+pub not_both : {r : Result Held Refusal} {h : Held} {e : Refusal} → r ≡ Ok h → r ≡ Err e → ⊥
+not_both {r} {h} {e} is other = let bad : ◌≡◌ {A = Result Held Refusal} (Ok h) (Err e) = sym is ∙ other in absurd cc
+
+pub not_numbers : {r : Result Held Refusal} → r ≡ Ok held.Numbers → r ≡ Ok held.Pickle → ⊥
+not_numbers {r} is other = let bad : ◌≡◌ {A = Result Held Refusal} (Ok held.Numbers) (Ok held.Pickle) = sym is ∙ other in absurd cc
+
+array_ways : (list : List Allowed) (bytes : List ℕ) (f : ArrayFault) → AreBytes bytes → length bytes ≤ size_limit → ArrayPasses list bytes → ArrayFails list bytes f
+    → IsReach with_ids (behind_header bytes) answer.TooMany
+array_ways list bytes (array_fault.Form r) small few (inl numbers) has = absurd (not_both numbers has)
+array_ways list bytes (array_fault.Form r) small few (inr pickle) has = absurd (not_both pickle.0 has)
+array_ways list bytes (array_fault.Refused v) small few (inl numbers) has = absurd (not_numbers numbers has.0)
+array_ways list bytes (array_fault.Refused v) small few (inr pickle) has =
+    let less : length (behind_header bytes) ≤ size_limit = omega (arith, few, length-drop (header_size bytes) bytes) in
+    refused_ways list (behind_header bytes) v (dropped_bytes (header_size bytes) bytes small) less pickle.1 has.1
 
 -- what a member opens to, of which there are too many ways to read it or what is behind its header
 record HasWays (e : Entry) : Type 0 where
@@ -90,9 +112,8 @@ opened_ways : (list : List Allowed) (e : Entry) (bytes : List ℕ) (f : Fault) �
 opened_ways list e bytes (fault.Broken b) opens small few p has = absurd has
 opened_ways list e bytes fault.Archive opens small few p has = let bad : false ≡ true = sym p.apart ∙ has in absurd cc
 opened_ways list e bytes (fault.Refused v) opens small few p has = record { held = bytes; opens = opens; ways = inl (refused_ways list bytes v small few p.gives has) }
-opened_ways list e bytes (fault.Behind v) opens small few p has =
-    let less : length (behind_header bytes) ≤ size_limit = omega (arith, few, length-drop (header_size bytes) bytes) in
-    record { held = bytes; opens = opens; ways = inr (refused_ways list (behind_header bytes) v (dropped_bytes (header_size bytes) bytes small) less (p.array has.0) has.1) }
+opened_ways list e bytes (fault.Array f) opens small few p has =
+    record { held = bytes; opens = opens; ways = inr (array_ways list bytes f small few (p.array has.0) has.1) }
 
 fails_ways : (list : List Allowed) (e : Entry) (f : Fault) → IsOpenable e → MemberPasses list (member_of e) → OpenedFails list (member_of e) f → HasWays e
 fails_ways list e f o m has =
@@ -103,7 +124,7 @@ fault_ways : (list : List Allowed) (e : Entry) (f : Fault) → IsOpenable e → 
 fault_ways list e (fault.Broken b) o m has = absurd (broken_opens (member_of e) b has m.bytes m.opens)
 fault_ways list e fault.Archive o m has = fails_ways list e fault.Archive o m has
 fault_ways list e (fault.Refused v) o m has = fails_ways list e (fault.Refused v) o m has
-fault_ways list e (fault.Behind v) o m has = fails_ways list e (fault.Behind v) o m has
+fault_ways list e (fault.Array f) o m has = fails_ways list e (fault.Array f) o m has
 
 pub none_fails : NoneFails
 none_fails list bytes es f few p z failing =

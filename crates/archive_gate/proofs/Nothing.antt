@@ -1,5 +1,5 @@
--- Bytes that begin with the code of PERSID give nothing to a loader that was given nothing else: it ends there.
-use Rattle.std.proofs.Common.{◌≡◌, ℕ, Bool, true, false, List, [], ◌∷◌, ◌++◌, take, Option, Some, None, Ok, Err, refl, sym, ap, subst, ◌∙◌}
+-- Bytes that begin with an opcode at which each loader ends, or with none, give nothing to a loader.
+use Rattle.std.proofs.Common.{◌≡◌, ℕ, suc, ◌<◌, get_or, arith, Bool, true, false, List, [], ◌∷◌, ◌++◌, take, Option, Some, None, Ok, Err, refl, sym, ap, subst, ◌∙◌}
 use Rattle.std.specs.Prelude.{◌&&◌, ◌||◌, eqb, ◌+◌, ◌-◌, nat_le, length, if◌then◌else◌, Result, ⊤}
 use Rattle.std.proofs.lemmas.Bool.{eqb-true}
 use Rattle.pickle_ops.specs.declared.opcode.Opcode.{Opcode}
@@ -8,6 +8,7 @@ use Rattle.pickle_ops.specs.declared.form.Form.TheVariants as form
 use Rattle.pickle_ops.specs.declared.fault.FrontFault.{FrontFault}
 use Rattle.pickle_ops.specs.Spelling.{Operation, Front, front_fault}
 use Rattle.pickle_ops.specs.Front.{front_behind, front_at, front_of}
+use Rattle.pickle_ops.specs.Table.{form_of}
 use Rattle.pickle_ops.specs.Inside.Sizes.{arg_size}
 use Rattle.pickle_ops.proofs.TableLemmas.{opcode_of-code}
 use Rattle.pickle_doc.specs.DocUnit.{is_frame, is_stop, frame_number}
@@ -20,17 +21,23 @@ use Rattle.pickle_reach.specs.declared.spot.Step.{Step}
 use Rattle.pickle_reach.specs.declared.spot.Step.TheVariants as step
 use Rattle.pickle_reach.specs.Item.{opcode_reaches, opcode_ends, reaches, ends}
 use Rattle.pickle_reach.specs.Reach.{Turn, as_shown, first_spot, step_by, step_at, reaches_on, reaches_from, NothingFrom}
+use Rattle.pickle_reach.specs.declared.granted.Granted.{Granted}
+use Rattle.packed_stream.specs.declared.reason.Packing.{Packing}
+use Rattle.packed_stream.specs.declared.reason.Packing.TheVariants as packing
+use Rattle.packed_stream.specs.Header.{begins_as_gzip, begins_as_zlib}
+use Rattle.packed_stream.proofs.Contents.{gzip_first, zlib_first}
+use Rattle.npy_form.specs.Npy.{begins_as_array}
 use Rattle.archive_gate.specs.Members.{alone}
-use Rattle.archive_gate.specs.File.{NothingInArchives}
+use Rattle.archive_gate.specs.File.{ReachesNothing, NothingInArchives, NothingInPacked, NothingInArrays}
 
 -- ---- what is at the front
 
--- it is PERSID, or nothing is
-abbrev IsPersistent : Result Lenient FrontFault → Type 0
-IsPersistent (Ok l) = l.op.opcode ≡ op.PersId
-IsPersistent (Err f) = ⊤
+-- it is this opcode, or nothing is
+abbrev IsFirst : Opcode → Result Lenient FrontFault → Type 0
+IsFirst o (Ok l) = l.op.opcode ≡ o
+IsFirst o (Err f) = ⊤
 
-mended_persistent : (size : ℕ) (rest : List ℕ) (n : Option ℕ) → IsPersistent (mended_so size (front_behind op.PersId rest n) (front_fault (front_behind op.PersId rest n)))
+mended_persistent : (size : ℕ) (rest : List ℕ) (n : Option ℕ) → IsFirst op.PersId (mended_so size (front_behind op.PersId rest n) (front_fault (front_behind op.PersId rest n)))
 mended_persistent size rest None = tt
 mended_persistent size rest (Some n) = refl
 
@@ -38,25 +45,44 @@ mended_persistent size rest (Some n) = refl
 front_is : (rest : List ℕ) → front_of (80 ∷ rest) ≡ front_behind op.PersId rest (arg_size form.Line rest)
 front_is rest = ap (front_at 80 rest) (opcode_of-code op.PersId)
 
-cut_persistent : (rest : List ℕ) → IsPersistent (cut (80 ∷ rest))
+cut_persistent : (rest : List ℕ) → IsFirst op.PersId (cut (80 ∷ rest))
 cut_persistent rest =
     let line : List ℕ = take (length rest - 1) rest ++ (10 ∷ 10 ∷ []) in
-    subst (λ (f : Front). IsPersistent (mended_so (length (80 ∷ rest)) f (front_fault f))) (sym (front_is line)) (mended_persistent (length (80 ∷ rest)) line (arg_size form.Line line))
+    subst (λ (f : Front). IsFirst op.PersId (mended_so (length (80 ∷ rest)) f (front_fault f))) (sym (front_is line)) (mended_persistent (length (80 ∷ rest)) line (arg_size form.Line line))
 
-front_persistent : (rest : List ℕ) (n : Option ℕ) → IsPersistent (lenient_at (80 ∷ rest) (front_behind op.PersId rest n) (front_fault (front_behind op.PersId rest n)))
+front_persistent : (rest : List ℕ) (n : Option ℕ) → IsFirst op.PersId (lenient_at (80 ∷ rest) (front_behind op.PersId rest n) (front_fault (front_behind op.PersId rest n)))
 front_persistent rest None = cut_persistent rest
 front_persistent rest (Some n) = refl
 
-lenient_persistent : (rest : List ℕ) → IsPersistent (lenient (80 ∷ rest))
+lenient_persistent : (rest : List ℕ) → IsFirst op.PersId (lenient (80 ∷ rest))
 unfolding lenient
 lenient_persistent rest =
-    subst (λ (f : Front). IsPersistent (lenient_at (80 ∷ rest) f (front_fault f))) (sym (front_is rest)) (front_persistent rest (arg_size form.Line rest))
+    subst (λ (f : Front). IsFirst op.PersId (lenient_at (80 ∷ rest) f (front_fault f))) (sym (front_is rest)) (front_persistent rest (arg_size form.Line rest))
+
+-- the first byte of a packed file is no opcode, and that of an array is STACK_GLOBAL
+first_of_gzip : (rest : List ℕ) → IsFirst op.StackGlobal (lenient (31 ∷ rest))
+unfolding lenient
+first_of_gzip rest = tt
+
+first_of_zlib : (rest : List ℕ) → IsFirst op.StackGlobal (lenient (120 ∷ rest))
+unfolding lenient
+first_of_zlib rest = tt
+
+front_of_array : (rest : List ℕ) (n : Option ℕ) → IsFirst op.StackGlobal (lenient_at (147 ∷ rest) (front_behind op.StackGlobal rest n) (front_fault (front_behind op.StackGlobal rest n)))
+front_of_array rest None = tt
+front_of_array rest (Some n) = refl
+
+first_of_array : (rest : List ℕ) → IsFirst op.StackGlobal (lenient (147 ∷ rest))
+unfolding lenient
+first_of_array rest =
+    subst (λ (f : Front). IsFirst op.StackGlobal (lenient_at (147 ∷ rest) f (front_fault f))) (sym (ap (front_at 147 rest) (opcode_of-code op.StackGlobal)))
+    (front_of_array rest (arg_size (form_of op.StackGlobal) rest))
 
 -- ---- what is taken
 
-abbrev IsTakenSo : Result Taken FrontFault → Type 0
-IsTakenSo (Ok t) = t.op.opcode ≡ op.PersId
-IsTakenSo (Err f) = ⊤
+abbrev IsTakenSo : Opcode → Result Taken FrontFault → Type 0
+IsTakenSo o (Ok t) = t.op.opcode ≡ o
+IsTakenSo o (Err f) = ⊤
 
 framed_op : (bytes : List ℕ) (t : Taken) (number : ℕ) → (framed bytes t number).op ≡ t.op
 framed_op bytes t number = go (nat_le number t.left) (nat_le number (length bytes - (t.size + t.left)))
@@ -74,42 +100,81 @@ settled_op last bytes t = go (last && is_stop t.op.opcode) (is_frame t.op.opcode
     go false true = framed_op bytes t (frame_number t.op)
     go false false = refl
 
-plain_so : (r : Result Lenient FrontFault) → IsPersistent r → IsTakenSo (plain r)
-plain_so (Ok l) is = is
-plain_so (Err f) is = tt
+plain_so : (o : Opcode) (r : Result Lenient FrontFault) → IsFirst o r → IsTakenSo o (plain r)
+plain_so o (Ok l) is = is
+plain_so o (Err f) is = tt
 
-across_so : (last : Bool) (bytes : List ℕ) (gap : ℕ) (r : Result Lenient FrontFault) → IsPersistent r → IsTakenSo (across last bytes gap r)
-across_so last bytes gap (Ok l) is = ap (λ (o : Operation). o.opcode) (settled_op last bytes (taken_as gap 0 l)) ∙ is
-across_so last bytes gap (Err f) is = tt
+across_so : (o : Opcode) (last : Bool) (bytes : List ℕ) (gap : ℕ) (r : Result Lenient FrontFault) → IsFirst o r → IsTakenSo o (across last bytes gap r)
+across_so o last bytes gap (Ok l) is = ap (λ (x : Operation). x.opcode) (settled_op last bytes (taken_as gap 0 l)) ∙ is
+across_so o last bytes gap (Err f) is = tt
 
-taken_so : (f : Frames) (rest : List ℕ) → IsTakenSo (taken f 0 (80 ∷ rest))
+taken_so : (o : Opcode) (f : Frames) (byte : ℕ) (rest : List ℕ) → IsFirst o (lenient (byte ∷ rest)) → IsTakenSo o (taken f 0 (byte ∷ rest))
 unfolding taken
-taken_so frames.Ignored rest = plain_so (lenient (80 ∷ rest)) (lenient_persistent rest)
-taken_so frames.Buffered rest = across_so true (80 ∷ rest) 0 (lenient (80 ∷ rest)) (lenient_persistent rest)
-taken_so frames.Held rest = across_so false (80 ∷ rest) 0 (lenient (80 ∷ rest)) (lenient_persistent rest)
+taken_so o frames.Ignored byte rest is = plain_so o (lenient (byte ∷ rest)) is
+taken_so o frames.Buffered byte rest is = across_so o true (byte ∷ rest) 0 (lenient (byte ∷ rest)) is
+taken_so o frames.Held byte rest is = across_so o false (byte ∷ rest) 0 (lenient (byte ∷ rest)) is
 
 -- ---- the loader ends
 
-reaches_no : (o : Operation) → o.opcode ≡ op.PersId → reaches alone false o ≡ false
+-- this opcode reaches nothing, and each loader ends at it
+record IsLast (g : Granted) (o : Opcode) : Type 0 where
+  none : (arg : List ℕ) → opcode_reaches g false o arg ≡ false
+  ends : (arg : List ℕ) → opcode_ends o arg ≡ true
+
+reaches_no : (g : Granted) (o : Opcode) (x : Operation) → IsLast g o → x.opcode ≡ o → reaches g false x ≡ false
 unfolding reaches
-reaches_no o is = ap (λ (c : Opcode). opcode_reaches alone false c o.arg) is
+reaches_no g o x last is = ap (λ (c : Opcode). opcode_reaches g false c x.arg) is ∙ last.none x.arg
 
-ends_here : (o : Operation) → o.opcode ≡ op.PersId → ends o ≡ true
+ends_here : (g : Granted) (o : Opcode) (x : Operation) → IsLast g o → x.opcode ≡ o → ends x ≡ true
 unfolding ends
-ends_here o is = ap (λ (c : Opcode). opcode_ends c o.arg) is
+ends_here g o x last is = ap (λ (c : Opcode). opcode_ends c x.arg) is ∙ last.ends x.arg
 
-step_ends : (r : Result Taken FrontFault) → IsTakenSo r → step_by alone first_spot r ≡ step.Ends
-step_ends (Ok t) is = rw (reaches_no t.op is, ends_here t.op is) refl
-step_ends (Err f) is = refl
+step_ends : (g : Granted) (o : Opcode) (r : Result Taken FrontFault) → IsLast g o → IsTakenSo o r → step_by g first_spot r ≡ step.Ends
+step_ends g o (Ok t) last is = rw (reaches_no g o t.op last is, ends_here g o t.op last is) refl
+step_ends g o (Err f) last is = refl
 
-step_is : (f : Frames) (rest : List ℕ) → step_at alone (80 ∷ rest) f first_spot ≡ step.Ends
+step_is : (g : Granted) (o : Opcode) (f : Frames) (byte : ℕ) (rest : List ℕ) → IsLast g o → IsFirst o (lenient (byte ∷ rest)) → step_at g (byte ∷ rest) f first_spot ≡ step.Ends
 unfolding step_at
-step_is f rest = step_ends (taken f 0 (80 ∷ rest)) (taken_so f rest)
+step_is g o f byte rest last is = step_ends g o (taken f 0 (byte ∷ rest)) last (taken_so o f byte rest is)
 
-nothing_so : (rest : List ℕ) (mix : List Turn) → reaches_from alone (80 ∷ rest) mix first_spot ≡ false
+nothing_so : (g : Granted) (o : Opcode) (byte : ℕ) (rest : List ℕ) → IsLast g o → IsFirst o (lenient (byte ∷ rest)) → (mix : List Turn)
+    → reaches_from g (byte ∷ rest) mix first_spot ≡ false
 unfolding reaches_from
-nothing_so rest [] = refl
-nothing_so rest (turn ∷ mix) = ap (λ (x : Step). reaches_on x (λ t. reaches_from alone (80 ∷ rest) mix (as_shown turn.shown t))) (step_is turn.frames rest)
+nothing_so g o byte rest last is [] = refl
+nothing_so g o byte rest last is (turn ∷ mix) =
+    ap (λ (x : Step). reaches_on x (λ t. reaches_from g (byte ∷ rest) mix (as_shown turn.shown t))) (step_is g o turn.frames byte rest last is)
+
+-- ---- packed files and arrays
+
+of_texts : (g : Granted) → IsLast g op.StackGlobal
+of_texts g = record { none = λ arg. refl; ends = λ arg. refl }
+
+begins_so : (byte : ℕ) (bytes : List ℕ) → ((rest : List ℕ) → IsFirst op.StackGlobal (lenient (byte ∷ rest))) → (0 < length bytes) → get_or bytes 0 0 ≡ byte → ReachesNothing bytes
+begins_so byte [] first long is = absurd (omega (arith, long))
+begins_so byte (x ∷ rest) first long is = subst (λ (y : ℕ). ReachesNothing (y ∷ rest)) (sym is) (λ g. nothing_so g op.StackGlobal byte rest (of_texts g) (first rest))
+
+longer : (bytes : List ℕ) (n : ℕ) → get_or bytes 0 0 ≡ suc n → 0 < length bytes
+longer [] n is = absurd (omega (arith, is))
+longer (x ∷ rest) n is = omega arith
+
+pub nothing_in_packed : NothingInPacked
+nothing_in_packed bytes p is = go (begins_as_gzip bytes) refl (begins_as_zlib bytes) refl is
+  where
+    go : (a : Bool) → begins_as_gzip bytes ≡ a → (b : Bool) → begins_as_zlib bytes ≡ b → (if a then Some packing.Gzip else (if b then Some packing.Zlib else None)) ≡ Some p → ReachesNothing bytes
+    go true gzip b zlib h = let first = gzip_first bytes gzip in begins_so 31 bytes first_of_gzip (longer bytes 30 first) first
+    go false gzip true zlib h = let first = zlib_first bytes zlib in begins_so 120 bytes first_of_zlib (longer bytes 119 first) first
+    go false gzip false zlib h = absurd cc
+
+first_in_array : (bytes : List ℕ) → begins_as_array bytes ≡ true → get_or bytes 0 0 ≡ 147
+first_in_array [] h = absurd cc
+first_in_array (x ∷ rest) h = sym (eqb-true 147 x (front (eqb 147 x) _ h))
+  where
+    front : (a b : Bool) → (a && b) ≡ true → a ≡ true
+    front true b h = refl
+    front false b h = absurd cc
+
+pub nothing_in_arrays : NothingInArrays
+nothing_in_arrays bytes is = let first = first_in_array bytes is in begins_so 147 bytes first_of_array (longer bytes 146 first) first
 
 -- ---- how an archive begins
 
@@ -124,4 +189,5 @@ pub nothing_in_archives : NothingInArchives
 nothing_in_archives [] begins = absurd cc
 nothing_in_archives (x ∷ rest) begins =
     let same : 80 ≡ x = eqb-true 80 x (first_is x _ _ begins) in
-    subst (λ (y : ℕ). NothingFrom alone (y ∷ rest) first_spot) same (nothing_so rest)
+    let last : IsLast alone op.PersId = record { none = λ arg. refl; ends = λ arg. refl } in
+    subst (λ (y : ℕ). NothingFrom alone (y ∷ rest) first_spot) same (nothing_so alone op.PersId 80 rest last (lenient_persistent rest))

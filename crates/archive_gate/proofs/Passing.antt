@@ -41,7 +41,7 @@ found_in : (list : List Allowed) (e : Entry) (bytes : List ℕ) (f : Fault) → 
 found_in list e bytes (fault.Broken b) opens small found = absurd found
 found_in list e bytes fault.Archive opens small found = record { bytes = bytes; opens = opens; small = small; fail = found }
 found_in list e bytes (fault.Refused v) opens small found = record { bytes = bytes; opens = opens; small = small; fail = found }
-found_in list e bytes (fault.Behind v) opens small found = record { bytes = bytes; opens = opens; small = small; fail = found }
+found_in list e bytes (fault.Array f) opens small found = record { bytes = bytes; opens = opens; small = small; fail = found }
 
 -- what is said of the bytes that a member opens to is said of it
 pub of_opened : {E : Type 0} (list : List Allowed) (e : Entry) (bytes shown : List ℕ) (r : Result (Option Fault) E) → shown ≡ bytes → OpensTo (member_of e) bytes → AreBytes shown

@@ -1,3 +1,4 @@
 -- The definitions that contracts cite.
 pub mod File
+pub mod Kind
 pub mod Members

@@ -1,7 +1,6 @@
 -- Which members of an archive pass a list, by what they open to.
--- Source: own. How an archive begins: APPNOTE 6.3.10, 4.3.7 (local file header) and 4.3.16 (end record). How an `.npy` file begins: numpy's
--- lib/format.py, `read_magic` and `_read_array_header`; behind the header `read_array` reads raw numbers, or loads a pickle.
-use Rattle.std.specs.Prelude.{◌≡◌, ◌≢◌, ◌⊎◌, ◌≤◌, ℕ, ◌+◌, ◌-◌, ◌*◌, ◌==◌, ◌&&◌, ◌||◌, not, eqb, nat_le, if◌then◌else◌, Bool, true, false, List, [], ◌∷◌, ◌++◌, length, take, drop, get_or, All, ⊤}
+-- Source: own. Of an `.npy` file numpy's `read_array` (lib/format.py) reads the raw numbers behind the header, or loads a pickle there.
+use Rattle.std.specs.Prelude.{◌≡◌, ◌≢◌, ◌⊎◌, ◌≤◌, ℕ, ◌+◌, ◌-◌, ◌*◌, ◌==◌, ◌&&◌, ◌||◌, not, eqb, nat_le, if◌then◌else◌, Bool, true, false, List, [], ◌∷◌, ◌++◌, length, take, drop, get_or, All, ⊤, Ok, Err}
 use Rattle.std.specs.List.{starts_with}
 use Rattle.pickle_doc.specs.Document.{AreBytes, size_limit}
 use Rattle.pickle_allow.specs.declared.list.Entry.{Entry as Allowed}
@@ -16,6 +15,11 @@ use Rattle.pickle_reach.specs.Reach.{first_spot, NothingFrom, IsReach}
 use Rattle.zip_archive.specs.Entry.{Entry}
 use Rattle.zip_archive.specs.Archive.{Counts, IsZip, are_distinct, any_case}
 use Rattle.zip_archive.specs.Reader.{Member, member_of, by_directory}
+use Rattle.npy_form.specs.declared.array.Held.TheVariants as held
+use Rattle.npy_form.specs.Npy.{begins_as_array, behind_header, read_array}
+use Rattle.archive_gate.specs.Kind.{begins_as_archive}
+use Rattle.archive_gate.specs.declared.fault.ArrayFault.{ArrayFault}
+use Rattle.archive_gate.specs.declared.fault.ArrayFault.TheVariants as array_fault
 use Rattle.archive_gate.specs.declared.fault.Fault.{Fault}
 use Rattle.archive_gate.specs.declared.fault.Fault.TheVariants as fault
 use Rattle.archive_gate.specs.declared.fault.Failing.{Failing}
@@ -30,22 +34,6 @@ alone = record { extensions = false; persistent = false; buffers = false }
 -- what a loader was given that knows persistent ids, as torch's does, in a program that has no extension codes and gives it no buffers
 abbrev pub with_ids : Granted
 with_ids = record { extensions = false; persistent = true; buffers = false }
-
--- the header of a member is at the front, or the end of an archive without members
-abbrev pub begins_as_archive : List ℕ → Bool
-begins_as_archive bytes = starts_with eqb bytes (80 ∷ 75 ∷ 3 ∷ 4 ∷ []) || starts_with eqb bytes (80 ∷ 75 ∷ 5 ∷ 6 ∷ [])
-
--- an `.npy` file begins so: six bytes, two of the version, and the length of the header, in two bytes in version 1, and else in four
-abbrev pub begins_as_array : List ℕ → Bool
-begins_as_array bytes = starts_with eqb bytes (147 ∷ 78 ∷ 85 ∷ 77 ∷ 80 ∷ 89 ∷ [])
-
-abbrev pub header_size : List ℕ → ℕ
-header_size bytes =
-    if get_or bytes 6 0 == 1 then 10 + (get_or bytes 8 0 + 256 * get_or bytes 9 0)
-    else 12 + (get_or bytes 8 0 + 256 * get_or bytes 9 0 + (65536 * get_or bytes 10 0 + 16777216 * get_or bytes 11 0))
-
-abbrev pub behind_header : List ℕ → List ℕ
-behind_header bytes = drop (header_size bytes) bytes
 
 -- a newline, or no ASCII
 abbrev pub ends_ascii : ℕ → Bool
@@ -72,11 +60,15 @@ GivesNothing bytes = (raises_first bytes ≡ true) ⊎ NothingFrom with_ids byte
 abbrev pub Gives : List Allowed → List ℕ → Type 0
 Gives list bytes = Passes list bytes ⊎ GivesNothing bytes
 
--- they are no archive themselves; and of an array this holds of what is behind its header, too
+-- an array is in the form in which numpy writes, and has numbers, or a pickle of which this holds, too
+abbrev pub ArrayPasses : List Allowed → List ℕ → Type 0
+ArrayPasses list bytes = (read_array bytes ≡ Ok held.Numbers) ⊎ ((read_array bytes ≡ Ok held.Pickle) × Gives list (behind_header bytes))
+
+-- they are no archive themselves; and an array passes as one, too
 pub record BytesPass (list : List Allowed) (bytes : List ℕ) : Type 0 where
   pub apart : begins_as_archive bytes ≡ false
   pub gives : Gives list bytes
-  pub array : begins_as_array bytes ≡ true → Gives list (behind_header bytes)
+  pub array : begins_as_array bytes ≡ true → ArrayPasses list bytes
 
 -- what the member opens to does
 pub record MemberPasses (list : List Allowed) (m : Member) : Type 0 where
@@ -102,11 +94,16 @@ pub record IsRefusedAs (list : List Allowed) (bytes : List ℕ) (v : Verdict) : 
   pub reach : IsReach with_ids bytes found
   pub reaches : (offset : ℕ) (settled : Bool) → found ≢ answer.Nothing offset settled
 
+-- an array is none in that form, or this is so of what is behind its header
+abbrev pub ArrayFails : List Allowed → List ℕ → ArrayFault → Type 0
+ArrayFails list bytes (array_fault.Form r) = read_array bytes ≡ Err r
+ArrayFails list bytes (array_fault.Refused v) = (read_array bytes ≡ Ok held.Pickle) × IsRefusedAs list (behind_header bytes) v
+
 abbrev pub BytesFail : List Allowed → List ℕ → Fault → Type 0
 BytesFail list bytes (fault.Broken b) = ⊥
 BytesFail list bytes fault.Archive = begins_as_archive bytes ≡ true
 BytesFail list bytes (fault.Refused v) = IsRefusedAs list bytes v
-BytesFail list bytes (fault.Behind v) = (begins_as_array bytes ≡ true) × IsRefusedAs list (behind_header bytes) v
+BytesFail list bytes (fault.Array f) = (begins_as_array bytes ≡ true) × ArrayFails list bytes f
 
 -- what the member opens to does not pass
 pub record OpenedFails (list : List Allowed) (m : Member) (f : Fault) : Type 0 where

@@ -3,12 +3,14 @@
 ghost use Rattle.std.specs.Prelude.{◌≡◌, ◌≤◌, true, length, IfOk, MatchOption};
 ghost use Rattle.pickle_doc.specs.Document.{AreBytes, size_limit};
 ghost use Rattle.zip_open.specs.Opened.{IsOpenable};
-ghost use Rattle.archive_gate.specs.Members.{with_ids, raises_first, begins_as_array, behind_header, Gives, BytesPass, MemberPasses, IsRefusal, IsRefusedAs, BytesFail, HasFault};
+ghost use Rattle.npy_form.specs.Npy.{begins_as_array, header_size, behind_header, read_array};
+ghost use Rattle.archive_gate.specs.Members.{with_ids, raises_first, Gives, ArrayPasses, BytesPass, MemberPasses, IsRefusal, IsRefusedAs, ArrayFails, BytesFail, HasFault};
 ghost use Rattle.pickle_gate.specs.Gate.{Passes};
 ghost use Rattle.zip_archive.specs.Reader.{member_of};
 
-use crate::begins::{begins_as_archive, begins_as_array, behind_header, raises_first};
-use crate::fault::Fault;
+use crate::begins::{begins_as_archive, raises_first};
+use crate::fault::{ArrayFault, Fault};
+use npy_form::{Held, begins_as_array, behind_header, read_array};
 use pickle_allow::Entry;
 use pickle_gate::{Verdict, gate};
 use pickle_reach::{Granted, Reach, first_reach};
@@ -59,18 +61,37 @@ fn refused_by_gate(
     }
 }
 
-/// The verdict of the gate about what is behind the header of an `.npy` file that bytes begin as, unless it passes or no loader reaches anything in it.
-fn refused_behind(
+/// Why an array does not pass, if it does not.
+fn fault_in_array(
     alloc: Global,
     list: &[Entry<'_>],
     bytes: &[u8],
-) -> Result<Option<Verdict>, AllocError>
+) -> Result<Option<ArrayFault>, AllocError>
     requires { length bytes.now ≤ size_limit }
-    ensures { IfOk result (λ o. MatchOption o (begins_as_array bytes.now ≡ true → Gives list.now (behind_header bytes.now))
-        (λ v. (begins_as_array bytes.now ≡ true) × IsRefusedAs list.now (behind_header bytes.now) v)) }
+    ensures { IfOk result (λ o. MatchOption o (ArrayPasses list.now bytes.now) (λ f. ArrayFails list.now bytes.now f)) }
+{
+    match read_array(bytes) {
+        Ok(Held::Numbers) => Ok(None),
+        Ok(Held::Pickle) => match refused(alloc, list, behind_header(bytes))? {
+            None => Ok(None),
+            Some(verdict) => Ok(Some(ArrayFault::Refused(verdict))),
+        },
+        Err(refusal) => Ok(Some(ArrayFault::Form(refusal))),
+    }
+}
+
+/// The same of bytes that may begin as one.
+fn fault_as_array(
+    alloc: Global,
+    list: &[Entry<'_>],
+    bytes: &[u8],
+) -> Result<Option<ArrayFault>, AllocError>
+    requires { length bytes.now ≤ size_limit }
+    ensures { IfOk result (λ o. MatchOption o (begins_as_array bytes.now ≡ true → ArrayPasses list.now bytes.now)
+        (λ f. (begins_as_array bytes.now ≡ true) × ArrayFails list.now bytes.now f)) }
 {
     if begins_as_array(bytes) {
-        refused(alloc, list, behind_header(bytes))
+        fault_in_array(alloc, list, bytes)
     } else {
         Ok(None)
     }
@@ -87,9 +108,9 @@ fn fault_in(alloc: Global, list: &[Entry<'_>], bytes: &[u8]) -> Result<Option<Fa
     if let Some(verdict) = refused(alloc, list, bytes)? {
         return Ok(Some(Fault::Refused(verdict)));
     }
-    match refused_behind(alloc, list, bytes)? {
+    match fault_as_array(alloc, list, bytes)? {
         None => Ok(None),
-        Some(verdict) => Ok(Some(Fault::Behind(verdict))),
+        Some(fault) => Ok(Some(Fault::Array(fault))),
     }
 }
 

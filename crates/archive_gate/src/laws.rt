@@ -2,7 +2,7 @@
 
 ghost use Rattle.zip_archive.specs.Reader.{told_by_locator, told_before};
 ghost use Rattle.archive_gate.specs.Members.{EachMemberPasses, WhatIsReadPasses};
-ghost use Rattle.archive_gate.specs.File.{NothingInArchives, NoneFails};
+ghost use Rattle.archive_gate.specs.File.{NothingInArchives, NothingInPacked, NothingInArrays, NoneFails};
 
 /// Each member that a reader by the directory finds in an archive that passes, passes: one that goes where the locator tells, as miniz.
 pub fn by_locator_passes()
@@ -22,6 +22,16 @@ pub fn read_passes()
 /// Bytes that begin as an archive give nothing to a loader that takes them for a pickle.
 pub fn nothing_in_archives()
     ensures { NothingInArchives }
+{}
+
+/// Nor do bytes that begin as a packed file, whatever the loader was given.
+pub fn nothing_in_packed()
+    ensures { NothingInPacked }
+{}
+
+/// Nor do bytes that begin as an array.
+pub fn nothing_in_arrays()
+    ensures { NothingInArrays }
 {}
 
 /// In an archive that passes no member fails, unless there are too many ways to read one.

@@ -1,6 +1,6 @@
 -- Where the status of the gate's text is 0.
-use Rattle.std.proofs.Common.{◌≡◌, ◌⊎◌, ℕ, ◌≤◌, ◌<◌, arith, Bool, true, false, List, length, inl, inr, refl, sym, ap, subst, ◌∙◌}
-use Rattle.std.specs.Prelude.{MatchBool}
+use Rattle.std.proofs.Common.{◌≡◌, ◌⊎◌, ℕ, ◌≤◌, ◌<◌, arith, Bool, true, false, List, length, length-drop, Ok, Err, inl, inr, refl, sym, ap, subst, ◌∙◌}
+use Rattle.std.specs.Prelude.{Result, Option, Some, None, if◌then◌else◌}
 use Rattle.pickle_doc.specs.Document.{AreBytes, size_limit}
 use Rattle.pickle_show.specs.Output.{Output}
 use Rattle.pickle_allow.specs.declared.list.Entry.{Entry as Allowed}
@@ -13,11 +13,25 @@ use Rattle.zip_archive.specs.Entry.{Entry}
 use Rattle.zip_archive.specs.Archive.{IsZip, are_distinct, any_case}
 use Rattle.zip_archive.proofs.Whole.{one_zip}
 use Rattle.zip_open.specs.Opened.{unpacked_total}
-use Rattle.archive_gate.specs.Members.{begins_as_archive, PassesArchive}
-use Rattle.archive_gate.specs.File.{PassesAsArchive, PassesFile, HasTooManyWays}
-use Rattle.archive_gate.proofs.Nothing.{nothing_in_archives}
-use Rattle.archive_gate.proofs.Deciding.{none_fails}
-use Rattle.archive_script.specs.GateText.{IsFailingText, IsMembersVerdict, IsLookedAtText, IsArchiveText, IsFileText, IsListedText, IsZeroWherePassing, ZeroWhereFilePasses, PassesListed, ZeroMeansPassing}
+use Rattle.packed_stream.specs.declared.reason.Packing.{Packing}
+use Rattle.packed_stream.specs.declared.reason.Refusal.{Refusal as PackedRefusal}
+use Rattle.packed_stream.specs.declared.reason.Packing.TheVariants as packing
+use Rattle.packed_stream.specs.Header.{packing_of, may_be_zlib}
+use Rattle.packed_stream.specs.Packed.{opened}
+use Rattle.packed_stream.proofs.Contents.{begins_as, one_content, opens_so}
+use Rattle.npy_form.specs.declared.reason.Refusal.{Refusal as ArrayRefusal}
+use Rattle.npy_form.specs.declared.array.Held.{Held}
+use Rattle.npy_form.specs.declared.array.Held.TheVariants as held
+use Rattle.npy_form.specs.Npy.{begins_as_array, header_size, behind_header, read_array}
+use Rattle.archive_gate.specs.declared.kind.Kind.{Kind}
+use Rattle.archive_gate.specs.declared.kind.Kind.TheVariants as kind
+use Rattle.archive_gate.specs.Kind.{begins_as_archive, kind_by, kind_of}
+use Rattle.archive_gate.specs.Members.{PassesArchive}
+use Rattle.archive_gate.specs.File.{HeldPasses, PassesAsArray, PassesInside, PassesAsPacked, PassesAs, PassesFile, HasTooManyWays}
+use Rattle.archive_gate.proofs.Nothing.{nothing_in_archives, nothing_in_packed, nothing_in_arrays}
+use Rattle.archive_gate.proofs.Deciding.{none_fails, dropped_bytes, not_both, not_numbers}
+use Rattle.archive_script.specs.SingleText.{IsBehindText, IsHeldText, IsArrayText, IsSingleText, IsPackedText}
+use Rattle.archive_script.specs.GateText.{IsFailingText, IsMembersVerdict, IsLookedAtText, IsArchiveText, IsTextAs, IsFileText, IsListedText, IsZeroWherePassing, ZeroWhereFilePasses, PassesListed, ZeroMeansPassing}
 
 no_zero : (o : Output) (text : List ℕ) (n : ℕ) → o ≡ record { text = text; status = n } → o.status ≡ 0 → n ≡ 0
 no_zero o text n is zero = sym (ap (λ (x : Output). x.status) is) ∙ zero
@@ -54,21 +68,104 @@ archive_zero list bytes o few (inr (es, z, inr (inl large))) p =
     absurd (omega (arith, within, large.large))
 archive_zero list bytes o few (inr (es, z, inr (inr t))) p = members_zero list bytes es o few z t.verdict p
 
+-- ---- of an array
+
+-- the verdict on what is behind a header
+behind_zero : (list : List Allowed) (bytes : List ℕ) (o : Output) → AreBytes bytes → length bytes ≤ size_limit → IsBehindText list bytes o
+    → (o.status ≡ 0 → Passes list bytes) × (Passes list bytes → o.status ≡ 0)
+behind_zero list bytes o small few t =
+    let law = zero_where_passing list bytes t.0 small few t.1 in
+    let same : o.status ≡ t.0.status = ap (λ (x : Output). x.status) t.2 in
+    ((λ zero. law.0 (sym same ∙ zero)), (λ p. same ∙ law.1 p))
+
+held_zero : (list : List Allowed) (bytes : List ℕ) (r : Result Held ArrayRefusal) (o : Output) → read_array bytes ≡ r → AreBytes bytes → length bytes ≤ size_limit → IsHeldText list bytes r o
+    → (o.status ≡ 0 → HeldPasses list bytes) × (HeldPasses list bytes → o.status ≡ 0)
+held_zero list bytes (Ok held.Numbers) o is small few t = ((λ zero. inl is), (λ p. ap (λ (x : Output). x.status) t))
+held_zero list bytes (Ok held.Pickle) o is small few t =
+    let less : length (behind_header bytes) ≤ size_limit = omega (arith, few, length-drop (header_size bytes) bytes) in
+    let law = behind_zero list (behind_header bytes) o (dropped_bytes (header_size bytes) bytes small) less t in
+    ((λ zero. inr (is, law.0 zero)), go law.1)
+  where
+    go : (Passes list (behind_header bytes) → o.status ≡ 0) → HeldPasses list bytes → o.status ≡ 0
+    go f (inl numbers) = absurd (not_numbers numbers is)
+    go f (inr pickle) = f pickle.1
+held_zero list bytes (Err r) o is small few t = ((λ zero. let bad : 1 ≡ 0 = no_zero o _ 1 t zero in absurd cc), go)
+  where
+    go : HeldPasses list bytes → o.status ≡ 0
+    go (inl numbers) = absurd (not_both numbers is)
+    go (inr pickle) = absurd (not_both pickle.0 is)
+
+array_zero : (list : List Allowed) (bytes : List ℕ) (o : Output) → begins_as_array bytes ≡ true → AreBytes bytes → length bytes ≤ size_limit → IsArrayText list bytes o
+    → (o.status ≡ 0 → PassesAsArray list bytes) × (PassesAsArray list bytes → o.status ≡ 0)
+array_zero list bytes o is small few t =
+    let law = held_zero list bytes (read_array bytes) o refl small few t in
+    ((λ zero. record { held = law.0 zero; nothing = nothing_in_arrays bytes is }), (λ p. law.1 p.held))
+
+-- ---- of a packed file
+
+-- what bytes begin as
+is_array : (bytes : List ℕ) → kind_of bytes ≡ kind.Array → begins_as_array bytes ≡ true
+is_array bytes is = go (begins_as_archive bytes) (packing_of bytes) is
+  where
+    last : (b c : Bool) → (if b then kind.Array else (if c then kind.Packed packing.Zlib else kind.Pickle)) ≡ kind.Array → b ≡ true
+    last true c h = refl
+    last false true h = absurd cc
+    last false false h = absurd cc
+
+    go : (a : Bool) (o : Option Packing) → (if a then kind.Archive else kind_by bytes o) ≡ kind.Array → begins_as_array bytes ≡ true
+    go true o h = absurd cc
+    go false (Some p) h = absurd cc
+    go false None h = last (begins_as_array bytes) (may_be_zlib bytes) h
+
+is_archive : (bytes : List ℕ) → kind_of bytes ≡ kind.Archive → begins_as_archive bytes ≡ true
+is_archive bytes is = go (begins_as_archive bytes) (packing_of bytes) is
+  where
+    last : (b c : Bool) → (if b then kind.Array else (if c then kind.Packed packing.Zlib else kind.Pickle)) ≡ kind.Archive → ⊥
+    last true c h = absurd cc
+    last false true h = absurd cc
+    last false false h = absurd cc
+
+    go : (a : Bool) (o : Option Packing) → (if a then kind.Archive else kind_by bytes o) ≡ kind.Archive → a ≡ true
+    go true o h = refl
+    go false (Some p) h = absurd cc
+    go false None h = absurd (last (begins_as_array bytes) (may_be_zlib bytes) h)
+
+inside_zero : (list : List Allowed) (bytes : List ℕ) (k : Kind) (o : Output) → kind_of bytes ≡ k → AreBytes bytes → length bytes ≤ size_limit → IsSingleText list bytes k o
+    → (o.status ≡ 0 → PassesInside list bytes k) × (PassesInside list bytes k → o.status ≡ 0)
+inside_zero list bytes kind.Archive o is small few t = ((λ zero. let bad : 1 ≡ 0 = no_zero o _ 1 t zero in absurd cc), (λ p. absurd p))
+inside_zero list bytes (kind.Packed q) o is small few t = ((λ zero. let bad : 1 ≡ 0 = no_zero o _ 1 t zero in absurd cc), (λ p. absurd p))
+inside_zero list bytes kind.Array o is small few t = array_zero list bytes o (is_array bytes is) small few t
+inside_zero list bytes kind.Pickle o is small few t = zero_where_passing list bytes o small few t
+
+packed_zero : (list : List Allowed) (bytes : List ℕ) (p : Packing) (o : Output) → IsPackedText list bytes p o
+    → (o.status ≡ 0 → PassesAsPacked list bytes p) × (PassesAsPacked list bytes p → o.status ≡ 0)
+packed_zero list bytes p o (inl none) = ((λ zero. let bad : 1 ≡ 0 = no_zero o _ 1 none.2 zero in absurd cc), (λ q. absurd (not_opened q)))
+  where
+    not_opened : PassesAsPacked list bytes p → ⊥
+    not_opened q =
+        let opens : opened size_limit p bytes ≡ Ok q.content = opens_so size_limit p bytes q.content q.opens q.few in
+        let bad : ◌≡◌ {A = Result (List ℕ) PackedRefusal} (Err none.0) (Ok q.content) = sym none.1 ∙ opens in
+        absurd cc
+packed_zero list bytes p o (inr t) =
+    let law = inside_zero list t.content (kind_of t.content) t.said refl t.small t.few t.inside in
+    let same : o.status ≡ t.said.status = ap (λ (x : Output). x.status) t.text in (
+      (λ zero. record { content = t.content; opens = t.opens; few = t.few; inside = law.0 (sym same ∙ zero); nothing = nothing_in_packed bytes p (begins_as p bytes t.opens.start t.opens.header) }),
+      (λ q. same ∙ law.1 (subst (λ (c : List ℕ). PassesInside list c (kind_of c)) (one_content p p bytes t.content q.content t.opens q.opens).1 q.inside)),
+    )
+
 -- ---- of a file
 
-by_file : (list : List Allowed) (bytes : List ℕ) (o : Output) (begins : Bool) → begins_as_archive bytes ≡ begins → AreBytes bytes → length bytes ≤ size_limit
-    → MatchBool begins (IsArchiveText list bytes o) (IsVerdictText list bytes o)
-    → (o.status ≡ 0 → MatchBool begins (PassesAsArchive list bytes) (Passes list bytes))
-    × (MatchBool begins (PassesAsArchive list bytes) (Passes list bytes) → (o.status ≡ 0) ⊎ HasTooManyWays bytes)
-by_file list bytes o true is small few t =
-    ((λ zero. record { members = archive_passes list bytes o t zero; nothing = nothing_in_archives bytes is }), λ p. archive_zero list bytes o few t p.members)
-by_file list bytes o false is small few t =
-    let law = zero_where_passing list bytes o small few t in
-    (law.0, λ p. inl (law.1 p))
+by_kind : (list : List Allowed) (bytes : List ℕ) (o : Output) (k : Kind) → kind_of bytes ≡ k → AreBytes bytes → length bytes ≤ size_limit → IsTextAs list bytes k o
+    → (o.status ≡ 0 → PassesAs list bytes k) × (PassesAs list bytes k → (o.status ≡ 0) ⊎ HasTooManyWays bytes)
+by_kind list bytes o kind.Archive is small few t =
+    ((λ zero. record { members = archive_passes list bytes o t zero; nothing = nothing_in_archives bytes (is_archive bytes is) }), (λ p. archive_zero list bytes o few t p.members))
+by_kind list bytes o (kind.Packed p) is small few t = let law = packed_zero list bytes p o t in (law.0, (λ q. inl (law.1 q)))
+by_kind list bytes o kind.Array is small few t = let law = array_zero list bytes o (is_array bytes is) small few t in (law.0, (λ q. inl (law.1 q)))
+by_kind list bytes o kind.Pickle is small few t = let law = zero_where_passing list bytes o small few t in (law.0, (λ q. inl (law.1 q)))
 
 pub zero_where_file_passes : ZeroWhereFilePasses
 zero_where_file_passes list bytes o small few t =
-    let law = by_file list bytes o (begins_as_archive bytes) refl small few t in
+    let law = by_kind list bytes o (kind_of bytes) refl small few t in
     record { passes = law.0; is_zero = law.1 }
 
 listed_passes : (l : Listing) (bytes : List ℕ) (o : Output) → AreBytes bytes → length bytes ≤ size_limit → IsListedText l bytes o → o.status ≡ 0 → PassesListed l bytes

@@ -1,4 +1,4 @@
--- The text of whether a file passes a list: a pickle, or an archive of members that pass; and what is answered where it was to be written.
+-- The text of whether a file passes a list: a pickle, an array, a packed file, or an archive of members that pass; and what is answered where it was to be written.
 -- Source: own.
 use Rattle.std.specs.Prelude.{◌≡◌, ◌≢◌, ◌⊎◌, ◌≤◌, ◌<◌, ◌↔◌, ℕ, true, false, MatchBool, List, length, codes, decimal, Result, Err, IfOk, IfErr, ⊤}
 use Rattle.pickle_io.specs.Text.{◌⧺◌, quoted}
@@ -13,8 +13,6 @@ use Rattle.pickle_allow.specs.Grammar.{IsListing}
 use Rattle.pickle_script.specs.GateText.{line_for, verdict_text, verdict_status, IsVerdictText, WroteText, StopsGate}
 use Rattle.pickle_script.specs.declared.stop.Stop.{Stop}
 use Rattle.pickle_script.specs.declared.stop.Stop.TheVariants as stop
-use Rattle.inflate.specs.declared.refusal.Reason.{Reason}
-use Rattle.inflate.specs.declared.refusal.Reason.TheVariants as reason
 use Rattle.inflate.specs.declared.refusal.Refusal.{Refusal}
 use Rattle.zip_archive.specs.Entry.{Entry}
 use Rattle.zip_archive.specs.Archive.{IsZip, are_distinct, any_case}
@@ -25,38 +23,27 @@ use Rattle.archive_gate.specs.declared.fault.Fault.{Fault}
 use Rattle.archive_gate.specs.declared.fault.Fault.TheVariants as fault
 use Rattle.archive_gate.specs.declared.fault.Failing.{Failing}
 use Rattle.zip_open.specs.Opened.{OpensTo, unpacked_total}
-use Rattle.archive_gate.specs.Members.{begins_as_archive, behind_header, AllPass, IsFailing}
+use Rattle.npy_form.specs.Npy.{behind_header}
+use Rattle.archive_gate.specs.declared.fault.ArrayFault.{ArrayFault}
+use Rattle.archive_gate.specs.declared.fault.ArrayFault.TheVariants as array_fault
+use Rattle.archive_gate.specs.declared.kind.Kind.{Kind}
+use Rattle.archive_gate.specs.declared.kind.Kind.TheVariants as kind
+use Rattle.archive_gate.specs.Kind.{kind_of}
+use Rattle.archive_gate.specs.Members.{AllPass, IsFailing}
 use Rattle.archive_gate.specs.File.{PassesFile, HasTooManyWays}
-use Rattle.archive_script.specs.MembersText.{refusal_line, IsUnlisted}
+use Rattle.archive_script.specs.MembersText.{refusal_output, IsUnlisted}
+use Rattle.archive_script.specs.SingleText.{named, passing_output, array_line, behind_text, stream_sentence, too_large_line, single_output, inside_output, no_packed_output, IsArrayText, IsPackedText}
 use Rattle.archive_script.specs.declared.judged.Judged.{Judged}
 use Rattle.archive_script.specs.declared.judged.Judged.TheVariants as judged
 
 -- ---- what is said of a file
 
--- what is said of something, with its name in front
-unfoldable pub named : List ℕ → List ℕ → List ℕ
-named name said = quoted name ⧺ codes ": " ⧺ said
-
 unfoldable pub archive_words : List ℕ
 archive_words = codes "an archive itself: it is not looked at\n"
-
-unfoldable pub behind_words : List ℕ
-behind_words = codes "behind its header: "
-
--- what is said of what is behind the header of an array; offsets count from there
-unfoldable pub behind_text : List ℕ → List ℕ
-behind_text said = behind_words ⧺ said
 
 -- what is wrong with the stream of a packed member; the offset counts from its first byte
 unfoldable pub stream_words : List ℕ
 stream_words = codes "not deflated: "
-
-unfoldable pub stream_sentence : Reason → List ℕ
-stream_sentence reason.TooLarge = codes "more bytes than are told"
-stream_sentence reason.CutShort = codes "it ends too early"
-stream_sentence reason.BadBlock = codes "no block"
-stream_sentence reason.BadCode = codes "no code"
-stream_sentence reason.BadDistance = codes "a copy from before the first byte"
 
 unfoldable pub stream_line : Refusal → List ℕ
 stream_line r = stream_words ⧺ decimal r.offset ⧺ codes ": " ⧺ stream_sentence r.why ⧺ newline
@@ -77,43 +64,30 @@ broken_text broken.Size = size_words
 broken_text broken.Rest = rest_words
 broken_text broken.Checksum = checksum_words
 
+-- of an array that does not pass
+abbrev pub array_fault_text : List ℕ → ArrayFault → List ℕ
+array_fault_text line (array_fault.Form r) = array_line r
+array_fault_text line (array_fault.Refused v) = behind_text (verdict_text line v)
+
 -- of a member that does not pass
 abbrev pub fault_text : List ℕ → Fault → List ℕ
 fault_text line (fault.Broken b) = broken_text b
 fault_text line fault.Archive = archive_words
 fault_text line (fault.Refused v) = verdict_text line v
-fault_text line (fault.Behind v) = behind_text (verdict_text line v)
+fault_text line (fault.Array f) = array_fault_text line f
 
 unfoldable pub same_names_words : List ℕ
 same_names_words = codes "two names that differ in case alone: it is not looked at\n"
 
-unfoldable pub too_large_front : List ℕ
-too_large_front = codes "it unpacks to more than "
-
-unfoldable pub too_large_back : List ℕ
-too_large_back = codes " bytes: it is not looked at\n"
-
-unfoldable pub too_large_line : List ℕ
-too_large_line = too_large_front ⧺ decimal size_limit ⧺ too_large_back
-
-abbrev pub judged_text : Judged → List ℕ
-judged_text (judged.Pickle v line) = verdict_text line.items v
-judged_text judged.Archive = codes "passes\n"
-judged_text (judged.NoArchive r) = refusal_line r
-judged_text judged.SameNames = same_names_words
-judged_text judged.TooLarge = too_large_line
-judged_text (judged.Member name f line) = named name.now (fault_text line.items f)
-
-abbrev pub judged_status : Judged → ℕ
-judged_status (judged.Pickle v line) = verdict_status v
-judged_status judged.Archive = 0
-judged_status (judged.NoArchive r) = 1
-judged_status judged.SameNames = 1
-judged_status judged.TooLarge = 1
-judged_status (judged.Member name f line) = 1
-
 abbrev pub judged_output : Judged → Output
-judged_output j = record { text = judged_text j; status = judged_status j }
+judged_output (judged.Single s) = single_output s
+judged_output (judged.Packed p s) = inside_output p (single_output s)
+judged_output (judged.NoPacked r) = no_packed_output r
+judged_output judged.Archive = passing_output
+judged_output (judged.NoArchive r) = refusal_output r
+judged_output judged.SameNames = record { text = same_names_words; status = 1 }
+judged_output judged.TooLarge = record { text = too_large_line; status = 1 }
+judged_output (judged.Member name f line) = record { text = named name.now (fault_text line.items f); status = 1 }
 
 -- ---- an archive
 
@@ -122,7 +96,8 @@ abbrev pub IsLineIn : Entry → Fault → List ℕ → Type 0
 IsLineIn e (fault.Broken b) line = ⊤
 IsLineIn e fault.Archive line = ⊤
 IsLineIn e (fault.Refused v) line = (bytes : List ℕ) → OpensTo (member_of e) bytes → (d : Contents) → ReadsAs false bytes d → line ≡ line_for d v
-IsLineIn e (fault.Behind v) line = (bytes : List ℕ) → OpensTo (member_of e) bytes → (d : Contents) → ReadsAs false (behind_header bytes) d → line ≡ line_for d v
+IsLineIn e (fault.Array (array_fault.Form r)) line = ⊤
+IsLineIn e (fault.Array (array_fault.Refused v)) line = (bytes : List ℕ) → OpensTo (member_of e) bytes → (d : Contents) → ReadsAs false (behind_header bytes) d → line ≡ line_for d v
 
 abbrev pub fault_output : List ℕ → List ℕ → Fault → Output
 fault_output name line f = record { text = named name (fault_text line f); status = 1 }
@@ -134,9 +109,6 @@ pub record IsFailingText (list : List Allowed) (es : List Entry) (o : Output) : 
   pub line : List ℕ
   pub line_is : IsLineIn is.entry failing.fault line
   pub text : o ≡ fault_output is.entry.name line failing.fault
-
-abbrev pub passing_output : Output
-passing_output = record { text = codes "passes\n"; status = 0 }
 
 -- each member passes, or one does not
 abbrev pub IsMembersVerdict : List Allowed → List Entry → Output → Type 0
@@ -169,9 +141,15 @@ IsArchiveText list bytes o = IsUnlisted bytes o ⊎ ((es : List Entry) × IsZip 
 
 -- ---- a file
 
--- of what begins as an archive, and of other bytes as of a pickle
+-- by what it begins as
+abbrev pub IsTextAs : List Allowed → List ℕ → Kind → Output → Type 0
+IsTextAs list bytes kind.Archive o = IsArchiveText list bytes o
+IsTextAs list bytes (kind.Packed p) o = IsPackedText list bytes p o
+IsTextAs list bytes kind.Array o = IsArrayText list bytes o
+IsTextAs list bytes kind.Pickle o = IsVerdictText list bytes o
+
 abbrev pub IsFileText : List Allowed → List ℕ → Output → Type 0
-IsFileText list bytes o = MatchBool (begins_as_archive bytes) (IsArchiveText list bytes o) (IsVerdictText list bytes o)
+IsFileText list bytes o = IsTextAs list bytes (kind_of bytes) o
 
 -- with the name of the file in front
 abbrev pub named_output : List ℕ → Output → Output
@@ -210,16 +188,10 @@ IsGateText list bytes o = (l : Listing) × IsListing list l × IsListedText l by
 
 -- ---- the answer
 
--- a text was written that `Is` means, and this is its status; or the sink failed in it, or memory ran out before it
-pub record Says (Is : Output → Type 0) (old new : Told) (answer : Result ℕ Stop) : Type 0 where
-  pub whole : IfOk answer (WroteText Is old new)
-  pub stopped : IfErr answer (StopsGate Is old new)
-  pub fits : answer ≢ Err stop.TooLarge
-
--- what is answered where the text of the gate was to be written to a sink, of which `told` says what it reports
-pub record AnswersGate (list bytes : List ℕ) {S : Type 0} (told : S → Told) (old new : S) (answer : Result ℕ Stop) : Type 0 where
-  pub whole : IfOk answer (WroteText (IsGateText list bytes) (told old) (told new))
-  pub stopped : IfErr answer (StopsGate (IsGateText list bytes) (told old) (told new))
+-- what is answered where a text about a file, which `Is` means, was to be written to a sink, of which `told` says what it reports
+pub record AnswersWith (Is : Output → Type 0) (bytes : List ℕ) {S : Type 0} (told : S → Told) (old new : S) (answer : Result ℕ Stop) : Type 0 where
+  pub whole : IfOk answer (WroteText Is (told old) (told new))
+  pub stopped : IfErr answer (StopsGate Is (told old) (told new))
   -- too many bytes of the file, and only those, are refused before anything is written
   pub too_large : (answer ≡ Err stop.TooLarge) ↔ (size_limit < length bytes)
   pub untouched : answer ≡ Err stop.TooLarge → new ≡ old

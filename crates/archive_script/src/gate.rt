@@ -3,19 +3,22 @@
 ghost use Rattle.std.specs.Prelude.{◌≡◌, ◌≤◌, length};
 ghost use Rattle.pickle_io.specs.Device.{Writes};
 ghost use Rattle.pickle_doc.specs.Document.{size_limit};
-ghost use Rattle.pickle_script.specs.GateText.{verdict_text};
-ghost use Rattle.archive_script.specs.GateText.{stream_words, stream_sentence, stream_line, size_words, rest_words, checksum_words, broken_text, same_names_words, too_large_front, too_large_back, too_large_line, archive_words, behind_words, behind_text, named, fault_text, judged_text, judged_output, IsFileText, IsNamedText, no_list_words, no_entry_words, no_list_line, IsNoList, Says, AnswersGate};
+ghost use Rattle.archive_script.specs.SingleText.{named, Says};
+ghost use Rattle.archive_script.specs.GateText.{stream_words, stream_line, size_words, rest_words, checksum_words, broken_text, same_names_words, archive_words, array_fault_text, fault_text, judged_output, IsFileText, IsNamedText, no_list_words, no_entry_words, no_list_line, IsNoList, IsGateText, AnswersWith};
 
 use crate::judged::Judged;
 use crate::judging::judge;
 use crate::members::write_refusal;
-use archive_gate::Fault;
-use inflate::{Reason, Refusal};
+use crate::single::{
+    single_status, stream_sentence, write_array_line, write_behind, write_inside, write_no_packed,
+    write_single, write_too_large,
+};
+use archive_gate::{ArrayFault, Fault};
+use inflate::Refusal;
 use pickle_allow::{Entry, Listing, read_list};
 use pickle_doc::LIMIT;
-use pickle_gate::Verdict;
 use pickle_io::{Failed, Page, write_all, write_decimal, write_quoted};
-use pickle_script::{Stop, verdict_status, write_verdict};
+use pickle_script::{Stop, write_verdict};
 use std::alloc::Global;
 use zip_open::Broken;
 
@@ -28,20 +31,6 @@ fn stream_words() -> &'static str
     ensures { result.now ≡ stream_words }
 {
     "not deflated: "
-}
-
-/// What is wrong with the stream of a packed member.
-#[tactic(auto, unfolding(crate::specs::GateText::stream_sentence))]
-fn stream_sentence(why: Reason) -> &'static str
-    ensures { result.now ≡ stream_sentence why }
-{
-    match why {
-        Reason::TooLarge => "more bytes than are told",
-        Reason::CutShort => "it ends too early",
-        Reason::BadBlock => "no block",
-        Reason::BadCode => "no code",
-        Reason::BadDistance => "a copy from before the first byte",
-    }
 }
 
 /// Writes why a packed member is no stream of deflate, and where.
@@ -100,21 +89,14 @@ fn archive_words() -> &'static str
     "an archive itself: it is not looked at\n"
 }
 
-/// Words of a line.
-#[tactic(auto, unfolding(crate::specs::GateText::behind_words))]
-fn behind_words() -> &'static str
-    ensures { result.now ≡ behind_words }
+/// Writes why an array does not pass.
+fn write_array_fault<S: Page>(fault: ArrayFault, line: &[u8], page: &mut S) -> Result<(), Failed>
+    ensures { Writes (S.told page.old) (S.told page.new) result (array_fault_text line.now fault) }
 {
-    "behind its header: "
-}
-
-/// Writes what is said of what is behind the header of an array.
-#[tactic(auto, using(pickle_io::proofs::Devices::text_steps), unfolding(crate::specs::GateText::behind_text))]
-fn write_behind<S: Page>(verdict: Verdict, line: &[u8], page: &mut S) -> Result<(), Failed>
-    ensures { Writes (S.told page.old) (S.told page.new) result (behind_text (verdict_text line.now verdict)) }
-{
-    write_all(page, behind_words().as_bytes())?;
-    write_verdict(verdict, line, page)
+    match fault {
+        ArrayFault::Form(refusal) => write_array_line(refusal, page),
+        ArrayFault::Refused(verdict) => write_behind(verdict, line, page),
+    }
 }
 
 /// Writes why a member does not pass.
@@ -125,12 +107,12 @@ fn write_fault<S: Page>(fault: Fault, line: &[u8], page: &mut S) -> Result<(), F
         Fault::Broken(broken) => write_broken(broken, page),
         Fault::Archive => write_all(page, archive_words().as_bytes()),
         Fault::Refused(verdict) => write_verdict(verdict, line, page),
-        Fault::Behind(verdict) => write_behind(verdict, line, page),
+        Fault::Array(fault) => write_array_fault(fault, line, page),
     }
 }
 
 /// Writes the same with the name of the member in front.
-#[tactic(auto, using(pickle_io::proofs::Devices::text_steps), unfolding(crate::specs::GateText::named))]
+#[tactic(auto, using(pickle_io::proofs::Devices::text_steps), unfolding(crate::specs::SingleText::named))]
 fn write_failing<S: Page>(
     name: &[u8],
     fault: Fault,
@@ -152,38 +134,14 @@ fn same_names_words() -> &'static str
     "two names that differ in case alone: it is not looked at\n"
 }
 
-/// Words of a line.
-#[tactic(auto, unfolding(crate::specs::GateText::too_large_front))]
-fn too_large_front() -> &'static str
-    ensures { result.now ≡ too_large_front }
-{
-    "it unpacks to more than "
-}
-
-/// Words of a line.
-#[tactic(auto, unfolding(crate::specs::GateText::too_large_back))]
-fn too_large_back() -> &'static str
-    ensures { result.now ≡ too_large_back }
-{
-    " bytes: it is not looked at\n"
-}
-
-/// Writes that packed members unpack to more bytes than a file may have.
-#[tactic(auto, using(pickle_io::proofs::Devices::text_steps), unfolding(crate::specs::GateText::too_large_line))]
-fn write_too_large<S: Page>(page: &mut S) -> Result<(), Failed>
-    ensures { Writes (S.told page.old) (S.told page.new) result too_large_line }
-{
-    write_all(page, too_large_front().as_bytes())?;
-    write_decimal(LIMIT as u64, page)?;
-    write_all(page, too_large_back().as_bytes())
-}
-
-/// Writes what is said of a file.
-fn write_judged<S: Page>(judged: &Judged<'_>, page: &mut S) -> Result<(), Failed>
-    ensures { Writes (S.told page.old) (S.told page.new) result (judged_text judged.now) }
+/// Writes what is said of a file. `Failed` where the sink fails; a beginning of the text was written then.
+pub fn write_judged<S: Page>(judged: &Judged<'_>, page: &mut S) -> Result<(), Failed>
+    ensures { Writes (S.told page.old) (S.told page.new) result (judged_output judged.now).text }
 {
     match judged {
-        Judged::Pickle(verdict, line) => write_verdict(*verdict, line.as_slice(), page),
+        Judged::Single(single) => write_single(single, page),
+        Judged::Packed(packing, single) => write_inside(*packing, single, page),
+        Judged::NoPacked(refusal) => write_no_packed(*refusal, page),
         Judged::Archive => write_all(page, b"passes\n"),
         Judged::NoArchive(refusal) => write_refusal(*refusal, page),
         Judged::SameNames => write_all(page, same_names_words().as_bytes()),
@@ -192,12 +150,14 @@ fn write_judged<S: Page>(judged: &Judged<'_>, page: &mut S) -> Result<(), Failed
     }
 }
 
-/// The status of it: 0 where the file passes, else 1.
-fn judged_status(judged: &Judged<'_>) -> u8
+/// The status of what is said of a file: 0 where it passes, else 1.
+pub fn judged_status(judged: &Judged<'_>) -> u8
     ensures { result ≡ (judged_output judged.now).status }
 {
     match judged {
-        Judged::Pickle(verdict, _) => verdict_status(*verdict),
+        Judged::Single(single) => single_status(single),
+        Judged::Packed(_, single) => single_status(single),
+        Judged::NoPacked(_) => 1,
         Judged::Archive => 0,
         Judged::NoArchive(_) => 1,
         Judged::SameNames => 1,
@@ -223,9 +183,9 @@ pub fn write_file<S: Page>(
 }
 
 /// Writes what is said of a file, with its name in front.
-#[tactic(auto, using(pickle_io::proofs::Devices::text_steps), unfolding(crate::specs::GateText::named))]
+#[tactic(auto, using(pickle_io::proofs::Devices::text_steps), unfolding(crate::specs::SingleText::named))]
 fn write_named<S: Page>(name: &[u8], judged: &Judged<'_>, page: &mut S) -> Result<(), Failed>
-    ensures { Writes (S.told page.old) (S.told page.new) result (named name.now (judged_text judged.now)) }
+    ensures { Writes (S.told page.old) (S.told page.new) result (named name.now (judged_output judged.now).text) }
 {
     write_quoted(name, page)?;
     write_all(page, b": ")?;
@@ -265,9 +225,9 @@ fn no_entry_words() -> &'static str
     " is no entry"
 }
 
-/// Writes that a line of a list is no entry.
+/// Writes that a line of a list is no entry. `Failed` where the sink fails; a beginning of the text was written then.
 #[tactic(auto, using(pickle_io::proofs::Devices::text_steps), unfolding(crate::specs::GateText::no_list_line))]
-fn write_no_list<S: Page>(line: usize, page: &mut S) -> Result<(), Failed>
+pub fn write_no_list<S: Page>(line: usize, page: &mut S) -> Result<(), Failed>
     ensures { Writes (S.told page.old) (S.told page.new) result (no_list_line line) }
 {
     write_all(page, no_list_words().as_bytes())?;
@@ -296,7 +256,7 @@ pub fn write_gate<S: Page>(
     bytes: &[u8],
     page: &mut S,
 ) -> Result<u8, Stop>
-    ensures { AnswersGate list.now bytes.now S.told page.old page.new result }
+    ensures { AnswersWith (IsGateText list.now bytes.now) bytes.now S.told page.old page.new result }
 {
     if bytes.len() > LIMIT {
         return Err(Stop::TooLarge);

@@ -1,14 +1,34 @@
 //! What is said of a file.
 
 use archive_gate::Fault;
+use packed_stream::Packing;
 use pickle_gate::Verdict;
 use zip_archive::Refusal;
 
-/// Whether a file passes a list, or why it does not. Each line is that of `calls` for the item that is not allowed.
+/// What is said of a file that holds one thing. Each line is that of `calls` for the item that is not allowed.
 #[derive(Drop)]
-pub enum Judged<'a> {
+pub enum Single {
     /// What the gate says of a pickle.
     Pickle(Verdict, Vec<u8>),
+    /// It is an array of raw numbers.
+    Numbers,
+    /// It begins as an array does, and is none in the form in which numpy writes.
+    NoArray(npy_form::Refusal),
+    /// What the gate says of the pickle behind the header of an array.
+    Behind(Verdict, Vec<u8>),
+    /// It is a container itself.
+    Nested,
+}
+
+/// Whether a file passes a list, or why it does not.
+#[derive(Drop)]
+pub enum Judged<'a> {
+    /// It is a pickle or an array.
+    Single(Single),
+    /// It is packed, and this is said of what it opens to.
+    Packed(Packing, Single),
+    /// It begins as a packed file does, and is none in the form in which usual writers write, or unpacks to more bytes than a file may have.
+    NoPacked(packed_stream::Refusal),
     /// It is an archive, each member of which passes.
     Archive,
     /// It begins as an archive does, and is none in the form that writers write.

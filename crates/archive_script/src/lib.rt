@@ -1,4 +1,4 @@
-//! What is said of the members of a zip archive, and whether a file passes a list that may be one.
+//! What is said of the members of a zip archive or of a packed file, and whether a file passes a list that may be one of these, or an array.
 #![tactic(auto)]
 
 mod gate;
@@ -6,9 +6,16 @@ mod judged;
 mod judging;
 mod laws;
 mod members;
+mod single;
 
-pub use gate::{refuse_list, write_file, write_gate, write_named_file};
-pub use judged::Judged;
+pub use gate::{
+    judged_status, refuse_list, write_file, write_gate, write_judged, write_named_file,
+    write_no_list,
+};
+pub use judged::{Judged, Single};
 pub use judging::judge;
 pub use laws::{zero_means_passing, zero_where_file_passes};
 pub use members::write_members;
+pub use single::{
+    array_sentence, is_too_large, packed_sentence, packing_word, single_status, stream_sentence,
+};

@@ -1,11 +1,17 @@
-//! The text of the members of a zip archive.
+//! The text of the members of a zip archive, or of what a packed file opens to.
 
-ghost use Rattle.std.specs.Prelude.{◌≡◌, ◌≢◌, ◌<◌, ◌^◌, Err, IfOk, IfErr};
+ghost use Rattle.std.specs.Prelude.{◌≡◌, ◌<◌, ◌≤◌, ◌+◌, ◌-◌, ◌^◌, ℕ, length, Ok};
 ghost use Rattle.pickle_io.specs.Device.{Writes, each};
+ghost use Rattle.packed_stream.specs.Header.{header_of};
+ghost use Rattle.packed_stream.specs.Packed.{end_size};
+ghost use Rattle.archive_script.specs.SingleText.{Says};
 ghost use Rattle.zip_archive.specs.Entry.{data_place};
 ghost use Rattle.zip_archive.specs.Archive.{ArePlaced};
-ghost use Rattle.archive_script.specs.MembersText.{deflated_text, packed_text, member_line, refusal_words, refusal_line, AnswersMembers};
+ghost use Rattle.archive_script.specs.MembersText.{deflated_text, packed_text, member_line, refusal_line, IsArchiveMembers, packed_member_line, IsPackedMembers, AnswersMembers};
 
+use crate::single::{packing_word, refusal_words, write_no_packed};
+use packed_stream::{Packing, end_size, header_of, open_packed, packing_of};
+use pickle_doc::LIMIT;
 use pickle_io::{Failed, Page, write_all, write_decimal, write_quoted};
 use pickle_script::Stop;
 use std::alloc::Global;
@@ -62,14 +68,6 @@ fn write_lines<S: Page>(entries: &[EntryRef<'_>], page: &mut S) -> Result<(), Fa
     Ok(())
 }
 
-/// Words of a line.
-#[tactic(auto, unfolding(crate::specs::MembersText::refusal_words))]
-fn refusal_words() -> &'static str
-    ensures { result.now ≡ refusal_words }
-{
-    "not in form: "
-}
-
 /// Writes the first rule that bytes break, and where.
 #[tactic(auto, using(pickle_io::proofs::Devices::text_steps), unfolding(crate::specs::MembersText::refusal_line))]
 pub(crate) fn write_refusal<S: Page>(refusal: Refusal, page: &mut S) -> Result<(), Failed>
@@ -84,11 +82,8 @@ pub(crate) fn write_refusal<S: Page>(refusal: Refusal, page: &mut S) -> Result<(
 
 /// Writes the members of the zip archive in writers' form that the bytes are, a line for each, or the first rule that they break. Answers
 /// the status: 0 where they are one, else 1. No member is unpacked.
-///
-/// `Stop::Memory` where there is no room for the list of members: nothing was written then. `Stop::Write` where the sink fails: what was
-/// written then is a beginning of the text. The sink is to be flushed as in `write_text`.
-pub fn write_members<S: Page>(alloc: Global, bytes: &[u8], page: &mut S) -> Result<u8, Stop>
-    ensures { AnswersMembers bytes.now S.told page.old page.new result }
+fn write_archive<S: Page>(alloc: Global, bytes: &[u8], page: &mut S) -> Result<u8, Stop>
+    ensures { Says (IsArchiveMembers bytes.now) (S.told page.old) (S.told page.new) result }
 {
     match read_zip(alloc, bytes)? {
         Ok(entries) => {
@@ -99,5 +94,86 @@ pub fn write_members<S: Page>(alloc: Global, bytes: &[u8], page: &mut S) -> Resu
             write_refusal(refusal, page)?;
             Ok(1)
         }
+    }
+}
+
+/// How many bytes the header of a packed file has.
+fn start_of(packing: Packing, bytes: &[u8]) -> usize
+    ensures value { (start : ℕ) → header_of packing bytes.now ≡ Ok start → result ≡ start }
+    ensures inside { result ≤ length bytes.now }
+{
+    match header_of(packing, bytes) {
+        Ok(start) => start,
+        Err(_) => 0,
+    }
+}
+
+/// Writes the line of what a packed file opens to.
+#[tactic(auto, using(pickle_io::proofs::Devices::text_steps), unfolding(crate::specs::MembersText::packed_member_line))]
+fn write_packed_member<S: Page>(
+    packing: Packing,
+    start: usize,
+    size: usize,
+    packed: usize,
+    page: &mut S,
+) -> Result<(), Failed>
+    ensures { Writes (S.told page.old) (S.told page.new) result (packed_member_line packing start size packed) }
+{
+    write_decimal(start as u64, page)?;
+    write_all(page, b": ")?;
+    write_decimal(size as u64, page)?;
+    write_deflated(packed, page)?;
+    write_quoted(packing_word(packing), page)?;
+    write_all(page, b"\n")
+}
+
+/// Writes what a packed file opens to, which is so many bytes.
+fn write_opened<S: Page>(
+    packing: Packing,
+    bytes: &[u8],
+    size: usize,
+    page: &mut S,
+) -> Result<(), Failed>
+    ensures { (start : ℕ) → header_of packing bytes.now ≡ Ok start
+        → Writes (S.told page.old) (S.told page.new) result (packed_member_line packing start size (length bytes.now - (start + end_size packing))) }
+{
+    let start = start_of(packing, bytes);
+    let packed = (bytes.len() - start).saturating_sub(end_size(packing));
+    write_packed_member(packing, start, size, packed, page)
+}
+
+/// Writes what the packed file that the bytes are opens to, or the first rule that they break. Answers the status: 0 where they are one, else 1.
+fn write_packed_file<S: Page>(
+    alloc: Global,
+    packing: Packing,
+    bytes: &[u8],
+    page: &mut S,
+) -> Result<u8, Stop>
+    ensures { Says (IsPackedMembers packing bytes.now) (S.told page.old) (S.told page.new) result }
+{
+    match open_packed(alloc, packing, bytes, LIMIT)? {
+        Ok(content) => {
+            write_opened(packing, bytes, content.len(), page)?;
+            Ok(0)
+        }
+        Err(refusal) => {
+            write_no_packed(refusal, page)?;
+            Ok(1)
+        }
+    }
+}
+
+/// Writes the members of the zip archive in writers' form that the bytes are, a line for each; or the line of what they open to, if they are packed
+/// by gzip or zlib; or the first rule that they break. Answers the status: 0 where they are one of these, else 1. No member of an archive is
+/// unpacked.
+///
+/// `Stop::Memory` where there is no room for the list of members, or for what is unpacked: nothing was written then. `Stop::Write` where the sink
+/// fails: what was written then is a beginning of the text. The sink is to be flushed as in `write_text`.
+pub fn write_members<S: Page>(alloc: Global, bytes: &[u8], page: &mut S) -> Result<u8, Stop>
+    ensures { AnswersMembers bytes.now S.told page.old page.new result }
+{
+    match packing_of(bytes) {
+        Some(packing) => write_packed_file(alloc, packing, bytes, page),
+        None => write_archive(alloc, bytes, page),
     }
 }

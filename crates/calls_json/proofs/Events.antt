@@ -8,7 +8,7 @@ use Rattle.pickle_io.proofs.Devices.{Wrote-none, Wrote-then, Broke-next, Broke-l
 use Rattle.json_lines.specs.Line.{Field, field, ◌⊕◌, whole, line, begun, fields_text}
 use Rattle.json_lines.proofs.Lines.{fields-none, fields-append, line_is}
 use Rattle.calls_json.specs.NameFields.{id_fields}
-use Rattle.calls_json.specs.ShownFields.{shown_fields}
+use Rattle.pickle_json.specs.ShownFields.{shown_fields}
 use Rattle.calls_json.specs.EventFields.{around, begun_at, ended_with}
 
 joined : (b o f i s e : List ℕ) → (b ++ (((o ++ f) ++ i) ++ s)) ++ e ≡ ((b ++ o) ++ f) ++ ((i ++ s) ++ e)

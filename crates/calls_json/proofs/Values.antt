@@ -5,9 +5,9 @@ use Rattle.json.specs.Value.{items_of}
 use Rattle.pickle_io.specs.Text.{◌⧺◌}
 use Rattle.pickle_io.specs.Device.{Told, Wrote, Broke, Writes, each}
 use Rattle.pickle_io.proofs.Devices.{Wrote-none, Wrote-then, Broke-next, Broke-longer, Writes-next, each-nil, each-cons}
-use Rattle.json_lines.specs.Json.{value_text, string_text, more_items, more_members}
-use Rattle.json_lines.specs.Line.{Field, field, ◌⊕◌, members_of, line_object, begun, fields_text}
-use Rattle.json_lines.proofs.Strings.{plain_string}
+use Rattle.json_lines.specs.Json.{value_text, more_items}
+use Rattle.json_lines.specs.Line.{begun, fields_text}
+use Rattle.json_lines.proofs.Lines.{object_is}
 use Rattle.pickle_ops.specs.declared.kind.Kind.{Kind}
 use Rattle.pickle_ops.specs.Object.{Object}
 use Rattle.pickle_show.specs.declared.naming.Naming.{Naming}
@@ -15,15 +15,6 @@ use Rattle.calls_json.specs.NameFields.{id_fields}
 use Rattle.calls_json.specs.ValueFields.{kind_word, kind_fields, kind_json, id_json, brief_json, briefs_json, briefs_text, next_brief}
 
 -- ---- objects
-
-kind_name : string_text (codes "kind") ≡ codes "\"kind\""
-unfolding ◌⧺◌
-kind_name = plain_string (codes "kind") refl
-
-object_is : (kind : List ℕ) (fs : List Field) → begun kind ⧺ fields_text fs ⧺ codes "}" ≡ value_text (line_object kind fs)
-unfolding fields_text begun ◌⊕◌ field ◌⧺◌
-object_is kind fs =
-    sym (ap (λ (n : List ℕ). (codes "{" ++ (((n ++ codes ":") ++ string_text kind) ++ more_members (members_of fs))) ++ codes "}") kind_name)
 
 kind_is : (m : Naming) (heap : List Object) (id : ℕ) (k : Kind) (parts : List ℕ)
     → begun (kind_word k) ⧺ fields_text (kind_fields m heap id k parts) ⧺ codes "}" ≡ value_text (kind_json m heap id k parts)

@@ -22,7 +22,7 @@ use Rattle.calls_json.specs.declared.said.Operand.TheVariants as operand
 use Rattle.calls_json.specs.TextFields.{whole_fields}
 use Rattle.calls_json.specs.NameFields.{id_fields, names_fields}
 use Rattle.calls_json.specs.ValueFields.{parts_fields, operand_fields}
-use Rattle.calls_json.specs.ShownFields.{shown_fields}
+use Rattle.pickle_json.specs.ShownFields.{shown_fields}
 
 -- ---- what is called
 

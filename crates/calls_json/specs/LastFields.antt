@@ -22,7 +22,7 @@ use Rattle.pickle_further.specs.Parts.{header, ends_line, loss_line as lost_line
 use Rattle.line_buffer.specs.Line.{line_text}
 use Rattle.pickle_json.specs.EndFields.{how_fields, coded_fields, stopped_fields, refused_fields, tail_fields}
 use Rattle.calls_json.specs.NameFields.{id_fields}
-use Rattle.calls_json.specs.ShownFields.{shown_fields}
+use Rattle.pickle_json.specs.ShownFields.{shown_fields}
 
 -- ---- what the bytes begin like
 

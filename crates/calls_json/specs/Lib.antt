@@ -3,7 +3,7 @@ pub mod SaidNames
 pub mod TextFields
 pub mod NameFields
 pub mod ValueFields
-pub mod ShownFields
 pub mod EventFields
 pub mod LastFields
 pub mod Told
+pub mod MixFields

@@ -9,8 +9,10 @@ use Rattle.pickle_show.specs.Output.{Output}
 use Rattle.pickle_show.specs.Telling.{Telling}
 use Rattle.pickle_further.specs.declared.way.Pickles.{Pickles}
 use Rattle.pickle_further.specs.Parts.{Words, Wording, wording}
-use Rattle.pickle_further.specs.CallsText.{IsCallsTextIn, CutsText}
+use Rattle.pickle_further.specs.CallsText.{CutsText}
+use Rattle.mixes_text.specs.CallsWith.{IsCallsIn}
 use Rattle.calls_json.specs.EventFields.{line_of}
+use Rattle.calls_json.specs.MixFields.{mixes_for_programs}
 use Rattle.calls_json.specs.LastFields.{end_text, heading_line, part_end, leads_text, warnings_text, loss_line, mixed_line, status_line}
 
 abbrev pub for_programs : Telling
@@ -35,7 +37,7 @@ with_last o = record { text = o.text ⧺ status_line o.status; status = o.status
 
 -- these are the lines of bytes
 abbrev pub IsCallsLines : Manner → Pickles → List ℕ → Output → Type 0
-IsCallsLines how p bytes o = (x : Output) × IsCallsTextIn programs how p bytes x × (o ≡ with_last x)
+IsCallsLines how p bytes o = (x : Output) × IsCallsIn programs mixes_for_programs how p bytes x × (o ≡ with_last x)
 
 -- they were written, and this is the status
 abbrev pub CompletesLines : Manner → Pickles → List ℕ → Told → Told → ℕ → Type 0

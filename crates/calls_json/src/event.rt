@@ -10,12 +10,12 @@ ghost use Rattle.calls_json.specs.EventFields.{begun_at, ended_with, extension_f
 
 use crate::names::{write_id, write_names};
 use crate::said::{Operand, Said};
-use crate::shown::write_shown;
 use crate::text::write_whole;
 use crate::value::{write_operand, write_parts};
 use json_lines::{begin_line, end_line, write_integer_field, write_number_field};
 use line_buffer::LineBuffer;
 use pickle_io::{Failed, Holes, Page};
+use pickle_json::write_shown;
 use pickle_machine::Inspect;
 use pickle_names::Coding;
 use pickle_ops::{Filling, KindRef, ObjId};

@@ -12,21 +12,22 @@ ghost use Rattle.pickle_show.specs.Begins.{begins_line};
 ghost use Rattle.pickle_further.specs.Leads.{warning_line};
 ghost use Rattle.pickle_further.specs.Deep.{deep_line as nested_line};
 ghost use Rattle.pickle_further.specs.Parts.{header, loss_line as lost_line, mixed_line as mixing_line};
-ghost use Rattle.calls_json.specs.ShownFields.{shown_fields};
+ghost use Rattle.pickle_json.specs.ShownFields.{shown_fields};
 ghost use Rattle.calls_json.specs.LastFields.{like_fields, like_line, like_text, begins_text, counts_fields, counts_line, at_fields, item_fields, unsure_words, loss_words, mixed_words, stopped_line, refused_line, fault_line, hole_fields, hole_line, unsure_line, closing_with, ending_with, closing_line, ending_line, end_text, leads_words, deep_words, warning_fields, leads_line, deep_line, leads_text, deep_text, warnings_text, frames_word, heading_line, part_end, loss_line, mixed_line, status_line};
 
 use crate::names::write_id;
 use crate::people::{write_ending_text, write_ends_text};
 use crate::shown::{
     write_begins_shown, write_deep_shown, write_heading_shown, write_leads_shown, write_loss_shown,
-    write_mixed_shown, write_shown, write_totals_shown,
+    write_mixed_shown, write_totals_shown,
 };
 use json_lines::{begin_line, end_line, write_number_field, write_text_field};
 use line_buffer::LineBuffer;
 use pickle_doc::TailFault;
 use pickle_io::{Failed, Hole, Page};
 use pickle_json::{
-    write_coded, write_how, write_refused_fields, write_stopped_fields, write_tail_fields,
+    write_coded, write_how, write_refused_fields, write_shown, write_stopped_fields,
+    write_tail_fields,
 };
 use pickle_lenient::Frames;
 use pickle_machine::Refusal;

@@ -4,6 +4,7 @@
 
 mod event;
 mod last;
+mod mixes;
 mod names;
 mod people;
 mod said;

@@ -1,42 +1,23 @@
-//! The line that is printed for people, as a field. `Failed` where the sink fails; a beginning of the field was written then.
+//! Lines that are printed for people, as fields. `Failed` where the sink fails; a beginning of the field was written then.
 
 ghost use Rattle.pickle_io.specs.Device.{Writes};
 ghost use Rattle.json_lines.specs.Line.{fields_text};
-ghost use Rattle.line_buffer.specs.Line.{line_text, held_by};
+ghost use Rattle.line_buffer.specs.Line.{line_text};
 ghost use Rattle.pickle_show.specs.Begins.{begins_line};
 ghost use Rattle.pickle_show.specs.CallsLine.{totals_line};
 ghost use Rattle.pickle_further.specs.Leads.{warning_line};
 ghost use Rattle.pickle_further.specs.Deep.{deep_line};
 ghost use Rattle.pickle_further.specs.Parts.{header, loss_line, mixed_line};
-ghost use Rattle.calls_json.specs.ShownFields.{shown_field, shown_fields};
+ghost use Rattle.pickle_json.specs.ShownFields.{shown_fields};
 
 use crate::people::write_begins_text;
-use json_lines::write_bytes_field;
 use line_buffer::LineBuffer;
 use pickle_further::Worder;
 use pickle_io::{Failed, Page};
+use pickle_json::write_shown;
 use pickle_lenient::Frames;
 use pickle_ops::ObjId;
 use pickle_show::{Course, ForPeople, write_totals};
-
-/// Writes a line.
-#[tactic(auto, unfolding(crate::specs::ShownFields::shown_field))]
-fn write_text<P: Page>(text: &[u8], page: &mut P) -> Result<(), Failed>
-    ensures { Writes (P.told page.old) (P.told page.new) result (fields_text (shown_field text.now)) }
-{
-    write_bytes_field("text", "text_hex", text, page)
-}
-
-/// Writes what a buffer holds, where that is not too long.
-#[tactic(auto, using(json_lines::proofs::Lines::fields_steps))]
-pub(crate) fn write_shown<P: Page>(line: &LineBuffer, page: &mut P) -> Result<(), Failed>
-    ensures { Writes (P.told page.old) (P.told page.new) result (fields_text (shown_fields (line_text (held_by line.now)))) }
-{
-    match line.text() {
-        Some(text) => write_text(text, page),
-        None => Ok(()),
-    }
-}
 
 /// Writes the line of what the bytes begin like.
 pub(crate) fn write_begins_shown<P: Page>(name: &str, page: &mut P) -> Result<(), Failed>

@@ -4,17 +4,20 @@ ghost use Rattle.std.specs.Prelude.{◌≤◌, length, IfOk, IfErr};
 ghost use Rattle.pickle_doc.specs.Document.{size_limit};
 ghost use Rattle.pickle_show.specs.Manner.{manner};
 ghost use Rattle.calls_json.specs.Told.{for_programs, words_for_programs, CompletesLines, CutsLines};
+ghost use Rattle.calls_json.specs.MixFields.{mixes_for_programs};
 
 use crate::event::write_event_line;
 use crate::last::{
     write_end_lines, write_heading, write_leads, write_loss, write_mixed, write_part_end,
     write_status, write_warnings,
 };
+use crate::mixes::{write_above, write_below, write_taken, write_too_many};
+use mixes_text::MixWorder;
 use pickle_further::{Pickles, Worder};
 use pickle_io::{Failed, Holes, Page};
 use pickle_lenient::Frames;
 use pickle_machine::Inspect;
-use pickle_ops::ObjId;
+use pickle_ops::{ObjId, Op};
 use pickle_show::{Closing, Course, Detail, Ending, Event, Naming, Teller, TextStop};
 use std::alloc::Global;
 
@@ -83,6 +86,26 @@ impl Worder for ForPrograms {
     }
 }
 
+impl MixWorder for ForPrograms {
+    ghost mixes = { mixes_for_programs };
+
+    fn write_above<S: Page>(page: &mut S) -> Result<(), Failed> {
+        write_above(page)
+    }
+
+    fn write_taken<S: Page>(offset: u64, op: &Op, page: &mut S) -> Result<(), Failed> {
+        write_taken(offset, op, page)
+    }
+
+    fn write_below<S: Page>(count: u64, page: &mut S) -> Result<(), Failed> {
+        write_below(count, page)
+    }
+
+    fn write_too_many<S: Page>(page: &mut S) -> Result<(), Failed> {
+        write_too_many(page)
+    }
+}
+
 /// Writes what the pickles of the bytes would import and call as lines of JSON, in the order in which the text for people has it, and a last
 /// line with the status, which it answers: that of this text. The bytes are what is left of a file without these holes, and the offsets
 /// that are shown are those in the file. There are to be no more bytes than the limit.
@@ -100,9 +123,7 @@ pub fn calls_lines<S: Page>(
     ensures ok { IfOk result (CompletesLines (manner detail holes.now) pickles bytes.now (S.told page.old) (S.told page.new)) }
     ensures err { IfErr result (CutsLines (manner detail holes.now) pickles bytes.now (S.told page.old) (S.told page.new)) }
 {
-    let status = pickle_further::calls::<ForPrograms, S>(
-        alloc, detail, holes, pickles, bytes, page,
-    )?;
+    let status = mixes_text::calls::<ForPrograms, S>(alloc, detail, holes, pickles, bytes, page)?;
     write_status(status, page)?;
     Ok(status)
 }

@@ -1,6 +1,5 @@
 -- What passes is permitted, and only what passes has the status 0.
-use Rattle.std.proofs.Common.{ℕ, ◌-◌, Bool, true, false, List, length, inl, inr}
-use Rattle.std.specs.Prelude.{MatchBool}
+use Rattle.std.proofs.Common.{ℕ, ◌-◌, Bool, true, false, List, length, inl, inr, ◌≡◌, sym, subst}
 use Rattle.std.proofs.lemmas.List.Elements.{All-contains}
 use Rattle.pickle_allow.specs.declared.list.Entry.{Entry}
 use Rattle.pickle_allow.specs.declared.listing.Listing.{Listing}
@@ -9,12 +8,18 @@ use Rattle.pickle_gate.specs.Gate.{Passes}
 use Rattle.zip_archive.specs.Archive.{Counts}
 use Rattle.zip_archive.specs.Reader.{by_directory, told_by_locator, told_before, ByDirectoryAgrees}
 use Rattle.zip_archive.proofs.Told.{by_locator_agrees, by_place_agrees}
-use Rattle.archive_gate.specs.Members.{begins_as_archive, behind_header, Gives, BytesPass, MemberPasses, PassesArchive}
-use Rattle.archive_gate.specs.File.{PassesAsArchive}
+use Rattle.packed_stream.specs.declared.reason.Packing.{Packing}
+use Rattle.packed_stream.proofs.Contents.{nothing_follows}
+use Rattle.npy_form.specs.Npy.{behind_header}
+use Rattle.archive_gate.specs.declared.kind.Kind.{Kind}
+use Rattle.archive_gate.specs.declared.kind.Kind.TheVariants as kind
+use Rattle.archive_gate.specs.Kind.{kind_of}
+use Rattle.archive_gate.specs.Members.{Gives, BytesPass, MemberPasses, PassesArchive}
+use Rattle.archive_gate.specs.File.{PassesAsArray, PassesInside, PassesAsPacked, PassesAs}
 use Rattle.archive_gate.proofs.Passing.{each_passes, read_passes}
 use Rattle.archive_script.specs.GateText.{PassesListed}
 use Rattle.archive_script.proofs.GateLaws.{zero_means_passing}
-use Rattle.gate_laws.specs.Headline.{Permits, PermitsGiven, PermitsRead, PermitsMembers, PermitsArchive, PermitsListed, StatusZeroPermits}
+use Rattle.gate_laws.specs.Headline.{Permits, PermitsGiven, PermitsHeld, PermitsArray, PermitsSingle, PermitsPacked, PermitsRead, PermitsMembers, PermitsAs, PermitsListed, StatusZeroPermits}
 use Rattle.gate_laws.proofs.Law.{only_what_is_allowed}
 use Rattle.gate_laws.proofs.LawC.{only_what_is_allowed_in_c}
 use Rattle.gate_laws.proofs.Files.{only_what_is_allowed_in_a_file}
@@ -31,24 +36,47 @@ given : (list : List Entry) (bytes : List ℕ) → Gives list bytes → PermitsG
 given list bytes (inl p) = inl (permits list bytes p)
 given list bytes (inr nothing) = inr nothing
 
+of_held : (P Q : List ℕ → Type 0) (bytes : List ℕ) → ((xs : List ℕ) → P xs → Q xs) → PermitsHeld P bytes → PermitsHeld Q bytes
+of_held P Q bytes f (inl numbers) = inl numbers
+of_held P Q bytes f (inr pickle) = inr (pickle.0, f (behind_header bytes) pickle.1)
+
 of_read : (list : List Entry) (read : List ℕ) → BytesPass list read → PermitsRead list read
-of_read list read p = record { whole = given list read p.gives; array = λ is. given list (behind_header read) (p.array is) }
+of_read list read p = record { whole = given list read p.gives; array = λ is. of_held (Gives list) (PermitsGiven list) read (given list) (p.array is) }
+
+of_array : (list : List Entry) (bytes : List ℕ) → PassesAsArray list bytes → PermitsArray list bytes
+of_array list bytes p = record { held = of_held (Passes list) (Permits list) bytes (permits list) p.held; itself = p.nothing }
+
+of_inside : (list : List Entry) (bytes : List ℕ) (k : Kind) → PassesInside list bytes k → PermitsSingle list bytes k
+of_inside list bytes kind.Archive p = p
+of_inside list bytes (kind.Packed q) p = p
+of_inside list bytes kind.Array p = of_array list bytes p
+of_inside list bytes kind.Pickle p = permits list bytes p
+
+of_packed : (list : List Entry) (bytes : List ℕ) (p : Packing) → PassesAsPacked list bytes p → PermitsPacked list bytes
+of_packed list bytes p passes = record {
+  inside = λ q n read r.
+      let same : read ≡ passes.content = (nothing_follows n p q bytes passes.content read passes.opens r).1 in
+      subst (λ (c : List ℕ). PermitsSingle list c (kind_of c)) (sym same) (of_inside list passes.content (kind_of passes.content) passes.inside);
+  itself = passes.nothing;
+}
 
 of_members : (told : List ℕ → ℕ → Counts) (list : List Entry) (bytes : List ℕ) → ByDirectoryAgrees told → PassesArchive list bytes → PermitsMembers told list bytes
 of_members told list bytes agrees p m read there is =
     let passes : MemberPasses list m = All-contains (MemberPasses list) (by_directory told bytes (length bytes - 22)) m (each_passes told agrees list bytes p) there in
     of_read list read (read_passes list m read passes is).pass
 
-of_file : (list : List Entry) (bytes : List ℕ) (begins : Bool) → MatchBool begins (PassesAsArchive list bytes) (Passes list bytes) → MatchBool begins (PermitsArchive list bytes) (Permits list bytes)
-of_file list bytes true p = record {
+of_kind : (list : List Entry) (bytes : List ℕ) (k : Kind) → PassesAs list bytes k → PermitsAs list bytes k
+of_kind list bytes kind.Archive p = record {
   by_locator = of_members told_by_locator list bytes by_locator_agrees p.members;
   by_place = of_members told_before list bytes by_place_agrees p.members;
   itself = p.nothing;
 }
-of_file list bytes false p = permits list bytes p
+of_kind list bytes (kind.Packed q) p = of_packed list bytes q p
+of_kind list bytes kind.Array p = of_array list bytes p
+of_kind list bytes kind.Pickle p = permits list bytes p
 
 of_listed : (l : Listing) (bytes : List ℕ) → PassesListed l bytes → PermitsListed l bytes
-of_listed (listing.Entries list) bytes p = of_file list.items bytes (begins_as_archive bytes) p
+of_listed (listing.Entries list) bytes p = of_kind list.items bytes (kind_of bytes) p
 of_listed (listing.Wrong n) bytes p = p
 
 pub status_zero_permits : StatusZeroPermits

@@ -1,6 +1,6 @@
 -- What the status 0 of the gate means for CPython's unpicklers.
 -- Source: own.
-use Rattle.std.specs.Prelude.{◌≡◌, ◌⊎◌, ◌≤◌, ℕ, ◌-◌, true, false, MatchBool, List, [], length, Contains}
+use Rattle.std.specs.Prelude.{◌≡◌, ◌⊎◌, ◌≤◌, ℕ, ◌-◌, true, false, List, [], length, Contains, Ok}
 use Rattle.pickle_doc.specs.Document.{AreBytes, size_limit}
 use Rattle.pickle_show.specs.Output.{Output}
 use Rattle.pickle_further.specs.declared.way.Pickles.TheVariants as pickles
@@ -18,7 +18,15 @@ use Rattle.pickle_reach.specs.Reach.{first_spot, NothingFrom}
 use Rattle.zip_archive.specs.Archive.{Counts}
 use Rattle.zip_archive.specs.Reader.{Member, by_directory, told_by_locator, told_before}
 use Rattle.zip_open.specs.Opened.{IsReadAs}
-use Rattle.archive_gate.specs.Members.{alone, begins_as_archive, begins_as_array, behind_header, GivesNothing}
+use Rattle.packed_stream.specs.declared.reason.Packing.{Packing}
+use Rattle.packed_stream.specs.Reader.{ReadsOn}
+use Rattle.npy_form.specs.declared.array.Held.TheVariants as held
+use Rattle.npy_form.specs.Npy.{begins_as_array, behind_header, read_array}
+use Rattle.archive_gate.specs.declared.kind.Kind.{Kind}
+use Rattle.archive_gate.specs.declared.kind.Kind.TheVariants as kind
+use Rattle.archive_gate.specs.Kind.{kind_of}
+use Rattle.archive_gate.specs.Members.{alone, GivesNothing}
+use Rattle.archive_gate.specs.File.{ReachesNothing}
 use Rattle.archive_script.specs.GateText.{IsGateText}
 use Rattle.gate_laws.specs.Permitted.{permits_all}
 
@@ -34,12 +42,37 @@ pub record Permits (list : List Entry) (bytes : List ℕ) : Type 0 where
 abbrev pub PermitsGiven : List Entry → List ℕ → Type 0
 PermitsGiven list bytes = Permits list bytes ⊎ GivesNothing bytes
 
+-- ---- arrays
+
+-- an array that numpy takes for numbers, and where it takes what is behind the header for a pickle, that is permitted
+abbrev pub PermitsHeld : (List ℕ → Type 0) → List ℕ → Type 0
+PermitsHeld Permitted bytes = (read_array bytes ≡ Ok held.Numbers) ⊎ ((read_array bytes ≡ Ok held.Pickle) × Permitted (behind_header bytes))
+
+-- and the bytes reach nothing themselves, whatever a loader was given
+pub record PermitsArray (list : List Entry) (bytes : List ℕ) : Type 0 where
+  pub held : PermitsHeld (Permits list) bytes
+  pub itself : ReachesNothing bytes
+
+-- ---- packed files
+
+-- what they open to is an array or a pickle
+abbrev pub PermitsSingle : List Entry → List ℕ → Kind → Type 0
+PermitsSingle list bytes kind.Archive = ⊥
+PermitsSingle list bytes (kind.Packed p) = ⊥
+PermitsSingle list bytes kind.Array = PermitsArray list bytes
+PermitsSingle list bytes kind.Pickle = Permits list bytes
+
+-- whatever a reader unpacks that goes on behind a stream and compares nothing; and nothing is reached in the file itself
+pub record PermitsPacked (list : List Entry) (bytes : List ℕ) : Type 0 where
+  pub inside : (p : Packing) (n : ℕ) (read : List ℕ) → ReadsOn n p bytes read → PermitsSingle list read (kind_of read)
+  pub itself : ReachesNothing bytes
+
 -- ---- archives
 
--- what is read of a member, as a whole, and behind the header of an array
+-- what is read of a member, as a whole, and as an array
 pub record PermitsRead (list : List Entry) (read : List ℕ) : Type 0 where
   pub whole : PermitsGiven list read
-  pub array : begins_as_array read ≡ true → PermitsGiven list (behind_header read)
+  pub array : begins_as_array read ≡ true → PermitsHeld (PermitsGiven list) read
 
 -- of each member that a reader by the directory finds, and of whatever it reads there
 abbrev pub PermitsMembers : (List ℕ → ℕ → Counts) → List Entry → List ℕ → Type 0
@@ -53,8 +86,15 @@ pub record PermitsArchive (list : List Entry) (bytes : List ℕ) : Type 0 where
 
 -- ---- the law
 
+-- of what a file begins as
+abbrev pub PermitsAs : List Entry → List ℕ → Kind → Type 0
+PermitsAs list bytes kind.Archive = PermitsArchive list bytes
+PermitsAs list bytes (kind.Packed p) = PermitsPacked list bytes
+PermitsAs list bytes kind.Array = PermitsArray list bytes
+PermitsAs list bytes kind.Pickle = Permits list bytes
+
 abbrev pub PermitsFile : List Entry → List ℕ → Type 0
-PermitsFile list bytes = MatchBool (begins_as_archive bytes) (PermitsArchive list bytes) (Permits list bytes)
+PermitsFile list bytes = PermitsAs list bytes (kind_of bytes)
 
 -- by what a text of a list is read as
 abbrev pub PermitsListed : Listing → List ℕ → Type 0

@@ -20,17 +20,17 @@ pub fn only_what_is_allowed()
     ensures { OnlyWhatIsAllowed }
 {}
 
-/// And so is whatever the unpickler in C does, from bytes or from a stream.
+/// The list permits whatever the unpickler in C does with such bytes too, from bytes or from a stream.
 pub fn only_what_is_allowed_in_c()
     ensures { OnlyWhatIsAllowedInC }
 {}
 
-/// And so is whatever the unpickler in C does with a file that shows bytes ahead, however many.
+/// The list permits whatever the unpickler in C does with a file of such bytes that shows bytes ahead, however many.
 pub fn only_what_is_allowed_in_a_file()
     ensures { OnlyWhatIsAllowedInAFile }
 {}
 
-/// And so is whatever the one in Python does with a pipe, as long as no opcode is made of a short answer.
+/// The list permits whatever the one in Python does with a pipe of such bytes, as long as no opcode is made of a short answer.
 pub fn only_what_is_allowed_of_a_pipe()
     ensures { OnlyWhatIsAllowedOfAPipe }
 {}
@@ -57,18 +57,18 @@ pub fn nothing_is_touched()
     ensures { NothingIsTouched }
 {}
 
-/// So they are by the unpickler in C, from bytes or from a stream.
+/// The unpickler in C loads such bytes in the same way, from bytes or from a stream.
 pub fn nothing_is_touched_in_c()
     ensures { NothingIsTouchedInC }
 {}
 
-/// So they are by the unpickler in C from a file that shows bytes ahead, however many.
+/// The unpickler in C loads them in the same way from a file that shows bytes ahead, however many.
 pub fn nothing_is_touched_in_a_file()
     ensures { NothingIsTouchedInAFile }
 {}
 
-/// Where the gate ends with status 0, its list permits all that CPython's unpicklers do with the file: with the pickle that it is, or with whatever a
-/// reader by the directory gives them of an archive.
+/// Where the gate ends with status 0, its list permits all that CPython's unpicklers do with the file: with the pickle that it is, or that stands
+/// behind the header of an array; with whatever a reader by the directory gives them of an archive; or with what a reader unpacks of a packed file.
 pub fn status_zero_permits()
     ensures { StatusZeroPermits }
 {}

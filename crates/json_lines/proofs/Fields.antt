@@ -116,11 +116,11 @@ fields_are_plain = record {
 
 -- ---- lines
 
-plain_texts : (fs : List Field) → ArePlain fs → MembersHaveTexts (members_of fs)
+pub plain_texts : (fs : List Field) → ArePlain fs → MembersHaveTexts (members_of fs)
 plain_texts [] p = tt
 plain_texts (f ∷ fs) p = (p.0.name, (p.0.value, plain_texts fs p.1))
 
-plain_depth : (fs : List Field) → ArePlain fs → members_depth (members_of fs) ≡ 0
+pub plain_depth : (fs : List Field) → ArePlain fs → members_depth (members_of fs) ≡ 0
 plain_depth [] p = refl
 plain_depth (f ∷ fs) p = omega (arith, p.0.flat, plain_depth fs p.1)
 

@@ -11,7 +11,7 @@ use Rattle.pickle_io.specs.Text.{◌⧺◌}
 use Rattle.pickle_io.specs.Device.{Told, Wrote, Broke, Writes, each}
 use Rattle.pickle_io.proofs.Devices.{Wrote-none, Wrote-trans, Broke-after, Broke-more, Wrote-then, Broke-next, Broke-longer, Writes-next, Wrote-there, Broke-there, Broke-first, Writes-there, each-nil, each-cons}
 use Rattle.json_lines.specs.Json.{value_text, string_text, more_items, more_members}
-use Rattle.json_lines.specs.Line.{Field, field, ◌⊕◌, members_of, whole, hex, bytes_field, numbers_json, numbers_text, next_number, fields_text, line, begun, name_text}
+use Rattle.json_lines.specs.Line.{Field, field, ◌⊕◌, members_of, whole, hex, bytes_field, numbers_json, numbers_text, next_number, fields_text, line, begun, name_text, line_object}
 use Rattle.json_lines.proofs.Strings.{plain_string}
 
 -- ---- fields
@@ -131,6 +131,12 @@ unfolding line fields_text begun ◌⊕◌ field ◌⧺◌
 line_is kind fs =
     ap (λ (n : List ℕ). ((codes "{" ++ (((n ++ codes ":") ++ string_text kind) ++ more_members (members_of fs))) ++ codes "}") ++ codes "\n") kind_name
     ∙ ap (λ (t : List ℕ). codes "{\"kind\":" ++ t) (append_assoc (string_text kind ++ more_members (members_of fs)) (codes "}") (codes "\n"))
+
+-- an object that is no line
+pub object_is : (kind : List ℕ) (fs : List Field) → begun kind ⧺ fields_text fs ⧺ codes "}" ≡ value_text (line_object kind fs)
+unfolding fields_text begun ◌⊕◌ field ◌⧺◌
+object_is kind fs =
+    sym (ap (λ (n : List ℕ). (codes "{" ++ (((n ++ codes ":") ++ string_text kind) ++ more_members (members_of fs))) ++ codes "}") kind_name)
 
 pub Writes-line : {A E : Type 0} (a b : Told) (r : Result A E) (kind : List ℕ) (fs : List Field) → Writes a b r (begun kind ⧺ fields_text fs ⧺ codes "}\n") → Writes a b r (line kind fs)
 Writes-line a b r kind fs w = subst (λ (t : List ℕ). Writes a b r t) (sym (line_is kind fs)) w

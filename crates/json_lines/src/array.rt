@@ -11,16 +11,16 @@ use pickle_io::{Failed, Page, write_all};
 
 /// Writes a number after another.
 #[tactic(auto, using(pickle_io::proofs::Devices::page_steps), unfolding(crate::specs::Line::next_number))]
-fn write_next_number<P: Page>(number: u64, page: &mut P) -> Result<(), Failed>
+fn write_next_number<P: Page>(number: u32, page: &mut P) -> Result<(), Failed>
     ensures { Writes (P.told page.old) (P.told page.new) result (next_number number) }
 {
     page.make_room()?;
     page.push(b',');
-    write_whole(number, page)
+    write_whole(u64::from(number), page)
 }
 
 /// Writes numbers after another.
-fn write_more_numbers<P: Page>(numbers: &[u64], page: &mut P) -> Result<(), Failed>
+fn write_more_numbers<P: Page>(numbers: &[u32], page: &mut P) -> Result<(), Failed>
     ensures { Writes (P.told page.old) (P.told page.new) result (each next_number numbers.now) }
 {
     for number in numbers {
@@ -31,17 +31,17 @@ fn write_more_numbers<P: Page>(numbers: &[u64], page: &mut P) -> Result<(), Fail
 
 /// Writes a number, and numbers after it.
 #[tactic(auto, using(crate::proofs::Lines::array_steps))]
-fn write_some_numbers<P: Page>(first: u64, rest: &[u64], page: &mut P) -> Result<(), Failed>
+fn write_some_numbers<P: Page>(first: u32, rest: &[u32], page: &mut P) -> Result<(), Failed>
     ensures { Writes (P.told page.old) (P.told page.new) result (numbers_text (first ∷ rest.now)) }
 {
     page.make_room()?;
-    write_whole(first, page)?;
+    write_whole(u64::from(first), page)?;
     write_more_numbers(rest, page)
 }
 
 /// Writes the numbers of an array.
 #[tactic(auto, using(crate::proofs::Lines::no_numbers))]
-fn write_numbers<P: Page>(numbers: &[u64], page: &mut P) -> Result<(), Failed>
+fn write_numbers<P: Page>(numbers: &[u32], page: &mut P) -> Result<(), Failed>
     ensures { Writes (P.told page.old) (P.told page.new) result (numbers_text numbers.now) }
 {
     match numbers.split_first() {
@@ -52,7 +52,7 @@ fn write_numbers<P: Page>(numbers: &[u64], page: &mut P) -> Result<(), Failed>
 
 /// Writes an array of whole numbers.
 #[tactic(auto, using(crate::proofs::Lines::array_steps))]
-fn write_array<P: Page>(numbers: &[u64], page: &mut P) -> Result<(), Failed>
+fn write_array<P: Page>(numbers: &[u32], page: &mut P) -> Result<(), Failed>
     ensures { Writes (P.told page.old) (P.told page.new) result (value_text (numbers_json numbers.now)) }
 {
     page.make_room()?;
@@ -61,9 +61,9 @@ fn write_array<P: Page>(numbers: &[u64], page: &mut P) -> Result<(), Failed>
     write_all(page, b"]")
 }
 
-/// Writes a field that is an array of whole numbers, each as text where it is 2^53 or more.
+/// Writes a field that is an array of whole numbers.
 #[tactic(auto, using(crate::proofs::Lines::field_steps))]
-pub fn write_numbers_field<P: Page>(name: &str, numbers: &[u64], page: &mut P) -> Result<(), Failed>
+pub fn write_numbers_field<P: Page>(name: &str, numbers: &[u32], page: &mut P) -> Result<(), Failed>
     ensures { Writes (P.told page.old) (P.told page.new) result (fields_text (field name.now (numbers_json numbers.now))) }
 {
     write_name(name, page)?;

@@ -13,7 +13,7 @@ use pickle_io::{Failed, Page, write_hex};
 
 /// Writes what is before the value of a field.
 #[tactic(auto, using(pickle_io::proofs::Devices::page_steps), unfolding(crate::specs::Line::name_text))]
-pub(crate) fn write_name<P: Page>(name: &str, page: &mut P) -> Result<(), Failed>
+pub fn write_name<P: Page>(name: &str, page: &mut P) -> Result<(), Failed>
     ensures text { Writes (P.told page.old) (P.told page.new) result (name_text name.now) }
     ensures room { OnOk result (59 ≤ P.room page.new) }
 {

@@ -11,8 +11,8 @@ mod value;
 
 pub use array::write_numbers_field;
 pub use field::{
-    write_bool_field, write_bytes_field, write_hex_field, write_integer_field, write_null_field,
-    write_number_field, write_text_field,
+    write_bool_field, write_bytes_field, write_hex_field, write_integer_field, write_name,
+    write_null_field, write_number_field, write_text_field,
 };
 pub use laws::{fields_are_plain, lines_read_back, plain_lines_read_back};
 pub use line::{begin_line, end_line};

@@ -19,6 +19,7 @@ nothing_left : (l : Lines) (many loose : Bool) (bytes : List ℕ) (a : Told) →
 nothing_left lines.Listing many loose bytes a small =
     let some = some_document many loose bytes small in
     (some.0, some.1, ((listing some.0).text, WroteAllBut-none a (listing some.0).text))
+nothing_left lines.Objects many loose bytes a small = refl
 nothing_left lines.Form many loose bytes a small = refl
 nothing_left (lines.Reach granted) many loose bytes a small = refl
 

@@ -5,6 +5,7 @@ use Rattle.pickle_io.specs.Device.{Told}
 use Rattle.pickle_doc.specs.Document.{size_limit}
 use Rattle.pickle_json.specs.Listing.{listing}
 use Rattle.pickle_json.specs.Written.{IsListed}
+use Rattle.objects_json.specs.Objects.{IsObjects}
 use Rattle.pickle_script.specs.GateText.{WroteText}
 use Rattle.pickle_script.specs.Output.{Stops}
 use Rattle.pickle_script.specs.declared.stop.Stop.{Stop}
@@ -15,16 +16,18 @@ use Rattle.json_script.specs.ReachLine.{IsReachLine}
 use Rattle.json_script.specs.declared.lines.Lines.{Lines}
 use Rattle.json_script.specs.declared.lines.Lines.TheVariants as lines
 
--- all lines were written, and this is their status: the listing of the document that the bytes read as, whether the one pickle that they are is
--- in the form that picklers write, or whether a loader of them reaches something
+-- all lines were written, and this is their status: the listing of the document that the bytes read as, the objects that it makes, whether the
+-- one pickle that they are is in the form that picklers write, or whether a loader of them reaches something
 abbrev pub CompletesLines : Lines → Bool → Bool → List ℕ → Told → Told → ℕ → Type 0
 CompletesLines lines.Listing many loose bytes old new status = IsListed many loose bytes old new status
+CompletesLines lines.Objects many loose bytes old new status = WroteText (IsObjects many loose bytes) old new status
 CompletesLines lines.Form many loose bytes old new status = WroteText (IsFormLine bytes) old new status
 CompletesLines (lines.Reach granted) many loose bytes old new status = WroteText (IsReachLine granted bytes) old new status
 
 -- what a stop leaves of them: of a listing, which is written as it is found, a beginning
 abbrev pub StopsLines : Lines → Bool → Bool → List ℕ → Told → Told → Stop → Type 0
 StopsLines lines.Listing many loose bytes old new e = Stops listing many loose bytes old new e
+StopsLines lines.Objects many loose bytes old new e = StopsOnce (IsObjects many loose bytes) old new e
 StopsLines lines.Form many loose bytes old new e = StopsOnce (IsFormLine bytes) old new e
 StopsLines (lines.Reach granted) many loose bytes old new e = StopsOnce (IsReachLine granted bytes) old new e
 

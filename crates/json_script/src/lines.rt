@@ -4,6 +4,7 @@ ghost use Rattle.json_script.specs.Answer.{AnswersLines};
 
 use crate::form::write_form;
 use crate::reach::write_reach;
+use objects_json::objects_lines;
 use pickle_doc::LIMIT;
 use pickle_io::Page;
 use pickle_json::list_bytes;
@@ -16,6 +17,8 @@ use std::alloc::Global;
 pub enum Lines {
     /// Its opcodes, as a listing: a line for each.
     Listing,
+    /// The objects that they make: a line for each.
+    Objects,
     /// Whether the first pickle, whatever the mode, is in the form that picklers write, with nothing behind it: one line.
     Form,
     /// Whether a loader of it reaches something that was given this besides, whatever the mode: one line.
@@ -26,8 +29,8 @@ pub enum Lines {
 /// the status that the text for people has. Where `loose` holds frames are not looked at.
 ///
 /// `Stop::TooLarge` where there are more bytes than `LIMIT`: nothing was written then. `Stop::Memory` where memory runs out, `Stop::Write`
-/// where the sink fails: what was written then is a beginning of the lines; where memory ran out, of the form and of what is
-/// reached nothing. The caller flushes the sink, which may still hold a part of it.
+/// where the sink fails: what was written then is a beginning of the lines; where memory ran out, of objects, of the form
+/// and of what is reached nothing. The caller flushes the sink, which may still hold a part of it.
 pub fn write_lines<S: Page>(
     alloc: Global,
     lines: Lines,
@@ -43,6 +46,7 @@ pub fn write_lines<S: Page>(
     }
     match lines {
         Lines::Listing => Ok(list_bytes(alloc, many, loose, bytes, page)?),
+        Lines::Objects => Ok(objects_lines(alloc, many, loose, bytes, page)?),
         Lines::Form => Ok(write_form(alloc, bytes, page)?),
         Lines::Reach(granted) => Ok(write_reach(alloc, granted, bytes, page)?),
     }

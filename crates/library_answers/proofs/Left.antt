@@ -7,7 +7,7 @@ use Rattle.pickle_io.specs.Holes.{end_of, without_from}
 use Rattle.pickle_show.specs.declared.naming.Detail.{Detail}
 use Rattle.pickle_show.specs.Manner.{manner, whole}
 use Rattle.pickle_further.specs.declared.way.Pickles.{Pickles}
-use Rattle.pickle_further.specs.CallsText.{CompletesText}
+use Rattle.mixes_text.specs.CallsWith.{CompletesCalls}
 use Rattle.pickle_script.specs.Output.{CompletesFile}
 use Rattle.calls_json.specs.Told.{CompletesLines}
 use Rattle.json_script.specs.CallsLines as calls_lines
@@ -22,7 +22,7 @@ end_added (Ok x) old new h e = ap (end_of 0) e ∙ end_last 0 old h
 end_added (Err x) old new h e = tt
 
 -- without holes all of a file is left
-pub all_left : (detail : Detail) (p : Pickles) (bytes : List ℕ) (old new : Told) (status : ℕ) → CompletesText (whole detail) p bytes old new status
+pub all_left : (detail : Detail) (p : Pickles) (bytes : List ℕ) (old new : Told) (status : ℕ) → CompletesCalls (whole detail) p bytes old new status
     → CompletesFile (manner detail []) p bytes old new status
 unfolding without_from
 all_left detail p bytes old new status c = c

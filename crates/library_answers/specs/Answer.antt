@@ -14,7 +14,9 @@ use Rattle.json_script.specs.Answer.{CompletesLines}
 use Rattle.json_script.specs.declared.lines.Lines.{Lines}
 use Rattle.json_script.specs.CallsLines as calls_lines
 use Rattle.pickle_script.specs.GateText.{WroteText}
+use Rattle.assembler_script.specs.AssemblyText.{IsAssemblyText}
 use Rattle.archive_script.specs.GateText.{IsGateText}
+use Rattle.gate_json.specs.GateLine.{IsGateLine}
 use Rattle.archive_script.specs.MembersText.{IsMembersText}
 use Rattle.pickle_script.specs.Conversation.{Finishes}
 use Rattle.pickle_script.specs.declared.texts.written.Text.{Text}
@@ -47,9 +49,17 @@ IsCallsLinesOf detail holes pickles bytes written status = calls_lines.Completes
 abbrev pub IsGateOf : List ℕ → List ℕ → List ℕ → ℕ → Type 0
 IsGateOf list bytes written status = WroteText (IsGateText list bytes) (took []) (took written) status
 
+-- the same as a line of JSON
+abbrev pub IsGateLineOf : List ℕ → List ℕ → List ℕ → ℕ → Type 0
+IsGateLineOf list bytes written status = WroteText (IsGateLine list bytes) (took []) (took written) status
+
 -- these bytes are the whole text of the members of an input, and this is its status
 abbrev pub IsMembersOf : List ℕ → List ℕ → ℕ → Type 0
 IsMembersOf bytes written status = WroteText (IsMembersText bytes) (took []) (took written) status
+
+-- these bytes are what a text of opcodes is assembled to, or the line of its first line that gives none, and this is the status
+abbrev pub IsAssemblyOf : List ℕ → List ℕ → ℕ → Type 0
+IsAssemblyOf text written status = WroteText (IsAssemblyText text) (took []) (took written) status
 
 -- these bytes are all answers to the lines of a script, in a session of an input, and this is its status
 pub record IsTalkOf (many loose : Bool) (bytes script written : List ℕ) (status : ℕ) : Type 0 where

@@ -3,6 +3,7 @@
 #![tactic(auto)]
 
 mod asked;
+pub mod assembled;
 pub mod calls_lines;
 mod conversation;
 mod fill;

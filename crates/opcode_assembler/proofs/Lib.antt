@@ -3,3 +3,4 @@ pub mod Lines
 pub mod Scans
 pub mod Wides
 pub mod Bytes
+pub mod Scanned

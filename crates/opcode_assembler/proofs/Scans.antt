@@ -20,42 +20,42 @@ front_twice a b (Ok p) = ap (λ (bytes : List ℕ). Ok (bytes, p.1)) (sym (appen
 front_twice a b (Err r) = refl
 
 -- the text that goes on behind a byte of this step
-abbrev pub onward : Step → List ℕ → Read
-onward s left = by_step s left (λ (n : Mode). scanned n left)
+abbrev pub onward : ℕ → Step → List ℕ → Read
+onward quote s left = by_step s left (λ (n : Mode). scanned quote n left)
 
-pub by_byte : (m : Mode) (byte : ℕ) (left : List ℕ) → scanned m (byte ∷ left) ≡ onward (step_of m byte) left
+pub by_byte : (quote : ℕ) (m : Mode) (byte : ℕ) (left : List ℕ) → scanned quote m (byte ∷ left) ≡ onward quote (step_of quote m byte) left
 unfolding scanned
-by_byte m byte left = refl
+by_byte quote m byte left = refl
 
-pub by_end : (m : Mode) → scanned m [] ≡ Err why.NoText
+pub by_end : (quote : ℕ) (m : Mode) → scanned quote m [] ≡ Err why.NoText
 unfolding scanned
-by_end m = refl
+by_end quote m = refl
 
-pub onward_is : (bytes rest left : List ℕ) (m : Mode) (byte : ℕ) (s : Step) (whole : Read) → rest ≡ byte ∷ left → s ≡ step_of m byte → in_front bytes (scanned m rest) ≡ whole → in_front bytes (onward s left) ≡ whole
-onward_is bytes rest left m byte s whole e h inv =
-    ap (λ (x : Step). in_front bytes (onward x left)) h ∙ sym (ap (in_front bytes) (ap (scanned m) e ∙ by_byte m byte left)) ∙ inv
+pub onward_is : (quote : ℕ) (bytes rest left : List ℕ) (m : Mode) (byte : ℕ) (s : Step) (whole : Read) → rest ≡ byte ∷ left → s ≡ step_of quote m byte → in_front bytes (scanned quote m rest) ≡ whole → in_front bytes (onward quote s left) ≡ whole
+onward_is quote bytes rest left m byte s whole e h inv =
+    ap (λ (x : Step). in_front bytes (onward quote x left)) h ∙ sym (ap (in_front bytes) (ap (scanned quote m) e ∙ by_byte quote m byte left)) ∙ inv
 
-pub over : (bytes rest : List ℕ) (m : Mode) (whole : Read) → length rest ≡ 0 → in_front bytes (scanned m rest) ≡ whole → whole ≡ Err why.NoText
-over bytes rest m whole h inv = sym inv ∙ ap (in_front bytes) (ap (scanned m) (nil_from_length rest h) ∙ by_end m)
+pub over : (quote : ℕ) (bytes rest : List ℕ) (m : Mode) (whole : Read) → length rest ≡ 0 → in_front bytes (scanned quote m rest) ≡ whole → whole ≡ Err why.NoText
+over quote bytes rest m whole h inv = sym inv ∙ ap (in_front bytes) (ap (scanned quote m) (nil_from_length rest h) ∙ by_end quote m)
 
-pub goes_on : (s : Step) (old new : List ℕ) (m : Mode) (left : List ℕ) → Steps s old new (Ok (Some m)) → in_front new (scanned m left) ≡ in_front old (onward s left)
-goes_on step.End old new m left h = absurd h
-goes_on step.Wrong old new m left h = absurd h
-goes_on (step.Goes n) old new m left h = rw (h.0, h.1) refl
-goes_on (step.Byte byte) old new m left h = rw (h.0, h.1) (sym (front_twice old (byte ∷ []) (scanned mode.Plain left)))
+pub goes_on : (quote : ℕ) (s : Step) (old new : List ℕ) (m : Mode) (left : List ℕ) → Steps s old new (Ok (Some m)) → in_front new (scanned quote m left) ≡ in_front old (onward quote s left)
+goes_on quote step.End old new m left h = absurd h
+goes_on quote step.Wrong old new m left h = absurd h
+goes_on quote (step.Goes n) old new m left h = rw (h.0, h.1) refl
+goes_on quote (step.Byte byte) old new m left h = rw (h.0, h.1) (sym (front_twice old (byte ∷ []) (scanned quote mode.Plain left)))
 
-pub ended : (s : Step) (old new left : List ℕ) → Steps s old new (Ok None) → in_front old (onward s left) ≡ Ok (new, left)
-ended step.End old new left h = rw h (ap (λ (bytes : List ℕ). Ok (bytes, left)) (append-nil old))
-ended step.Wrong old new left h = absurd h
-ended (step.Goes n) old new left h = absurd h
-ended (step.Byte byte) old new left h = absurd h
+pub ended : (quote : ℕ) (s : Step) (old new left : List ℕ) → Steps s old new (Ok None) → in_front old (onward quote s left) ≡ Ok (new, left)
+ended quote step.End old new left h = rw h (ap (λ (bytes : List ℕ). Ok (bytes, left)) (append-nil old))
+ended quote step.Wrong old new left h = absurd h
+ended quote (step.Goes n) old new left h = absurd h
+ended quote (step.Byte byte) old new left h = absurd h
 
-pub failed : (s : Step) (old new left : List ℕ) (f : Fault) → Steps s old new (Err f) → Fails (in_front old (onward s left)) f
-failed step.End old new left fault.Memory h = tt
-failed step.End old new left (fault.Wrong r) h = absurd h
-failed step.Wrong old new left fault.Memory h = tt
-failed step.Wrong old new left (fault.Wrong r) h = ap Err (sym h)
-failed (step.Goes n) old new left fault.Memory h = tt
-failed (step.Goes n) old new left (fault.Wrong r) h = absurd h
-failed (step.Byte byte) old new left fault.Memory h = tt
-failed (step.Byte byte) old new left (fault.Wrong r) h = absurd h
+pub failed : (quote : ℕ) (s : Step) (old new left : List ℕ) (f : Fault) → Steps s old new (Err f) → Fails (in_front old (onward quote s left)) f
+failed quote step.End old new left fault.Memory h = tt
+failed quote step.End old new left (fault.Wrong r) h = absurd h
+failed quote step.Wrong old new left fault.Memory h = tt
+failed quote step.Wrong old new left (fault.Wrong r) h = ap Err (sym h)
+failed quote (step.Goes n) old new left fault.Memory h = tt
+failed quote (step.Goes n) old new left (fault.Wrong r) h = absurd h
+failed quote (step.Byte byte) old new left fault.Memory h = tt
+failed quote (step.Byte byte) old new left (fault.Wrong r) h = absurd h

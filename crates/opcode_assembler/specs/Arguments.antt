@@ -1,17 +1,23 @@
 -- The bytes of arguments.
 -- Source: own; they undo the texts of `pickle_ops/specs/Text.antt`.
-use Rattle.std.specs.Prelude.{ℕ, nat_le, if◌then◌else◌, List, [], ◌∷◌, ◌++◌, length, codes, Result, Ok, Err}
+use Rattle.std.specs.Prelude.{ℕ, ◌==◌, ◌||◌, ◌&&◌, not, nat_le, if◌then◌else◌, Bool, true, false, List, [], ◌∷◌, ◌++◌, length, codes, to_bits, Result, Ok, Err}
 use Rattle.std.specs.Option.{option_map_or}
-use Rattle.byteorder.specs.Endian.{little_bytes}
+use Rattle.std.specs.List.{prefix_len}
+use Rattle.std.specs.Float.{binary64}
+use Rattle.std.specs.Float.Ieee.{Float}
+use Rattle.std.specs.Float.Parse.{parse_float}
+use Rattle.byteorder.specs.Endian.{little_bytes, big_bytes}
 use Rattle.pickle_ops.specs.declared.form.Form.{Form}
 use Rattle.pickle_ops.specs.declared.form.Form.TheVariants as form
 use Rattle.pickle_ops.specs.declared.opcode.Opcode.{Opcode}
+use Rattle.pickle_ops.specs.declared.opcode.Opcode.TheVariants as op
+use Rattle.pickle_ops.specs.Shape.{is_digit}
 use Rattle.pickle_ops.specs.Table.{form_of}
 use Rattle.pickle_ops.specs.Text.{is_long}
 use Rattle.opcode_assembler.specs.declared.fault.Reason.{Reason}
 use Rattle.opcode_assembler.specs.declared.fault.Reason.TheVariants as why
 use Rattle.opcode_assembler.specs.Words.{trimmed, word, after_word, behind}
-use Rattle.opcode_assembler.specs.Quotes.{Read, text_first}
+use Rattle.opcode_assembler.specs.Quotes.{Read, is_quote, text_first}
 use Rattle.opcode_assembler.specs.Numbers.{hex_first, width_of, most_of, fixed_first, line_first, signed_word, shortest}
 
 -- ---- one after another
@@ -39,9 +45,14 @@ lined bytes rest = Ok (bytes ++ 10 ∷ [], rest)
 abbrev pub second_line : List ℕ → List ℕ → Read
 second_line first rest = and_then (text_first rest) (λ second left. Ok (first ++ 10 ∷ (second ++ 10 ∷ []), left))
 
--- `f8:` and the bytes of a float in hexadecimal digits
+-- the double that is nearest to a number in decimal digits, in eight bytes, the highest first
+-- Source: IEEE 754, as Python's `float` and `struct.pack('>d', ..)`.
+abbrev pub nearest_first : List ℕ → Read
+nearest_first text = option_map_or (λ (x : Float). Ok (big_bytes 8 (to_bits binary64 x), after_word text)) (parse_float binary64 (word text)) (Err why.NoFloat)
+
+-- `f8:` and these bytes in hexadecimal digits, or the number
 abbrev pub float_first : List ℕ → Read
-float_first text = option_map_or hex_first (behind (codes "f8:") (trimmed text)) (Err why.NoFloat)
+float_first text = option_map_or hex_first (behind (codes "f8:") (trimmed text)) (nearest_first text)
 
 -- a number with a sign, in four bytes
 abbrev pub signed_first : List ℕ → Read
@@ -74,9 +85,38 @@ form_first form.B4 text = and_then (text_first text) (counted form.B4)
 form_first form.B8 text = and_then (text_first text) (counted form.B8)
 form_first form.Bs4 text = and_then (text_first text) (counted form.Bs4)
 
--- the argument of an opcode; that of LONG1 and LONG4 is a number
+-- the opcodes whose line is a number
+abbrev pub is_numeral : Opcode → Bool
+is_numeral op.Int = true
+is_numeral op.Long = true
+is_numeral op.Float = true
+is_numeral _ = false
+
+-- a text is in front
+abbrev pub has_text : List ℕ → Bool
+has_text [] = false
+has_text (byte ∷ rest) = is_quote byte || byte == 98
+
+-- digits, signs, a dot, the `e` of a power of ten, the `L` of a long number
+abbrev pub is_numeral_byte : ℕ → Bool
+is_numeral_byte byte = is_digit byte || byte == 43 || byte == 45 || byte == 46 || byte == 101 || byte == 69 || byte == 76
+
+abbrev pub is_number : List ℕ → Bool
+is_number w = not (length w == 0) && prefix_len is_numeral_byte w == length w
+
+-- a number in a line, as it is written
+abbrev pub numeral_first : List ℕ → Read
+numeral_first text = if is_number (word text) then Ok (word text ++ 10 ∷ [], after_word text) else Err why.NoText
+
+abbrev pub is_bare : Opcode → List ℕ → Bool
+is_bare o text = is_numeral o && not (has_text (trimmed text))
+
+-- the argument of an opcode; that of LONG1 and LONG4 is a number, and so may be that of INT, LONG and FLOAT
 abbrev pub spelled_first : Opcode → List ℕ → Read
-spelled_first o text = if is_long o then and_then (long_first text) (counted (form_of o)) else form_first (form_of o) text
+spelled_first o text =
+    if is_long o then and_then (long_first text) (counted (form_of o))
+    else if is_bare o text then numeral_first text
+    else form_first (form_of o) text
 
 -- or any bytes, in hexadecimal digits behind `hex:`, with their count and newlines
 abbrev pub argument_first : Opcode → List ℕ → Read

@@ -14,7 +14,7 @@ use Rattle.opcode_assembler.specs.declared.fault.Refusal.{Refusal}
 use Rattle.opcode_assembler.specs.declared.fault.Refusal.TheVariants as refusal
 use Rattle.opcode_assembler.specs.declared.fault.Fault.{Fault}
 use Rattle.opcode_assembler.specs.declared.fault.Fault.TheVariants as fault
-use Rattle.opcode_assembler.specs.Words.{trimmed, word, after_word, behind, is_over, after_note, is_place}
+use Rattle.opcode_assembler.specs.Words.{trimmed, word, after_word, behind, is_over, after_note, is_place, unnumbered}
 use Rattle.opcode_assembler.specs.Quotes.{Read}
 use Rattle.opcode_assembler.specs.Numbers.{hex_first}
 use Rattle.opcode_assembler.specs.Arguments.{argument_first}
@@ -69,8 +69,9 @@ is_gap text = is_some (behind (codes "kept: ") text) || is_some (behind (codes "
 abbrev pub bytes_say : List ℕ → Result Piece Reason
 bytes_say text = option_map_or (λ (rest : List ℕ). alone Raw (hex_first rest)) (behind (codes "raw:") text) (opcode_says (unplaced text))
 
+-- nothing or a comment, with an offset in front or without; or a remark
 abbrev pub says_nothing : List ℕ → Bool
-says_nothing text = is_over text || is_remark text
+says_nothing text = is_over (unnumbered text) || is_remark text
 
 abbrev pub text_says : List ℕ → Result Piece Reason
 text_says text =

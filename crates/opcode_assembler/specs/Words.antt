@@ -1,7 +1,8 @@
 -- The words of a line.
 -- Source: own.
-use Rattle.std.specs.Prelude.{ℕ, ◌-◌, ◌==◌, ◌||◌, not, if◌then◌else◌, Bool, true, List, [], ◌∷◌, length, take, drop, slice_index, Option, Some, None, is_some}
-use Rattle.std.specs.List.{prefix_len, after_first}
+use Rattle.std.specs.Prelude.{ℕ, ◌+◌, ◌-◌, ◌==◌, ◌||◌, not, if◌then◌else◌, Bool, true, List, [], ◌∷◌, length, take, drop, slice_index, Option, Some, None, is_some}
+use Rattle.std.specs.List.{prefix_len, position}
+use Rattle.std.specs.Option.{option_map_or}
 use Rattle.std.specs.Str.{bytes_eq}
 use Rattle.pickle_ops.specs.Shape.{decimal_of}
 
@@ -42,9 +43,9 @@ is_open byte = byte == 40
 abbrev pub is_close : ℕ → Bool
 is_close byte = byte == 41
 
--- a note in parentheses says nothing; one that does not end takes the rest of the line
+-- a note in parentheses says nothing, if it ends
 abbrev pub unnoted : List ℕ → List ℕ
-unnoted text = if is_open (slice_index text 0) then after_first is_close text else text
+unnoted text = if is_open (slice_index text 0) then option_map_or (λ (n : ℕ). drop (n + 1) text) (position is_close text) text else text
 
 abbrev pub after_note : List ℕ → List ℕ
 after_note text = unnoted (trimmed text)
@@ -58,3 +59,7 @@ uncoloned w = if slice_index w (length w - 1) == 58 then take (length w - 1) w e
 -- an offset in decimal digits, with a colon or without
 abbrev pub is_place : List ℕ → Bool
 is_place w = is_some (decimal_of (uncoloned w))
+
+-- what is behind an offset in front, if there is one
+abbrev pub unnumbered : List ℕ → List ℕ
+unnumbered text = if is_place (word text) then after_word text else text

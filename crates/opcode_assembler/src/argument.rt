@@ -1,20 +1,22 @@
 //! The bytes of arguments.
 
 ghost use Rattle.std.specs.Prelude.{◌≡◌, MatchResult, Ok};
+ghost use Rattle.std.specs.List.{prefix_len};
 ghost use Rattle.pickle_ops.specs.Text.{is_long};
 ghost use Rattle.opcode_assembler.specs.Quotes.{text_first};
-ghost use Rattle.opcode_assembler.specs.Arguments.{and_then, counted, lined, second_line, float_first, long_first, form_first, spelled_first, argument_first};
+ghost use Rattle.opcode_assembler.specs.Arguments.{and_then, counted, lined, second_line, nearest_first, float_first, long_first, form_first, is_numeral, has_text, is_number, is_numeral_byte, numeral_first, is_bare, spelled_first, argument_first};
 ghost use Rattle.opcode_assembler.specs.Reading.{Fails};
 
-use crate::buffer::{append, push};
+use crate::buffer::{append, copied, push};
 use crate::digits::hex_first;
 use crate::fault::{Fault, Reason};
 use crate::long::{long_first, signed_first};
 use crate::number::{fixed_first, line_first, little_bytes, most_of, width_of};
-use crate::text::text_first;
-use crate::words::{behind, trimmed};
+use crate::text::{is_quote, text_first};
+use crate::words::{behind, cut, trimmed};
 use pickle_ops::{Form, Opcode};
 use std::alloc::Global;
+use std::num::f64_to_bits_with_nan;
 
 /// Bytes behind their count.
 fn counted<'a>(
@@ -83,13 +85,27 @@ fn two_first(alloc: Global, text: &[u8]) -> Result<(Vec<u8>, &[u8]), Fault>
     second_line(alloc, first, rest)
 }
 
+/// The bytes of the double that is nearest to the number in front.
+fn nearest_first(alloc: Global, text: &[u8]) -> Result<(Vec<u8>, &[u8]), Fault>
+    ensures { MatchResult result (λ p. nearest_first text.now ≡ Ok (p.0.items, p.1.now)) (λ f. Fails (nearest_first text.now) f) }
+{
+    let first = cut(text);
+    match fast_float::parse::<f64, _>(first.word) {
+        Ok(number) => {
+            let bits = f64_to_bits_with_nan(number);
+            Ok((copied(alloc, &bits.to_be_bytes())?, first.rest))
+        }
+        Err(_) => Err(Fault::Wrong(Reason::NoFloat)),
+    }
+}
+
 /// The bytes of the float in front.
 fn float_first(alloc: Global, text: &[u8]) -> Result<(Vec<u8>, &[u8]), Fault>
     ensures { MatchResult result (λ p. float_first text.now ≡ Ok (p.0.items, p.1.now)) (λ f. Fails (float_first text.now) f) }
 {
     match behind(b"f8:", trimmed(text)) {
         Some(digits) => hex_first(alloc, digits),
-        None => Err(Fault::Wrong(Reason::NoFloat)),
+        None => nearest_first(alloc, text),
     }
 }
 
@@ -123,12 +139,80 @@ fn is_long(opcode: Opcode) -> bool
     matches!(opcode, Opcode::Long1 | Opcode::Long4)
 }
 
+/// Whether the line of an opcode is a number.
+fn is_numeral(opcode: Opcode) -> bool
+    ensures { result ≡ is_numeral opcode }
+{
+    matches!(opcode, Opcode::Int | Opcode::Long | Opcode::Float)
+}
+
+/// Whether a text is in front.
+fn has_text(text: &[u8]) -> bool
+    ensures { result ≡ has_text text.now }
+{
+    match text.first() {
+        Some(byte) => is_quote(*byte) || *byte == b'b',
+        None => false,
+    }
+}
+
+/// Whether a byte may stand in a number that is written without quotes.
+fn is_numeral_byte(byte: u8) -> bool
+    ensures { result ≡ is_numeral_byte byte }
+{
+    (byte >= b'0' && byte <= b'9')
+        || byte == b'+'
+        || byte == b'-'
+        || byte == b'.'
+        || byte == b'e'
+        || byte == b'E'
+        || byte == b'L'
+}
+
+/// How many bytes are before the first that may not.
+fn numeral_len(word: &[u8]) -> usize
+    ensures { result ≡ prefix_len is_numeral_byte word.now }
+{
+    word.iter()
+        .take_while(|byte| is_numeral_byte(**byte))
+        .count()
+}
+
+/// Whether a word is such a number.
+fn is_number(word: &[u8]) -> bool
+    ensures { result ≡ is_number word.now }
+{
+    !word.is_empty() && numeral_len(word) == word.len()
+}
+
+/// A line of the number in front, as it is written, and what comes after it.
+fn numeral_first(alloc: Global, text: &[u8]) -> Result<(Vec<u8>, &[u8]), Fault>
+    ensures { MatchResult result (λ p. numeral_first text.now ≡ Ok (p.0.items, p.1.now)) (λ f. Fails (numeral_first text.now) f) }
+{
+    let first = cut(text);
+    if !is_number(first.word) {
+        return Err(Fault::Wrong(Reason::NoText));
+    }
+    let mut bytes = copied(alloc, first.word)?;
+    push(&mut bytes, b'\n')?;
+    Ok((bytes, first.rest))
+}
+
+/// Whether a number without quotes may be in front, and no text is.
+fn is_bare(opcode: Opcode, text: &[u8]) -> bool
+    ensures { result ≡ is_bare opcode text.now }
+{
+    is_numeral(opcode) && !has_text(trimmed(text))
+}
+
 /// The argument of an opcode, as a listing spells it, and what comes after it.
 fn spelled_first(alloc: Global, opcode: Opcode, text: &[u8]) -> Result<(Vec<u8>, &[u8]), Fault>
     ensures { MatchResult result (λ p. spelled_first opcode text.now ≡ Ok (p.0.items, p.1.now)) (λ f. Fails (spelled_first opcode text.now) f) }
 {
     if is_long(opcode) {
         counted_long(alloc, opcode.form(), text)
+    } else if is_bare(opcode, text) {
+        numeral_first(alloc, text)
     } else {
         form_first(alloc, opcode.form(), text)
     }

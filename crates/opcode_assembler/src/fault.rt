@@ -9,11 +9,11 @@ pub enum Reason {
     NoNumber,
     /// The number does not fit into the bytes that the opcode has for it.
     NumberTooLarge,
-    /// The opcode wants a text in single quotes, and there is none, or it has an escape that is none, or it does not end.
+    /// The opcode wants a text in quotes, and there is none, or it has an escape that is none, or it does not end.
     NoText,
     /// The opcode cannot say how long a text of so many bytes is.
     TextTooLong,
-    /// The opcode wants `f8:`, and it is not there.
+    /// The opcode wants a number, or `f8:` and hexadecimal digits, and neither is there.
     NoFloat,
     /// A word is no pairs of hexadecimal digits.
     NoHex,

@@ -9,7 +9,7 @@ use crate::argument::argument_first;
 use crate::buffer::{append, push};
 use crate::digits::hex_first;
 use crate::fault::{Fault, Reason};
-use crate::words::{after_note, behind, cut, is_over, is_place, trimmed};
+use crate::words::{after_note, behind, cut, is_over, is_place, trimmed, unnumbered};
 use pickle_ops::{OpFault, Opcode, op_of};
 use std::alloc::Global;
 
@@ -113,11 +113,11 @@ fn put_bytes(out: &mut Vec<u8>, alloc: Global, text: &[u8]) -> Result<(), Fault>
     }
 }
 
-/// Whether a line has no bytes: there is nothing in it, or a comment, or a remark.
+/// Whether a line has no bytes: there is nothing in it but an offset and a comment, or a remark.
 fn says_nothing(text: &[u8]) -> bool
     ensures { result ≡ says_nothing text.now }
 {
-    is_over(text) || is_remark(text)
+    is_over(unnumbered(text)) || is_remark(text)
 }
 
 /// Adds the bytes of a line without blanks in front.

@@ -2,7 +2,7 @@
 
 ghost use Rattle.std.specs.Prelude.{◌≡◌, ◌<◌, IfSome};
 ghost use Rattle.hex.specs.Hex.{hex_digit_value};
-ghost use Rattle.opcode_assembler.specs.Quotes.{step_of};
+ghost use Rattle.opcode_assembler.specs.Quotes.{escape_of, step_of};
 
 /// Where in a text its next byte stands.
 #[derive(Clone, Copy, PartialEq, Eq)]
@@ -44,13 +44,19 @@ fn digit_of(byte: u8) -> Option<u8>
 }
 
 /// A byte behind a backslash.
-fn escape_step(byte: u8) -> Step
-    ensures { result ≡ step_of Mode.Escape byte }
+fn escape_of(byte: u8) -> Step
+    ensures { result ≡ escape_of byte }
 {
-    if byte == b'\\' || byte == b'\'' {
+    if byte == b'\\' || byte == b'\'' || byte == b'"' {
         Step::Byte(byte)
     } else if byte == b'x' {
         Step::Goes(Mode::High)
+    } else if byte == b'n' {
+        Step::Byte(b'\n')
+    } else if byte == b'r' {
+        Step::Byte(b'\r')
+    } else if byte == b't' {
+        Step::Byte(b'\t')
     } else {
         Step::Wrong
     }
@@ -58,7 +64,7 @@ fn escape_step(byte: u8) -> Step
 
 /// The first digit of an escape.
 fn high_step(byte: u8) -> Step
-    ensures { result ≡ step_of Mode.High byte }
+    ensures { result ≡ step_of 0 Mode.High byte }
 {
     match digit_of(byte) {
         Some(_) => Step::Goes(Mode::Low(byte)),
@@ -68,7 +74,7 @@ fn high_step(byte: u8) -> Step
 
 /// The second digit of an escape, behind the first.
 fn low_step(first: u8, byte: u8) -> Step
-    ensures { result ≡ step_of (Mode.Low first) byte }
+    ensures { result ≡ step_of 0 (Mode.Low first) byte }
 {
     match digit_of(first) {
         None => Step::Wrong,
@@ -79,24 +85,26 @@ fn low_step(first: u8, byte: u8) -> Step
     }
 }
 
-/// A byte between escapes.
-fn plain_step(byte: u8) -> Step
-    ensures { result ≡ step_of Mode.Plain byte }
+/// A byte between escapes, in a text that this quote ends.
+fn plain_step(quote: u8, byte: u8) -> Step
+    ensures { result ≡ step_of quote Mode.Plain byte }
 {
-    match byte {
-        b'\'' => Step::End,
-        b'\\' => Step::Goes(Mode::Escape),
-        _ => Step::Byte(byte),
+    if byte == quote {
+        Step::End
+    } else if byte == b'\\' {
+        Step::Goes(Mode::Escape)
+    } else {
+        Step::Byte(byte)
     }
 }
 
-/// What the next byte of a text says.
-pub(crate) fn step_of(mode: Mode, byte: u8) -> Step
-    ensures { result ≡ step_of mode byte }
+/// What the next byte of a text says that this quote ends.
+pub(crate) fn step_of(quote: u8, mode: Mode, byte: u8) -> Step
+    ensures { result ≡ step_of quote mode byte }
 {
     match mode {
-        Mode::Plain => plain_step(byte),
-        Mode::Escape => escape_step(byte),
+        Mode::Plain => plain_step(quote, byte),
+        Mode::Escape => escape_of(byte),
         Mode::High => high_step(byte),
         Mode::Low(first) => low_step(first, byte),
     }

@@ -1,9 +1,9 @@
 //! The words of a line.
 
-ghost use Rattle.std.specs.Prelude.{◌≡◌, ◌≤◌, length, not, is_some};
+ghost use Rattle.std.specs.Prelude.{◌≡◌, ◌≤◌, length, is_some};
 ghost use Rattle.std.specs.Option.{option_map};
-ghost use Rattle.std.specs.List.{prefix_len};
-ghost use Rattle.opcode_assembler.specs.Words.{is_blank, is_letter, trimmed, word, after_word, behind, is_over, is_open, is_close, unnoted, after_note, uncoloned, is_place};
+ghost use Rattle.std.specs.List.{prefix_len, position};
+ghost use Rattle.opcode_assembler.specs.Words.{is_blank, is_letter, trimmed, word, after_word, behind, is_over, is_open, is_close, unnoted, after_note, uncoloned, is_place, unnumbered};
 
 use pickle_ops::decimal_of;
 
@@ -73,25 +73,23 @@ pub(crate) fn is_over(text: &[u8]) -> bool
     }
 }
 
-/// Where the first closing parenthesis is, if there is one, and else the end.
-fn close(text: &[u8]) -> usize
-    ensures { result ≡ prefix_len (λ c. not (is_close c)) text.now }
+/// Where the first closing parenthesis is, if there is one.
+fn close(text: &[u8]) -> Option<usize>
+    ensures { result ≡ position is_close text.now }
 {
-    text.iter().take_while(|byte| **byte != b')').count()
+    text.iter().position(|byte| *byte == b')')
 }
 
-/// What comes after a note in front, where there is one.
+/// What comes after a note in front, where there is one that ends.
 fn unnoted(text: &[u8]) -> &[u8]
     ensures { result.now ≡ unnoted text.now }
 {
     if text.is_empty() || text[0] != b'(' {
         return text;
     }
-    let at = close(text);
-    if at < text.len() {
-        &text[at + 1..]
-    } else {
-        &[]
+    match close(text) {
+        Some(at) => &text[at + 1..],
+        None => text,
     }
 }
 
@@ -118,4 +116,16 @@ pub(crate) fn is_place(word: &[u8]) -> bool
     ensures { result ≡ is_place word.now }
 {
     decimal_of(uncoloned(word)).is_some()
+}
+
+/// What comes after an offset in front, where there is one.
+pub(crate) fn unnumbered(text: &[u8]) -> &[u8]
+    ensures { result.now ≡ unnumbered text.now }
+{
+    let first = cut(text);
+    if is_place(first.word) {
+        first.rest
+    } else {
+        text
+    }
 }

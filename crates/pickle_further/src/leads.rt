@@ -16,7 +16,7 @@ use pickle_show::{Event, write_id};
 
 /// What leads to the unpickler: parts that stand side by side in the dotted name of a module or of its member, or with which both names together begin.
 /// The names are those that a pickle says, which Python 3 may take for those of Python 2. Modules have other names in modules that import them.
-static LEADING: [&str; 91] = [
+static LEADING: [&str; 92] = [
     // The unpickler: its modules, its classes, what is made of them, and other libraries' own ones.
     "pickle",
     "cPickle",
@@ -28,6 +28,7 @@ static LEADING: [&str; 91] = [
     "UnpicklerMemoProxy",
     "NumpyUnpickler",
     "ZipNumpyUnpickler",
+    "StockUnpickler",
     "pickle_compat",
     "_weights_only_unpickler",
     // Any object, or any class, that there is.

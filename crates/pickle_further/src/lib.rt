@@ -21,6 +21,6 @@ mod way;
 mod worder;
 
 pub use laws::{lines_come_first, no_line_no_reach_behind, parts_begin_at_lines};
-pub use texts::calls;
+pub use texts::{calls, first_mixed};
 pub use way::Pickles;
 pub use worder::Worder;

@@ -75,7 +75,7 @@ fn file_frames(pickles: Pickles) -> Frames
 }
 
 /// From where frames may be mixed, if they may be.
-fn first_mixed(
+pub fn first_mixed(
     alloc: Global,
     detail: Detail,
     pickles: Pickles,

@@ -4,7 +4,7 @@ mod Pieces
 mod Listed
 mod Cuts
 mod Steps
-mod Readable
+pub mod Readable
 mod ReachReadable
 mod FormReadable
 mod Agreeing

@@ -25,7 +25,7 @@ use Rattle.json_lines.proofs.Strings.{plain_ascii}
 use Rattle.json_lines.proofs.Fields.{fields_are_plain, plain_lines_read_back}
 use Rattle.pickle_json.specs.declared.note.Note.{Note}
 use Rattle.pickle_json.specs.declared.note.Note.TheVariants as note
-use Rattle.pickle_json.specs.ItemFields.{number_name, number_fields, integer_fields, payload_fields, double_fields, lowest_first_fields, long_fields, two_fields, form_fields, arg_fields, note_fields, head_fields, rest_fields, item_fields, item_line}
+use Rattle.pickle_json.specs.ItemFields.{number_name, number_fields, integer_fields, payload_fields, double_fields, lowest_first_fields, long_fields, names_fields, form_fields, arg_fields, note_fields, head_fields, rest_fields, item_fields, item_line}
 use Rattle.pickle_json.specs.EndFields.{left_fields, left_text, refusal_code, refusal_words, refusal_fields, fault_code, fault_words, fault_fields, is_of_frame, how_fields, protocol_fields, coded_fields, stopped_fields, stopped_end, refused_fields, refused_end, told_fields, place_fields, tail_fields, fault_end}
 use Rattle.pickle_json.specs.Readable.{ItemLinesReadBack, EndLinesReadBack}
 
@@ -50,17 +50,17 @@ number n =
     let exact : Bool = nat_lt n 9007199254740992 in
     fields_are_plain.wholes (number_name exact) n (word (number_name exact) (number_named exact))
 
-signed : (z : ℤ) → ArePlain (integer_fields z)
+pub signed : (z : ℤ) → ArePlain (integer_fields z)
 unfolding integer_fields
 signed z =
     let exact : Bool = nat_lt (unsigned_abs z) 9007199254740992 in
     fields_are_plain.integers (number_name exact) z (word (number_name exact) (number_named exact))
 
-held : (bytes : List ℕ) → ArePlain (payload_fields bytes)
+pub held : (bytes : List ℕ) → ArePlain (payload_fields bytes)
 unfolding payload_fields
 held bytes = fields_are_plain.bytes (codes "argument") (codes "argument_hex") bytes (word (codes "argument") refl) (word (codes "argument_hex") refl)
 
-double : (bytes : List ℕ) → ArePlain (double_fields bytes)
+pub double : (bytes : List ℕ) → ArePlain (double_fields bytes)
 unfolding double_fields
 double bytes = fields_are_plain.hexadecimal (codes "argument_f8_hex") bytes (word (codes "argument_f8_hex") refl)
 
@@ -72,15 +72,15 @@ long_by : (b : Bool) (bytes : List ℕ) → ArePlain (if b then integer_fields (
 long_by true bytes = signed (long_of bytes)
 long_by false bytes = lowest_first bytes
 
-long : (bytes : List ℕ) → ArePlain (long_fields bytes)
+pub long : (bytes : List ℕ) → ArePlain (long_fields bytes)
 unfolding long_fields
 long bytes = long_by (nat_le (length bytes) 16) bytes
 
-two : (arg : List ℕ) → ArePlain (two_fields arg)
-unfolding two_fields
-two arg =
-    fields_are_plain.joined _ _ (fields_are_plain.bytes (codes "module") (codes "module_hex") (first_text arg) (word (codes "module") refl) (word (codes "module_hex") refl))
-    (fields_are_plain.bytes (codes "name") (codes "name_hex") (second_text arg) (word (codes "name") refl) (word (codes "name_hex") refl))
+pub names : (first second : List ℕ) → ArePlain (names_fields first second)
+unfolding names_fields
+names first second =
+    fields_are_plain.joined _ _ (fields_are_plain.bytes (codes "module") (codes "module_hex") first (word (codes "module") refl) (word (codes "module_hex") refl))
+    (fields_are_plain.bytes (codes "name") (codes "name_hex") second (word (codes "name") refl) (word (codes "name_hex") refl))
 
 of_form : (f : Form) (arg : List ℕ) → ArePlain (form_fields f arg)
 of_form form.Empty arg = tt
@@ -93,7 +93,7 @@ of_form form.R8 arg = double (payload form.R8 arg)
 of_form form.Line arg = held (payload form.Line arg)
 of_form form.Quoted arg = held (payload form.Quoted arg)
 of_form form.Decimal arg = number (number_of form.Decimal arg)
-of_form form.Two arg = two arg
+of_form form.Two arg = names (first_text arg) (second_text arg)
 of_form form.B1 arg = held (payload form.B1 arg)
 of_form form.B4 arg = held (payload form.B4 arg)
 of_form form.B8 arg = held (payload form.B8 arg)
@@ -219,7 +219,7 @@ stopped : (kept : ℕ) (highest : Option ℕ) → ArePlain (stopped_fields kept 
 stopped kept highest =
     fields_are_plain.joined _ _ (fields_are_plain.joined _ _ (ended (codes "stopped") refl) (fields_are_plain.wholes (codes "kept") kept (word (codes "kept") refl))) (protocol highest)
 
-refused : (r : Refusal) (highest : Option ℕ) → ArePlain (refused_fields r highest)
+pub refused : (r : Refusal) (highest : Option ℕ) → ArePlain (refused_fields r highest)
 refused r highest =
     fields_are_plain.joined _ _ (fields_are_plain.joined _ _ (fields_are_plain.joined _ _ (ended (codes "refused") refl) (coded (refusal_code r) (refusal_words r) (refusal_code_plain r) (refusal_words_plain r)))
     (refused_by r)) (protocol highest)
@@ -234,7 +234,7 @@ unfolding place_fields
 placed f offset =
     fields_are_plain.joined _ _ (fields_are_plain.wholes (codes "offset") offset (word (codes "offset") refl)) (truth (codes "of_frame") (is_of_frame f) refl)
 
-fault : (f : TailFault) (offset : ℕ) (highest : Option ℕ) → ArePlain (tail_fields f offset highest)
+pub fault : (f : TailFault) (offset : ℕ) (highest : Option ℕ) → ArePlain (tail_fields f offset highest)
 fault f offset highest = fields_are_plain.joined _ _ (fields_are_plain.joined _ _ (told f) (placed f offset)) (protocol highest)
 
 pub end_lines_read_back : EndLinesReadBack

@@ -44,9 +44,8 @@ unfoldable pub long_fields : List ℕ → List Field
 long_fields bytes = if nat_le (length bytes) 16 then integer_fields (long_of bytes) else lowest_first_fields bytes
 
 -- a module and a name
-unfoldable pub two_fields : List ℕ → List Field
-two_fields arg =
-    bytes_field (codes "module") (codes "module_hex") (first_text arg) ⊕ bytes_field (codes "name") (codes "name_hex") (second_text arg)
+unfoldable pub names_fields : List ℕ → List ℕ → List Field
+names_fields first second = bytes_field (codes "module") (codes "module_hex") first ⊕ bytes_field (codes "name") (codes "name_hex") second
 
 abbrev pub form_fields : Form → List ℕ → List Field
 form_fields form.Empty arg = []
@@ -59,7 +58,7 @@ form_fields form.R8 arg = double_fields (payload form.R8 arg)
 form_fields form.Line arg = payload_fields (payload form.Line arg)
 form_fields form.Quoted arg = payload_fields (payload form.Quoted arg)
 form_fields form.Decimal arg = number_fields (number_of form.Decimal arg)
-form_fields form.Two arg = two_fields arg
+form_fields form.Two arg = names_fields (first_text arg) (second_text arg)
 form_fields form.B1 arg = payload_fields (payload form.B1 arg)
 form_fields form.B4 arg = payload_fields (payload form.B4 arg)
 form_fields form.B8 arg = payload_fields (payload form.B8 arg)

@@ -1,6 +1,7 @@
 -- The definitions that contracts cite.
 pub mod ItemFields
 pub mod EndFields
+pub mod ShownFields
 pub mod ReachFields
 pub mod FormFields
 pub mod Listing

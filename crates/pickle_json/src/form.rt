@@ -72,9 +72,9 @@ fn write_why<P: Page>(reason: Reason, page: &mut P) -> Result<(), Failed>
     write_text_field("words", reason.sentence(), page)
 }
 
-/// Writes the fields of the first place.
+/// Writes the fields of the first place at which a pickle is in another form, and why.
 #[tactic(auto, using(json_lines::proofs::Lines::fields_steps))]
-fn write_other_fields<P: Page>(other: Other, page: &mut P) -> Result<(), Failed>
+pub fn write_other_fields<P: Page>(other: Other, page: &mut P) -> Result<(), Failed>
     ensures { Writes (P.told page.old) (P.told page.new) result (fields_text (other_fields other)) }
 {
     write_how("other_form", page)?;

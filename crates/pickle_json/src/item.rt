@@ -8,7 +8,7 @@ ghost use Rattle.pickle_io.specs.Text.{◌⧺◌};
 ghost use Rattle.pickle_ops.specs.Argument.{long_of};
 ghost use Rattle.pickle_ops.specs.Table.{name_of, form_of};
 ghost use Rattle.json_lines.specs.Line.{field, whole, begun, fields_text};
-ghost use Rattle.pickle_json.specs.ItemFields.{number_name, number_fields, integer_fields, payload_fields, double_fields, lowest_first_fields, long_fields, two_fields, form_fields, arg_fields, note_fields, head_fields, rest_fields, item_fields, item_line, opcode_begun, opcode_named, argument_named, digits_named, marks_named, mark_named, memo_named};
+ghost use Rattle.pickle_json.specs.ItemFields.{number_name, number_fields, integer_fields, payload_fields, double_fields, lowest_first_fields, long_fields, names_fields, form_fields, arg_fields, note_fields, head_fields, rest_fields, item_fields, item_line, opcode_begun, opcode_named, argument_named, digits_named, marks_named, mark_named, memo_named};
 
 use crate::note::Note;
 use byteorder::{ByteOrder, LittleEndian};
@@ -119,7 +119,7 @@ fn push_number<P: Page>(number: u64, page: &mut P)
 
 /// Writes the number of an argument, which may be below 0.
 #[tactic(auto, using(crate::proofs::Pieces::roomy_steps), unfolding(crate::specs::ItemFields::integer_fields))]
-fn write_integer<P: Page>(number: i128, page: &mut P) -> Result<(), Failed>
+pub fn write_integer<P: Page>(number: i128, page: &mut P) -> Result<(), Failed>
     ensures text { Writes (P.told page.old) (P.told page.new) result (fields_text (integer_fields number)) }
     ensures room { OnOk result (256 ≤ P.room page.new) }
 {
@@ -158,7 +158,7 @@ fn push_plain<P: Page>(bytes: &[u8], page: &mut P)
 
 /// Writes the bytes of an argument: as text where they are UTF-8, else in hexadecimal.
 #[tactic(auto, using(crate::proofs::Pieces::roomy_steps), unfolding(crate::specs::ItemFields::payload_fields))]
-fn write_any_payload<P: Page>(bytes: &[u8], page: &mut P) -> Result<(), Failed>
+pub fn write_any_payload<P: Page>(bytes: &[u8], page: &mut P) -> Result<(), Failed>
     ensures text { Writes (P.told page.old) (P.told page.new) result (fields_text (payload_fields bytes.now)) }
     ensures room { OnOk result (256 ≤ P.room page.new) }
 {
@@ -191,7 +191,7 @@ fn write_eight<P: Page>(bytes: &[u8], page: &mut P) -> Result<(), Failed>
 
 /// Writes the bytes of a double.
 #[tactic(auto, using(crate::proofs::Pieces::roomy_steps))]
-fn write_double<P: Page>(bytes: &[u8], page: &mut P) -> Result<(), Failed>
+pub fn write_double<P: Page>(bytes: &[u8], page: &mut P) -> Result<(), Failed>
     ensures text { Writes (P.told page.old) (P.told page.new) result (fields_text (double_fields bytes.now)) }
     ensures room { OnOk result (256 ≤ P.room page.new) }
 {
@@ -210,24 +210,23 @@ fn write_lowest_first<P: Page>(bytes: &[u8], page: &mut P) -> Result<(), Failed>
 }
 
 /// Writes a module and a name.
-#[tactic(auto, using(json_lines::proofs::Lines::fields_steps), unfolding(crate::specs::ItemFields::two_fields))]
-fn write_both<P: Page>(op: &OpRef<'_>, page: &mut P) -> Result<(), Failed>
-    requires { form_of op.now.opcode ≡ Form.Two }
-    ensures { Writes (P.told page.old) (P.told page.new) result (fields_text (two_fields op.now.arg)) }
+#[tactic(auto, using(json_lines::proofs::Lines::fields_steps), unfolding(crate::specs::ItemFields::names_fields))]
+pub fn write_names<P: Page>(first: &[u8], second: &[u8], page: &mut P) -> Result<(), Failed>
+    ensures { Writes (P.told page.old) (P.told page.new) result (fields_text (names_fields first.now second.now)) }
 {
-    let (module, name) = op.texts();
-    write_bytes_field("module", "module_hex", module, page)?;
-    write_bytes_field("name", "name_hex", name, page)
+    write_bytes_field("module", "module_hex", first, page)?;
+    write_bytes_field("name", "name_hex", second, page)
 }
 
-/// Writes a module and a name.
+/// Writes the module and the name of an argument.
 #[tactic(auto, using(crate::proofs::Pieces::roomy_steps))]
 fn write_two<P: Page>(op: &OpRef<'_>, page: &mut P) -> Result<(), Failed>
     requires { form_of op.now.opcode ≡ Form.Two }
-    ensures text { Writes (P.told page.old) (P.told page.new) result (fields_text (two_fields op.now.arg)) }
+    ensures text { Writes (P.told page.old) (P.told page.new) result (fields_text (form_fields Form.Two op.now.arg)) }
     ensures room { OnOk result (256 ≤ P.room page.new) }
 {
-    write_both(op, page)?;
+    let (first, second) = op.texts();
+    write_names(first, second, page)?;
     page.make_room()
 }
 
@@ -268,7 +267,7 @@ fn long_of(bytes: &[u8]) -> i128
 
 /// Writes a number in two's complement.
 #[tactic(auto, unfolding(crate::specs::ItemFields::long_fields))]
-fn write_long<P: Page>(bytes: &[u8], page: &mut P) -> Result<(), Failed>
+pub fn write_long<P: Page>(bytes: &[u8], page: &mut P) -> Result<(), Failed>
     ensures text { Writes (P.told page.old) (P.told page.new) result (fields_text (long_fields bytes.now)) }
     ensures room { OnOk result (256 ≤ P.room page.new) }
 {

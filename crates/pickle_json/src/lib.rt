@@ -10,12 +10,14 @@ mod laws;
 mod list;
 mod note;
 mod reach;
+mod shown;
 mod walk;
 
 pub use ends::{
     write_coded, write_how, write_refused_fields, write_stopped_fields, write_tail_fields,
 };
-pub use form::{write_in_form, write_other_form};
+pub use form::{write_in_form, write_other_fields, write_other_form};
+pub use item::{write_any_payload, write_double, write_integer, write_long, write_names};
 pub use laws::{
     codes_are_those_of_texts, end_lines_read_back, form_lines_read_back, item_lines_read_back,
     reach_lines_read_back,
@@ -23,3 +25,4 @@ pub use laws::{
 pub use list::{list_bytes, list_items};
 pub use note::Note;
 pub use reach::{write_nothing_reached, write_reached, write_too_many_ways};
+pub use shown::write_shown;

@@ -10,7 +10,8 @@ use Rattle.pickle_show.specs.Listing.{listing}
 use Rattle.pickle_further.specs.declared.way.Pickles.{Pickles}
 use Rattle.pickle_further.specs.declared.way.Pickles.TheVariants as pickles
 use Rattle.pickle_further.specs.CallsText.{document_calls, kept_calls}
-use Rattle.pickle_further.specs.CallsText as further
+use Rattle.mixes_text.specs.MixText.{mixes_for_people, with_mixes}
+use Rattle.mixes_text.specs.CallsWith.{CutsCalls}
 use Rattle.pickle_show.specs.Manner.{Manner, whole}
 use Rattle.pickle_show.specs.declared.stop.TextStop.TheVariants as cut
 use Rattle.pickle_script.specs.declared.stop.Stop.{Stop}
@@ -27,18 +28,21 @@ nothing_written output many loose bytes a small =
     let some = some_document many loose bytes small in
     (some.0, some.1, ((output some.0).text, WroteAllBut-none a (output some.0).text))
 
-no_calls : (how : Manner) (p : Pickles) (bytes : List ℕ) (a : Told) → AreBytes bytes → further.CutsCallsText how p bytes a a cut.Memory
+no_calls : (how : Manner) (p : Pickles) (bytes : List ℕ) (a : Told) → AreBytes bytes → CutsCalls how p bytes a a cut.Memory
 no_calls how pickles.First bytes a small =
     let some = some_document false false bytes small in
-    let o = document_calls how pickles.First some.0 in
-    (o, (some.0, some.1, refl), (o.text, WroteAllBut-none a o.text))
+    let x = document_calls how pickles.First some.0 in
+    let o = with_mixes mixes_for_people how pickles.First bytes x in
+    (o, (x, (some.0, some.1, refl), refl), (o.text, WroteAllBut-none a o.text))
 no_calls how pickles.All bytes a small =
     let some = some_document true false bytes small in
-    let o = document_calls how pickles.All some.0 in
-    (o, (some.0, some.1, refl), (o.text, WroteAllBut-none a o.text))
+    let x = document_calls how pickles.All some.0 in
+    let o = with_mixes mixes_for_people how pickles.All bytes x in
+    (o, (x, (some.0, some.1, refl), refl), (o.text, WroteAllBut-none a o.text))
 no_calls how pickles.OneMemo bytes a small =
-    let o = kept_calls how bytes in
-    (o, refl, (o.text, WroteAllBut-none a o.text))
+    let x = kept_calls how bytes in
+    let o = with_mixes mixes_for_people how pickles.OneMemo bytes x in
+    (o, (x, refl, refl), (o.text, WroteAllBut-none a o.text))
 
 nothing_left : (t : Text) (many loose : Bool) (bytes : List ℕ) (a : Told) → AreBytes bytes → StopsText t many loose bytes a a stop.TooLarge
 nothing_left text.Listing many loose bytes a small = nothing_written listing many loose bytes a small

@@ -15,7 +15,8 @@ use Rattle.pickle_show.specs.Manner.{Manner, whole}
 use Rattle.pickle_show.specs.declared.stop.TextStop.{TextStop}
 use Rattle.pickle_show.specs.declared.stop.TextStop.TheVariants as cut
 use Rattle.pickle_further.specs.declared.way.Pickles.{Pickles}
-use Rattle.pickle_further.specs.CallsText as further
+use Rattle.pickle_further.specs.CallsText.{CutsText}
+use Rattle.mixes_text.specs.CallsWith.{IsCalls, CompletesCalls, CutsCalls}
 use Rattle.pickle_script.specs.FormText.{form_output}
 use Rattle.pickle_script.specs.GateText.{WroteText}
 use Rattle.pickle_script.specs.ReachText.{IsReachText, StopsReach}
@@ -32,7 +33,7 @@ CompletesText text.Listing many loose bytes old new status = IsListed many loose
 CompletesText text.Objects many loose bytes old new status = IsReported many loose bytes old new status
 CompletesText text.Form many loose bytes old new status = Completes form_output false false bytes old new status
 CompletesText (text.Reach granted) many loose bytes old new status = WroteText (IsReachText granted bytes) old new status
-CompletesText (text.Calls pickles detail) many loose bytes old new status = further.CompletesText (whole detail) pickles bytes old new status
+CompletesText (text.Calls pickles detail) many loose bytes old new status = CompletesCalls (whole detail) pickles bytes old new status
 
 -- ---- not finished
 
@@ -64,9 +65,9 @@ StopsForm bytes old new stop.Memory = CutsForm bytes old new cut.Memory
 -- what it leaves of what is imported and called: as of a listing
 abbrev pub StopsCalls : Manner → Pickles → List ℕ → Told → Told → Stop → Type 0
 StopsCalls how pickles bytes old new stop.Read = ⊥
-StopsCalls how pickles bytes old new stop.Write = further.CutsCallsText how pickles bytes old new cut.Failed
-StopsCalls how pickles bytes old new stop.TooLarge = further.CutsCallsText how pickles bytes old new cut.Memory
-StopsCalls how pickles bytes old new stop.Memory = further.CutsCallsText how pickles bytes old new cut.Memory
+StopsCalls how pickles bytes old new stop.Write = CutsCalls how pickles bytes old new cut.Failed
+StopsCalls how pickles bytes old new stop.TooLarge = CutsCalls how pickles bytes old new cut.Memory
+StopsCalls how pickles bytes old new stop.Memory = CutsCalls how pickles bytes old new cut.Memory
 
 abbrev pub StopsText : Text → Bool → Bool → List ℕ → Told → Told → Stop → Type 0
 StopsText text.Listing many loose bytes old new e = Stops listing many loose bytes old new e
@@ -101,7 +102,7 @@ outside_line h size = codes "refused: " ⧺ hole_text h ⧺ outside_words ⧺ de
 -- the text and the status: those of what is left, with the offsets of the file; or the line of a hole
 abbrev pub IsCallsLeft : Manner → Pickles → List ℕ → Option Hole → Output → Type 0
 IsCallsLeft how pickles bytes (Some h) o = o ≡ record { text = outside_line h (length bytes); status = 1 }
-IsCallsLeft how pickles bytes None o = further.IsCallsText how pickles (without how.holes bytes) o
+IsCallsLeft how pickles bytes None o = IsCalls how pickles (without how.holes bytes) o
 
 abbrev pub IsCallsOfFile : Manner → Pickles → List ℕ → Output → Type 0
 IsCallsOfFile how pickles bytes o = IsCallsLeft how pickles bytes (first_outside (length bytes) how.holes) o
@@ -111,7 +112,7 @@ CompletesFile how pickles bytes old new status = (o : Output) × IsCallsOfFile h
 
 -- a beginning of it was written, and then the sink failed, or memory ran out
 abbrev pub CutsFile : Manner → Pickles → List ℕ → Told → Told → TextStop → Type 0
-CutsFile how pickles bytes old new e = (o : Output) × IsCallsOfFile how pickles bytes o × further.CutsText old new o.text e
+CutsFile how pickles bytes old new e = (o : Output) × IsCallsOfFile how pickles bytes o × CutsText old new o.text e
 
 abbrev pub StopsFile : Manner → Pickles → List ℕ → Told → Told → Stop → Type 0
 StopsFile how pickles bytes old new stop.Read = ⊥

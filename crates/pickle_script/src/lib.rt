@@ -19,5 +19,5 @@ pub use laws::{one_by_one, one_cut, zero_where_passing};
 pub use stop::{Stop, line_of};
 pub use texts::{
     Text, calls_of_file, document_bytes, line_for, list, list_many, objects, objects_many,
-    verdict_status, write_text, write_verdict,
+    verdict_status, words_of, write_text, write_verdict,
 };

@@ -64,7 +64,10 @@ pub use name::{
 pub use naming::{Detail, Naming};
 pub use number::write_right;
 pub use object::{write_all_next, write_objects};
-pub use report::{Closing, report_of_bytes, report_of_items, write_closing, write_document_report};
+pub use report::{
+    Closing, report_of_bytes, report_of_items, status_of, walk_items, write_closing,
+    write_document_report,
+};
 pub use report_line::{write_fault_at, write_fault_text, write_item_refusal, write_refusal};
 pub use show::write_show;
 pub use stack::write_stack;

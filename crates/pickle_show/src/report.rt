@@ -205,7 +205,7 @@ fn walk_part<'a, I: ItemSource<'a>>(
 
 /// Steps a machine that has done nothing over the items that a source gives from the first on, as far as they have moves, and says
 /// how the run ended. `Memory` where there is no memory for a step.
-fn walk_items<'a, I: ItemSource<'a>>(
+pub fn walk_items<'a, I: ItemSource<'a>>(
     alloc: Global,
     many: bool,
     source: I,

@@ -17,12 +17,12 @@ ghost use Rattle.pickle_script.specs.declared.texts.written.Text.TheVariants as 
 ghost use Rattle.json_script.specs.declared.lines.Lines.TheVariants as asked_lines;
 ghost use Rattle.std.specs.Prelude.{◌≡◌, false, None};
 ghost use Rattle.library_answers.specs.Asked.{is_many, is_loose, pickles_left, detail_of, granted_of, holes_of};
-ghost use Rattle.library_answers.specs.Answer.{IsTextOf, IsLinesOf, IsCallsOf, IsCallsLinesOf, IsGateOf, IsMembersOf, IsTalkOf, Fills, FillsIn, FillsOf};
+ghost use Rattle.library_answers.specs.Answer.{IsTextOf, IsLinesOf, IsCallsOf, IsCallsLinesOf, IsGateOf, IsGateLineOf, IsMembersOf, IsAssemblyOf, IsTalkOf, Fills, FillsIn, FillsOf};
 ghost use Rattle.library_answers.specs.Handle.{Opens, Asks, AsksAgain, AsksBytes};
 
 use json_script::Lines;
 use library_answers::{
-    GivenHole, Handle, Written, calls_lines, gate, lines, members, session, talk, texts,
+    GivenHole, Handle, Written, assembled, calls_lines, gate, lines, members, session, talk, texts,
 };
 use pickle_further::Pickles;
 use pickle_script::Text;
@@ -140,6 +140,20 @@ pub extern "C" fn picklestep_gate(
     gate::fill_gate(alloc, list, bytes, out, written)
 }
 
+/// The same as a line of JSON. `written` has status 2 where a line of the list is no entry, and the line of JSON says which.
+#[unsafe(no_mangle)]
+pub extern "C" fn picklestep_gate_json(
+    alloc: Global,
+    list: &[u8],
+    bytes: &[u8],
+    out: &mut [u8],
+    written: &mut Written,
+) -> u8
+    ensures { Fills (IsGateLineOf list.now bytes.now) bytes.now out.old out.new written.new result }
+{
+    gate::fill_gate_line(alloc, list, bytes, out, written)
+}
+
 /// Whether a loader of the bytes reaches something, or by which opcode first, whatever it does with frames. `granted` is the sum of what it was
 /// given besides: 1 extension codes, 2 a `persistent_load`, 4 buffers.
 #[unsafe(no_mangle)]
@@ -180,6 +194,20 @@ pub extern "C" fn picklestep_members(
     ensures { Fills (IsMembersOf bytes.now) bytes.now out.old out.new written.new result }
 {
     members::fill_members(alloc, bytes, out, written)
+}
+
+/// The bytes that a text of opcodes is assembled to. `written` has status 1 where a line gives none: its number and the reason are put there
+/// then.
+#[unsafe(no_mangle)]
+pub extern "C" fn picklestep_assemble(
+    alloc: Global,
+    text: &[u8],
+    out: &mut [u8],
+    written: &mut Written,
+) -> u8
+    ensures { Fills (IsAssemblyOf text.now) text.now out.old out.new written.new result }
+{
+    assembled::fill_assembled(alloc, text, out, written)
 }
 
 /// The answers of a conversation: those to all lines of a script, in a session of a pickle, or where `many` holds of several. `written` has
@@ -240,6 +268,20 @@ pub extern "C" fn picklestep_objects_with(
     ensures { FillsIn options (IsTextOf asked_text.Objects (is_many options) (is_loose options) bytes.now) bytes.now out.old out.new written.new result }
 {
     texts::fill_in(alloc, Text::Objects, options, bytes, out, written)
+}
+
+/// The same report as JSON Lines.
+#[unsafe(no_mangle)]
+pub extern "C" fn picklestep_objects_json(
+    alloc: Global,
+    options: u32,
+    bytes: &[u8],
+    out: &mut [u8],
+    written: &mut Written,
+) -> u8
+    ensures { FillsIn options (IsLinesOf asked_lines.Objects (is_many options) (is_loose options) bytes.now) bytes.now out.old out.new written.new result }
+{
+    lines::fill_lines_in(alloc, Lines::Objects, options, bytes, out, written)
 }
 
 /// What is imported and called by what is left of an input without holes, as the options ask for it. The offsets are those in the input. Each

@@ -25,18 +25,22 @@ use Rattle.json_script.specs.Answer.{StopsLines, AnswersLines}
 use Rattle.json_script.specs.declared.lines.Lines.{Lines}
 use Rattle.json_script.specs.declared.lines.Lines.TheVariants as lines
 use Rattle.archive_gate.specs.File.{PassesFile}
-use Rattle.archive_script.specs.GateText.{IsGateText, IsNamedText, Says, AnswersGate}
+use Rattle.archive_script.specs.SingleText.{Says}
+use Rattle.archive_script.specs.GateText.{AnswersWith}
 use Rattle.archive_script.proofs.GateLaws.{zero_means_passing, zero_where_file_passes}
+use Rattle.gate_json.proofs.Passing.{line_passes, named_line_passes}
 use Rattle.archive_script.specs.MembersText.{IsMembersText, AnswersMembers}
 use Rattle.assembler_script.specs.AssemblyText.{IsAssemblyText, AnswersAssembly}
 use Rattle.pickle_session.specs.Allowed.{SessionState}
 use Rattle.pickle_script.specs.Conversation.{AppendsBeyond, BrokeBeyond, BrokeSince, StopsReading, StopsWriting}
 use Rattle.program_answers.specs.Talk.{StopsAtDevice, Cuts, IsUnopened}
 use Rattle.program_answers.specs.declared.task.CallsOptions.{CallsOptions}
+use Rattle.program_answers.specs.declared.task.Format.{Format}
+use Rattle.program_answers.specs.declared.task.Format.TheVariants as format
 use Rattle.program_answers.specs.Files.{Gives, Reports, IsRead}
 use Rattle.program_answers.specs.Skips.{StandFor}
 use Rattle.program_answers.specs.Program.{AnswersWords, Answers}
-use Rattle.program_answers.specs.Gated.{PassesText, TookGate, TookNamed}
+use Rattle.program_answers.specs.Gated.{PassesText, IsGateAnswer, IsNamedAnswer, TookGate, TookNamed}
 use Rattle.program_answers.specs.Listed.{TookMembers}
 use Rattle.program_answers.specs.Assembled.{TookAssembly}
 use Rattle.program_answers.specs.Device.{Took, TookText, NoneWithoutMemory, comes_last, lines_come_last, nothing, IsTextOf, IsLinesOf, is_calls_text, is_calls_lines, AnswersInput}
@@ -96,18 +100,23 @@ said_calls_lines told how pickles bytes old new (Err stop.TooLarge) few p = too_
 said_lines : {S : Type 0} (told : S → Told) (l : Lines) (many loose : Bool) (bytes : List ℕ) (old new : S) (answer : Result ℕ Stop) → length bytes ≤ size_limit
     → AnswersLines l many loose bytes told old new answer → TookText (IsLinesOf l many loose bytes) (told old) (told new) answer
 said_lines told lines.Listing many loose bytes old new (Ok status) few p = let w = p.whole in inl (json.listing w.0, (w.0, w.1, refl), w.2)
+said_lines told lines.Objects many loose bytes old new (Ok status) few p = let w = p.whole in inl (w.0, w.1, (w.2, w.3))
 said_lines told lines.Form many loose bytes old new (Ok status) few p = let w = p.whole in inl (w.0, w.1, (w.2, w.3))
 said_lines told (lines.Reach granted) many loose bytes old new (Ok status) few p = let w = p.whole in inl (w.0, w.1, (w.2, w.3))
 said_lines told lines.Listing many loose bytes old new (Err stop.Write) few p = let w = p.stopped in inl (json.listing w.0, (w.0, w.1, refl), w.2)
+said_lines told lines.Objects many loose bytes old new (Err stop.Write) few p = inl p.stopped
 said_lines told lines.Form many loose bytes old new (Err stop.Write) few p = inl p.stopped
 said_lines told (lines.Reach granted) many loose bytes old new (Err stop.Write) few p = inl p.stopped
 said_lines told lines.Listing many loose bytes old new (Err stop.Memory) few p = let w = p.stopped in inl (json.listing w.0, (w.0, w.1, refl), w.2)
+said_lines told lines.Objects many loose bytes old new (Err stop.Memory) few p = inr (refl, wrote_nothing (told old) (told new) p.stopped)
 said_lines told lines.Form many loose bytes old new (Err stop.Memory) few p = inr (refl, wrote_nothing (told old) (told new) p.stopped)
 said_lines told (lines.Reach granted) many loose bytes old new (Err stop.Memory) few p = inr (refl, wrote_nothing (told old) (told new) p.stopped)
 said_lines told lines.Listing many loose bytes old new (Err stop.Read) few p = absurd p.stopped
+said_lines told lines.Objects many loose bytes old new (Err stop.Read) few p = absurd p.stopped
 said_lines told lines.Form many loose bytes old new (Err stop.Read) few p = absurd p.stopped
 said_lines told (lines.Reach granted) many loose bytes old new (Err stop.Read) few p = absurd p.stopped
 said_lines told lines.Listing many loose bytes old new (Err stop.TooLarge) few p = too_large bytes few (p.too_large.0 refl)
+said_lines told lines.Objects many loose bytes old new (Err stop.TooLarge) few p = too_large bytes few (p.too_large.0 refl)
 said_lines told lines.Form many loose bytes old new (Err stop.TooLarge) few p = too_large bytes few (p.too_large.0 refl)
 said_lines told (lines.Reach granted) many loose bytes old new (Err stop.TooLarge) few p = too_large bytes few (p.too_large.0 refl)
 
@@ -118,13 +127,13 @@ said Is old new (Err stop.Memory) p = inr (refl, wrote_nothing old new p.stopped
 said Is old new (Err stop.Read) p = absurd p.stopped
 said Is old new (Err stop.TooLarge) p = absurd (p.fits refl)
 
-said_gate : {S : Type 0} (told : S → Told) (list bytes : List ℕ) (old new : S) (answer : Result ℕ Stop) → length bytes ≤ size_limit
-    → AnswersGate list bytes told old new answer → TookText (IsGateText list bytes) (told old) (told new) answer
-said_gate told list bytes old new (Ok status) few p = let w = p.whole in inl (w.0, w.1, (w.2, w.3))
-said_gate told list bytes old new (Err stop.Write) few p = inl p.stopped
-said_gate told list bytes old new (Err stop.Memory) few p = inr (refl, wrote_nothing (told old) (told new) p.stopped)
-said_gate told list bytes old new (Err stop.Read) few p = absurd p.stopped
-said_gate told list bytes old new (Err stop.TooLarge) few p = too_large bytes few (p.too_large.0 refl)
+said_with : {S : Type 0} (told : S → Told) (Is : Output → Type 0) (bytes : List ℕ) (old new : S) (answer : Result ℕ Stop) → length bytes ≤ size_limit
+    → AnswersWith Is bytes told old new answer → TookText Is (told old) (told new) answer
+said_with told Is bytes old new (Ok status) few p = let w = p.whole in inl (w.0, w.1, (w.2, w.3))
+said_with told Is bytes old new (Err stop.Write) few p = inl p.stopped
+said_with told Is bytes old new (Err stop.Memory) few p = inr (refl, wrote_nothing (told old) (told new) p.stopped)
+said_with told Is bytes old new (Err stop.Read) few p = absurd p.stopped
+said_with told Is bytes old new (Err stop.TooLarge) few p = too_large bytes few (p.too_large.0 refl)
 
 said_members : {S : Type 0} (told : S → Told) (bytes : List ℕ) (old new : S) (answer : Result ℕ Stop) → AnswersMembers bytes told old new answer
     → TookText (IsMembersText bytes) (told old) (told new) answer
@@ -294,6 +303,8 @@ unwritten told (text.Calls pickles detail) many loose bytes old mid answer p las
 lines_unwritten : {S : Type 0} (told : S → Told) (l : Lines) (many loose : Bool) (bytes : List ℕ) (old mid : S) (answer : Result ℕ Stop)
     → AnswersLines l many loose bytes told old mid answer → lines_come_last l ≡ true → answer ≡ Err stop.Memory → told mid ≡ told old
 lines_unwritten told lines.Listing many loose bytes old mid answer p last memory = absurd cc
+lines_unwritten told lines.Objects many loose bytes old mid answer p last memory =
+    subst (λ (r : Result ℕ Stop). IfErr r (StopsLines lines.Objects many loose bytes (told old) (told mid))) memory p.stopped
 lines_unwritten told lines.Form many loose bytes old mid answer p last memory =
     subst (λ (r : Result ℕ Stop). IfErr r (StopsLines lines.Form many loose bytes (told old) (told mid))) memory p.stopped
 lines_unwritten told (lines.Reach granted) many loose bytes old mid answer p last memory =
@@ -354,21 +365,26 @@ zero_took P Is old new (Ok status) law (inl w) zero =
 zero_took P Is old new (Ok status) law (inr w) zero = let bad : false ≡ true = w.0 in absurd cc
 zero_took P Is old new (Err e) law w zero = absurd cc
 
--- the text of the gate
-pub gate_took : {S : Type 0} (told : S → Told) (list bytes : List ℕ) (old mid new : S) (d e : Told) (first held : List ℕ) (answer result : Result ℕ Stop)
-    → AreBytes bytes → length bytes ≤ size_limit → AnswersGate list bytes told old mid answer
+-- the status is 0 only where a file passes, whatever what is said is written as
+gate_zero : (f : Format) (list bytes : List ℕ) (o : Output) → AreBytes bytes → length bytes ≤ size_limit → IsGateAnswer f list bytes o → o.status ≡ 0 → PassesText list bytes
+gate_zero format.Text list bytes o small few is zero = zero_means_passing list bytes o small few is zero
+gate_zero format.Json list bytes o small few is zero = line_passes list bytes o small few is zero
+
+-- what the gate says
+pub gate_took : {S : Type 0} (told : S → Told) (f : Format) (list bytes : List ℕ) (old mid new : S) (d e : Told) (first held : List ℕ) (answer result : Result ℕ Stop)
+    → AreBytes bytes → length bytes ≤ size_limit → AnswersWith (IsGateAnswer f list bytes) bytes told old mid answer
     → (result ≢ Err stop.Write → result ≡ answer) → (result ≢ Err stop.Write → Wrote (told mid) (told new) []) → (answer ≡ Err stop.Write → new ≡ mid)
     → (result ≡ Err stop.Write → answer ≢ Err stop.Write → Broke (told mid) (told new) [])
     → told old ≡ holding d first → told new ≡ holding e held → (holding d first).held ≡ 0 → (result ≢ Err stop.Write → (holding e held).held ≡ 0)
-    → TookGate list bytes d e result
-gate_took told list bytes old mid new d e first held answer result small few w passed calm untouched failed before after none all =
-    let t = took_last told (IsGateText list bytes) old mid new d e first held answer result (said_gate told list bytes old mid answer few w)
-    (λ m. subst (λ (r : Result ℕ Stop). IfErr r (StopsGate (IsGateText list bytes) (told old) (told mid))) m w.stopped)
+    → TookGate f list bytes d e result
+gate_took told f list bytes old mid new d e first held answer result small few w passed calm untouched failed before after none all =
+    let t = took_last told (IsGateAnswer f list bytes) old mid new d e first held answer result (said_with told (IsGateAnswer f list bytes) bytes old mid answer few w)
+    (λ m. subst (λ (r : Result ℕ Stop). IfErr r (StopsGate (IsGateAnswer f list bytes) (told old) (told mid))) m w.stopped)
     passed calm untouched failed before after none all in
     record {
       took = t.0;
       last = t.1;
-      passes = zero_took (PassesText list bytes) (IsGateText list bytes) d e result (λ o is zero. zero_means_passing list bytes o small few is zero) t.0;
+      passes = zero_took (PassesText list bytes) (IsGateAnswer f list bytes) d e result (λ o is zero. gate_zero f list bytes o small few is zero) t.0;
     }
 
 -- what is said once all is judged
@@ -381,17 +397,19 @@ says_took Is old mid new d e first held answer result w =
     took_last (λ (x : Told). x) Is old mid new d e first held answer result (said Is old mid answer w)
     (λ m. subst (λ (r : Result ℕ Stop). IfErr r (StopsGate Is old mid)) m w.stopped)
 
-named_zero : (list : List Entry) (name bytes : List ℕ) (o : Output) → AreBytes bytes → length bytes ≤ size_limit → IsNamedText name list bytes o → o.status ≡ 0 → PassesFile list bytes
-named_zero list name bytes o small few is zero =
+named_zero : (f : Format) (list : List Entry) (name bytes : List ℕ) (o : Output) → AreBytes bytes → length bytes ≤ size_limit → IsNamedAnswer f name list bytes o → o.status ≡ 0
+    → PassesFile list bytes
+named_zero format.Text list name bytes o small few is zero =
     (zero_where_file_passes list bytes is.0 small few is.1).passes (sym (ap (λ (x : Output). x.status) is.2) ∙ zero)
+named_zero format.Json list name bytes o small few is zero = named_line_passes list name bytes o small few is zero
 
--- the status of a file whose name stands in front is 0 only where it passes
-pub named_took : (list : List Entry) (name bytes : List ℕ) (d e : Told) (result : Result ℕ Stop) → AreBytes bytes → length bytes ≤ size_limit
-    → TookText (IsNamedText name list bytes) d e result × NoneWithoutMemory d e result → TookNamed list name bytes d e result
-named_took list name bytes d e result small few t = record {
+-- the status of a file with its name is 0 only where it passes
+pub named_took : (f : Format) (list : List Entry) (name bytes : List ℕ) (d e : Told) (result : Result ℕ Stop) → AreBytes bytes → length bytes ≤ size_limit
+    → TookText (IsNamedAnswer f name list bytes) d e result × NoneWithoutMemory d e result → TookNamed f list name bytes d e result
+named_took f list name bytes d e result small few t = record {
   took = t.0;
   last = t.1;
-  passes = zero_took (PassesFile list bytes) (IsNamedText name list bytes) d e result (λ o is zero. named_zero list name bytes o small few is zero) t.0;
+  passes = zero_took (PassesFile list bytes) (IsNamedAnswer f name list bytes) d e result (λ o is zero. named_zero f list name bytes o small few is zero) t.0;
 }
 
 -- the text of the members

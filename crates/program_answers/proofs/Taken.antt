@@ -388,7 +388,12 @@ ours name = (
     list = no_gate (codes "list") refl;
   }),
   (
-    (λ t called. record { command = inr (inl refl); suits = (file_suits, (many_suits, (unframed_suits, (help_suits, tt)))); file = λ rows e. (both _ _ e).0; list = no_gate (codes "objects") refl }),
+    (λ t called. record {
+      command = inr (inl refl);
+      suits = (file_suits, (many_suits, (unframed_suits, (json_suits, (help_suits, tt)))));
+      file = λ rows e. (both _ _ e).0;
+      list = no_gate (codes "objects") refl;
+    }),
     (
       (λ t called. record {
         command = inr (inr (inl refl));
@@ -413,7 +418,7 @@ ours name = (
           (
             (λ t called. record {
               command = inr (inr (inr (inr (inr (inl refl)))));
-              suits = (list_suits, (last_suits, (help_suits, tt)));
+              suits = (list_suits, (last_suits, (json_suits, (help_suits, tt))));
               file = λ rows e. (both _ _ (both _ _ e).1).0;
               list = λ is rows e. (both _ _ e).0;
             }),

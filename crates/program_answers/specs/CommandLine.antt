@@ -83,8 +83,9 @@ on_file name = with_rule (with_rule (new_app name) file_rule) many_rule
 abbrev pub frames_app : Text → App
 frames_app name = with_rule (on_file name) unframed_rule
 
-abbrev pub list_app : App
-list_app = with_rule (frames_app (codes "list")) json_rule
+-- and whose answer may be JSON
+abbrev pub json_app : Text → App
+json_app name = with_rule (frames_app name) json_rule
 
 abbrev pub detailed_app : App
 detailed_app = with_rule (with_rule (with_rule (with_rule (on_file (codes "calls")) first_rule) memo_rule) full_rule) skip_rule
@@ -98,8 +99,11 @@ debug_app = with_rule (with_rule (frames_app (codes "debug")) window_rule) save_
 abbrev pub form_app : App
 form_app = with_rule (on_file (codes "form")) json_rule
 
+abbrev pub listed_app : App
+listed_app = with_rule (with_rule (new_app (codes "gate")) list_rule) files_rule
+
 abbrev pub gate_app : App
-gate_app = with_rule (with_rule (new_app (codes "gate")) list_rule) files_rule
+gate_app = with_rule listed_app json_rule
 
 abbrev pub extensions_rule : Rule
 extensions_rule = record (new_rule (codes "extensions")) { long = Some (codes "extensions"); action = Some SetTrue }
@@ -128,7 +132,7 @@ wants_subcommand a = record a { top = record a.top { subcommand_required = true 
 abbrev pub program : App
 program =
     with_subcommand (with_subcommand (with_subcommand (with_subcommand (with_subcommand (with_subcommand (with_subcommand (with_subcommand (with_subcommand (wants_subcommand
-    (new_app (codes "picklestep"))) list_app.top) (frames_app (codes "objects")).top) calls_app.top) debug_app.top)
+    (new_app (codes "picklestep"))) (json_app (codes "list")).top) (json_app (codes "objects")).top) calls_app.top) debug_app.top)
     form_app.top) gate_app.top) reach_app.top) members_app.top) assemble_app.top
 
 -- ---- the task that matches name
@@ -212,6 +216,7 @@ more_of rows = drop 1 (unwrap_or (all_of (codes "FILE") rows) [])
 pub record HasGateOptions (rows : List Row) (options : GateOptions) : Type 0 where
   pub list_is : HasList rows (string_bytes options.list)
   pub more_is : map string_bytes options.more.items ≡ more_of rows
+  pub format_is : HasFormat rows options.format
 
 -- an option without a value is among them, or not
 abbrev pub HasFlag : List Row → Text → Bool → Type 0
@@ -229,7 +234,7 @@ pub record HasOptions (rows : List Row) (options : Options) : Type 0 where
 
 abbrev pub IsNamed : Matches → Task → Type 0
 IsNamed matches (task.List input f) = (u : IsUsed (codes "list") matches input) × HasFormat u.rows f
-IsNamed matches (task.Objects input) = IsUsed (codes "objects") matches input
+IsNamed matches (task.Objects input f) = (u : IsUsed (codes "objects") matches input) × HasFormat u.rows f
 IsNamed matches (task.Calls input options) = (u : IsUsed (codes "calls") matches input) × HasCallsOptions u.rows options
 IsNamed matches (task.Form input f) = (u : IsUsed (codes "form") matches input) × HasFormat u.rows f
 IsNamed matches (task.Gate input options) = (u : IsUsed (codes "gate") matches input) × HasGateOptions u.rows options
@@ -276,7 +281,7 @@ pub record NamesTask (matches : Matches) : Type 0 where
 -- a number of step records is within the bounds
 abbrev pub IsBounded : Task → Type 0
 IsBounded (task.List input f) = ⊤
-IsBounded (task.Objects input) = ⊤
+IsBounded (task.Objects input f) = ⊤
 IsBounded (task.Calls input options) = ⊤
 IsBounded (task.Form input f) = ⊤
 IsBounded (task.Gate input options) = ⊤

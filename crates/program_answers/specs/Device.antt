@@ -11,12 +11,13 @@ use Rattle.pickle_show.specs.Output.{Output}
 use Rattle.pickle_show.specs.Listing.{listing}
 use Rattle.pickle_show.specs.Report.{IsReport}
 use Rattle.pickle_json.specs.Listing as json
+use Rattle.objects_json.specs.Objects.{IsObjects}
 use Rattle.json_script.specs.CallsLines.{IsLinesOfFile}
 use Rattle.json_script.specs.FormLine.{IsFormLine}
 use Rattle.json_script.specs.ReachLine.{IsReachLine}
 use Rattle.json_script.specs.declared.lines.Lines.{Lines}
 use Rattle.json_script.specs.declared.lines.Lines.TheVariants as lines
-use Rattle.pickle_further.specs.CallsText.{IsCallsText}
+use Rattle.mixes_text.specs.CallsWith.{IsCalls}
 use Rattle.pickle_script.specs.declared.stop.Stop.{Stop}
 use Rattle.pickle_script.specs.declared.stop.Stop.TheVariants as stop
 use Rattle.pickle_script.specs.declared.texts.written.Text.{Text}
@@ -67,6 +68,7 @@ comes_last _ = false
 -- whether lines of JSON are
 abbrev pub lines_come_last : Lines → Bool
 lines_come_last lines.Listing = false
+lines_come_last lines.Objects = true
 lines_come_last lines.Form = true
 lines_come_last (lines.Reach granted) = true
 
@@ -83,12 +85,13 @@ IsTextOf text.Listing many loose bytes o = (d : Contents) × ReadsIn many loose 
 IsTextOf text.Form many loose bytes o = (d : Contents) × ReadsAs false bytes d × (o ≡ form_output d)
 IsTextOf text.Objects many loose bytes o = (d : Contents) × ReadsIn many loose bytes d × IsReport d o.text o.status
 IsTextOf (text.Reach granted) many loose bytes o = IsReachText granted bytes o
-IsTextOf (text.Calls pickles detail) many loose bytes o = IsCallsText (whole detail) pickles bytes o
+IsTextOf (text.Calls pickles detail) many loose bytes o = IsCalls (whole detail) pickles bytes o
 
--- these are the lines of JSON of bytes: the listing of the document that they read as, whether the one pickle that they are is in the form that
--- picklers write, or whether a loader of them reaches something
+-- these are the lines of JSON of bytes: the listing of the document that they read as, the objects that it makes, whether the one pickle that
+-- they are is in the form that picklers write, or whether a loader of them reaches something
 abbrev pub IsLinesOf : Lines → Bool → Bool → List ℕ → Output → Type 0
 IsLinesOf lines.Listing many loose bytes o = (d : Contents) × ReadsIn many loose bytes d × (o ≡ json.listing d)
+IsLinesOf lines.Objects many loose bytes o = IsObjects many loose bytes o
 IsLinesOf lines.Form many loose bytes o = IsFormLine bytes o
 IsLinesOf (lines.Reach granted) many loose bytes o = IsReachLine granted bytes o
 
@@ -119,7 +122,7 @@ AnswersInput Is source source' old new result = WasNotRead source source' old ne
 -- the file that a task is done on
 abbrev pub input_of : Task → GivenFile
 input_of (task.List input f) = input
-input_of (task.Objects input) = input
+input_of (task.Objects input f) = input
 input_of (task.Calls input options) = input
 input_of (task.Form input f) = input
 input_of (task.Gate input options) = input
@@ -155,8 +158,8 @@ asks_for_text _ = true
 abbrev pub AnswersTask : Task → Gives → Gives → Told → Told → Result ℕ Stop → Type 0
 AnswersTask (task.List input f) source source' old new result =
     AnswersInput (is_said f text.Listing lines.Listing input.many input.unframed) source source' old new result
-AnswersTask (task.Objects input) source source' old new result =
-    AnswersInput (IsTextOf text.Objects input.many input.unframed) source source' old new result × NoneWithoutMemory old new result
+AnswersTask (task.Objects input f) source source' old new result =
+    AnswersInput (is_said f text.Objects lines.Objects input.many input.unframed) source source' old new result × NoneWithoutMemory old new result
 AnswersTask (task.Calls input options) source source' old new result = AnswersInput (is_calls options) source source' old new result
 AnswersTask (task.Form input f) source source' old new result =
     AnswersInput (is_said f text.Form lines.Form false false) source source' old new result × NoneWithoutMemory old new result

@@ -8,11 +8,15 @@ use Rattle.pickle_allow.specs.declared.listing.Listing.{Listing}
 use Rattle.pickle_allow.specs.declared.listing.Listing.TheVariants as listing
 use Rattle.pickle_allow.specs.Grammar.{IsListing}
 use Rattle.archive_gate.specs.File.{PassesFile}
+use Rattle.pickle_show.specs.Output.{Output}
 use Rattle.archive_script.specs.GateText.{IsGateText, IsNamedText, IsNoList, PassesListed}
+use Rattle.gate_json.specs.GateLine.{IsGateLine, IsNamedLine, IsNoListJson}
 use Rattle.pickle_script.specs.declared.stop.Stop.{Stop}
 use Rattle.pickle_script.specs.declared.stop.Stop.TheVariants as stop
 use Rattle.program_answers.specs.declared.task.GivenFile.{GivenFile}
 use Rattle.program_answers.specs.declared.task.GateOptions.{GateOptions}
+use Rattle.program_answers.specs.declared.task.Format.{Format}
+use Rattle.program_answers.specs.declared.task.Format.TheVariants as format
 use Rattle.program_answers.specs.Device.{TookText, NoneWithoutMemory}
 use Rattle.program_answers.specs.Files.{Reports, IsRead, IsUnread}
 
@@ -26,32 +30,42 @@ IsMissing path r files old new result = IsErrAnd result (IsUnread r files path) 
 abbrev pub PassesText : List ℕ → List ℕ → Type 0
 PassesText text bytes = (list : Listing) × IsListing text list × PassesListed list bytes
 
--- the device took so of the text of the gate, of this list and these bytes. The status is 0 only where they pass
-pub record TookGate (list bytes : List ℕ) (old new : Told) (result : Result ℕ Stop) : Type 0 where
-  pub took : TookText (IsGateText list bytes) old new result
+-- what is said, as a text for people or as a line for programs
+abbrev pub IsGateAnswer : Format → List ℕ → List ℕ → Output → Type 0
+IsGateAnswer format.Text list bytes o = IsGateText list bytes o
+IsGateAnswer format.Json list bytes o = IsGateLine list bytes o
+
+-- the device took so of what the gate says, of this list and these bytes. The status is 0 only where they pass
+pub record TookGate (f : Format) (list bytes : List ℕ) (old new : Told) (result : Result ℕ Stop) : Type 0 where
+  pub took : TookText (IsGateAnswer f list bytes) old new result
   pub last : NoneWithoutMemory old new result
   pub passes : result ≡ Ok 0 → PassesText list bytes
 
 -- all bytes of both files were read, of the list first, and the gate was asked about them; or one of them was not read
-abbrev pub GatesFile : GivenFile → List ℕ → {F O : Type 0} → Reports F O → F → Told → Told → Result ℕ Stop → Type 0
-GatesFile input path r files old new result =
+abbrev pub GatesFile : Format → GivenFile → List ℕ → {F O : Type 0} → Reports F O → F → Told → Told → Result ℕ Stop → Type 0
+GatesFile f input path r files old new result =
     IsMissing path r files old new result
     ⊎ ((list : List ℕ) × IsRead (r.bytes_of files path) list
     × (IsMissing (string_bytes input.file) r files old new result
-    ⊎ ((bytes : List ℕ) × IsRead (r.bytes_of files (string_bytes input.file)) bytes × TookGate list bytes old new result)))
+    ⊎ ((bytes : List ℕ) × IsRead (r.bytes_of files (string_bytes input.file)) bytes × TookGate f list bytes old new result)))
 
 -- ---- several files
 
--- the device took so of what is said of these bytes by the entries of a list, with the name of their file in front
-pub record TookNamed (list : List Entry) (name bytes : List ℕ) (old new : Told) (result : Result ℕ Stop) : Type 0 where
-  pub took : TookText (IsNamedText name list bytes) old new result
+-- what is said of a file by the entries of a list, with its name
+abbrev pub IsNamedAnswer : Format → List ℕ → List Entry → List ℕ → Output → Type 0
+IsNamedAnswer format.Text name list bytes o = IsNamedText name list bytes o
+IsNamedAnswer format.Json name list bytes o = IsNamedLine name list bytes o
+
+-- the device took so of what is said of these bytes by the entries of a list, with the name of their file
+pub record TookNamed (f : Format) (list : List Entry) (name bytes : List ℕ) (old new : Told) (result : Result ℕ Stop) : Type 0 where
+  pub took : TookText (IsNamedAnswer f name list bytes) old new result
   pub last : NoneWithoutMemory old new result
   pub passes : result ≡ Ok 0 → PassesFile list bytes
 
 -- all bytes of the file of this name were read, and it was told of; or it was not read
-abbrev pub GatesNamed : List Entry → List ℕ → {F O : Type 0} → Reports F O → F → Told → Told → Result ℕ Stop → Type 0
-GatesNamed list name r files old new result =
-    IsMissing name r files old new result ⊎ ((bytes : List ℕ) × IsRead (r.bytes_of files name) bytes × TookNamed list name bytes old new result)
+abbrev pub GatesNamed : Format → List Entry → List ℕ → {F O : Type 0} → Reports F O → F → Told → Told → Result ℕ Stop → Type 0
+GatesNamed f list name r files old new result =
+    IsMissing name r files old new result ⊎ ((bytes : List ℕ) × IsRead (r.bytes_of files name) bytes × TookNamed f list name bytes old new result)
 
 -- the status of a file and of those behind it: the first that is not 0
 abbrev pub first_other : ℕ → ℕ → ℕ
@@ -72,33 +86,38 @@ pub record Follows (One Others : Told → Told → Result ℕ Stop → Type 0) (
   pub result_is : result ≡ joined status rest
 
 -- each file was told of in order, up to the first at which the gate stopped
-abbrev pub GatesEach : List Entry → List (List ℕ) → {F O : Type 0} → Reports F O → F → Told → Told → Result ℕ Stop → Type 0
-GatesEach list [] r files old new result = (new ≡ old) × (result ≡ Ok 0)
-GatesEach list (name ∷ more) r files old new result =
-    (IsErr result × GatesNamed list name r files old new result)
-    ⊎ Follows (GatesNamed list name r files) (GatesEach list more r files) old new result
+abbrev pub GatesEach : Format → List Entry → List (List ℕ) → {F O : Type 0} → Reports F O → F → Told → Told → Result ℕ Stop → Type 0
+GatesEach f list [] r files old new result = (new ≡ old) × (result ≡ Ok 0)
+GatesEach f list (name ∷ more) r files old new result =
+    (IsErr result × GatesNamed f list name r files old new result)
+    ⊎ Follows (GatesNamed f list name r files) (GatesEach f list more r files) old new result
+
+-- a line of a list is no entry
+abbrev pub IsNoListAnswer : Format → ℕ → Output → Type 0
+IsNoListAnswer format.Text n o = IsNoList n o
+IsNoListAnswer format.Json n o = IsNoListJson n o
 
 -- by the entries of a list; or a line of it is no entry
-abbrev pub GatesListed : Listing → List (List ℕ) → {F O : Type 0} → Reports F O → F → Told → Told → Result ℕ Stop → Type 0
-GatesListed (listing.Entries list) names r files old new result = GatesEach list.items names r files old new result
-GatesListed (listing.Wrong n) names r files old new result = TookText (IsNoList n) old new result × NoneWithoutMemory old new result
+abbrev pub GatesListed : Format → Listing → List (List ℕ) → {F O : Type 0} → Reports F O → F → Told → Told → Result ℕ Stop → Type 0
+GatesListed f (listing.Entries list) names r files old new result = GatesEach f list.items names r files old new result
+GatesListed f (listing.Wrong n) names r files old new result = TookText (IsNoListAnswer f n) old new result × NoneWithoutMemory old new result
 
 -- by the text of a list; or there was no memory for its entries
-abbrev pub GatesText : List ℕ → List (List ℕ) → {F O : Type 0} → Reports F O → F → Told → Told → Result ℕ Stop → Type 0
-GatesText text names r files old new result =
-    ((result ≡ Err stop.Memory) × (new ≡ old)) ⊎ ((list : Listing) × IsListing text list × GatesListed list names r files old new result)
+abbrev pub GatesText : Format → List ℕ → List (List ℕ) → {F O : Type 0} → Reports F O → F → Told → Told → Result ℕ Stop → Type 0
+GatesText f text names r files old new result =
+    ((result ≡ Err stop.Memory) × (new ≡ old)) ⊎ ((list : Listing) × IsListing text list × GatesListed f list names r files old new result)
 
 -- all bytes of the list were read first; or it was not read
-abbrev pub GatesSeveral : List (List ℕ) → List ℕ → {F O : Type 0} → Reports F O → F → Told → Told → Result ℕ Stop → Type 0
-GatesSeveral names path r files old new result =
-    IsMissing path r files old new result ⊎ ((text : List ℕ) × IsRead (r.bytes_of files path) text × GatesText text names r files old new result)
+abbrev pub GatesSeveral : Format → List (List ℕ) → List ℕ → {F O : Type 0} → Reports F O → F → Told → Told → Result ℕ Stop → Type 0
+GatesSeveral f names path r files old new result =
+    IsMissing path r files old new result ⊎ ((text : List ℕ) × IsRead (r.bytes_of files path) text × GatesText f text names r files old new result)
 
 -- ---- the task
 
 -- of one file the line is its own, and of several each has its name
-abbrev pub GatesFiles : GivenFile → List (List ℕ) → List ℕ → {F O : Type 0} → Reports F O → F → Told → Told → Result ℕ Stop → Type 0
-GatesFiles input [] path r files old new result = GatesFile input path r files old new result
-GatesFiles input (name ∷ more) path r files old new result = GatesSeveral (string_bytes input.file ∷ name ∷ more) path r files old new result
+abbrev pub GatesFiles : Format → GivenFile → List (List ℕ) → List ℕ → {F O : Type 0} → Reports F O → F → Told → Told → Result ℕ Stop → Type 0
+GatesFiles f input [] path r files old new result = GatesFile f input path r files old new result
+GatesFiles f input (name ∷ more) path r files old new result = GatesSeveral f (string_bytes input.file ∷ name ∷ more) path r files old new result
 
 -- the file of this name was read, and passes by a list
 abbrev pub HasPassed : Listing → {F O : Type 0} → Reports F O → F → List ℕ → Type 0
@@ -118,5 +137,5 @@ pub record AllPass {F O : Type 0} (r : Reports F O) (files : F) (path : List ℕ
 
 -- the files are told of, and the status is 0 only where each passes
 pub record GatesTask (input : GivenFile) (options : GateOptions) {F O : Type 0} (r : Reports F O) (files : F) (old new : Told) (result : Result ℕ Stop) : Type 0 where
-  pub tells : GatesFiles input (map string_bytes options.more.items) (string_bytes options.list) r files old new result
+  pub tells : GatesFiles options.format input (map string_bytes options.more.items) (string_bytes options.list) r files old new result
   pub is_zero : result ≡ Ok 0 → AllPass r files (string_bytes options.list) (string_bytes input.file ∷ map string_bytes options.more.items)

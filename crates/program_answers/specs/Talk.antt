@@ -129,7 +129,8 @@ pub record WritesText (t : Task) {F O : Type 0} (r : Reports F O) (files files' 
 abbrev pub CarriesOut : Task → {F O : Type 0} → Reports F O → F → F → Gives → Gives → Told → Told → Result ℕ Stop → Type 0
 CarriesOut (task.List input f) r files files' source source' old new result =
     WritesText (task.List input f) r files files' source source' old new result
-CarriesOut (task.Objects input) r files files' source source' old new result = WritesText (task.Objects input) r files files' source source' old new result
+CarriesOut (task.Objects input f) r files files' source source' old new result =
+    WritesText (task.Objects input f) r files files' source source' old new result
 CarriesOut (task.Calls input pickles) r files files' source source' old new result =
     WritesText (task.Calls input pickles) r files files' source source' old new result
 CarriesOut (task.Form input f) r files files' source source' old new result = WritesText (task.Form input f) r files files' source source' old new result

@@ -143,7 +143,7 @@ fn input_of(task: &Task) -> &GivenFile
 {
     match task {
         Task::List(input, _) => input,
-        Task::Objects(input) => input,
+        Task::Objects(input, _) => input,
         Task::Calls(input, _) => input,
         Task::Form(input, _) => input,
         Task::Gate(input, _) => input,
@@ -178,9 +178,10 @@ fn answer_task<R: Source, K: Sink + Drop>(
             let (text, lines) = (Text::Listing, Lines::Listing);
             answer_said(alloc, *format, text, lines, many, loose, source, page)
         }
-        Task::Objects(input) => {
+        Task::Objects(input, format) => {
             let (many, loose) = (input.many, input.unframed);
-            answer_text(alloc, Text::Objects, many, loose, source, page)
+            let (text, lines) = (Text::Objects, Lines::Objects);
+            answer_said(alloc, *format, text, lines, many, loose, source, page)
         }
         Task::Calls(_, options) => answer_calls(alloc, options, source, page),
         Task::Form(_, format) => {

@@ -40,7 +40,7 @@ pub fn carry_out<R: Asker<Buffered<K>>, K: Sink + Drop, F: Files>(
     match task {
         Task::Debug(input, options) => debug_file(alloc, input, options, source, page, files),
         Task::List(_, _) => answer_file(alloc, task, files, page),
-        Task::Objects(_) => answer_file(alloc, task, files, page),
+        Task::Objects(_, _) => answer_file(alloc, task, files, page),
         Task::Calls(_, _) => answer_file(alloc, task, files, page),
         Task::Form(_, _) => answer_file(alloc, task, files, page),
         Task::Reach(_, _, _) => answer_file(alloc, task, files, page),

@@ -2,7 +2,7 @@
 
 ghost use Rattle.std.specs.Prelude.{◌≡◌, IfOk, false, codes};
 ghost use Rattle.clap.specs.Words.{rule_of, app_of, new_app};
-ghost use Rattle.program_answers.specs.CommandLine.{file_rule, files_rule, many_rule, unframed_rule, first_rule, memo_rule, full_rule, skip_rule, window_rule, save_rule, json_rule, list_rule, extensions_rule, persistent_rule, buffers_rule, on_file, frames_app, list_app, detailed_app, calls_app, debug_app, form_app, gate_app, granted_app, reach_app, members_app, assemble_app, wants_subcommand, program};
+ghost use Rattle.program_answers.specs.CommandLine.{file_rule, files_rule, many_rule, unframed_rule, first_rule, memo_rule, full_rule, skip_rule, window_rule, save_rule, json_rule, list_rule, extensions_rule, persistent_rule, buffers_rule, on_file, frames_app, json_app, detailed_app, calls_app, debug_app, form_app, listed_app, gate_app, granted_app, reach_app, members_app, assemble_app, wants_subcommand, program};
 
 use clap::{Arg, ArgAction, Command};
 use std::alloc::{AllocError, Global};
@@ -213,16 +213,11 @@ fn with_frames<'a>(alloc: Global, name: &'a str, about: &'a str) -> Result<Comma
     on_file(alloc, name, about, MANY)?.arg(unframed_argument(alloc))
 }
 
-/// The command that lists the opcodes of a file.
-fn list_command<'a>(alloc: Global) -> Result<Command<'a>, AllocError>
-    ensures { IfOk result (λ c. app_of c ≡ list_app) }
+/// And whose answer may be JSON.
+fn with_json<'a>(alloc: Global, name: &'a str, about: &'a str) -> Result<Command<'a>, AllocError>
+    ensures { IfOk result (λ c. app_of c ≡ json_app name.now) }
 {
-    with_frames(
-        alloc,
-        "list",
-        "Lists the opcodes of FILE with their offsets and arguments",
-    )?
-    .arg(json_argument(alloc))
+    with_frames(alloc, name, about)?.arg(json_argument(alloc))
 }
 
 /// The command that prints what a file would import and call, but for what the answer is written as.
@@ -274,9 +269,9 @@ fn form_command<'a>(alloc: Global) -> Result<Command<'a>, AllocError>
     .arg(json_argument(alloc))
 }
 
-/// The command that says whether a file passes a list.
-fn gate_command<'a>(alloc: Global) -> Result<Command<'a>, AllocError>
-    ensures { IfOk result (λ c. app_of c ≡ gate_app) }
+/// The command that says whether a file passes a list, but for what the answer is written as.
+fn listed_command<'a>(alloc: Global) -> Result<Command<'a>, AllocError>
+    ensures { IfOk result (λ c. app_of c ≡ listed_app) }
 {
     Command::new(alloc, "gate")
         .about(
@@ -284,6 +279,13 @@ fn gate_command<'a>(alloc: Global) -> Result<Command<'a>, AllocError>
         )
         .arg(list_argument(alloc))?
         .arg(files_argument(alloc))
+}
+
+/// The command that says whether a file passes a list.
+fn gate_command<'a>(alloc: Global) -> Result<Command<'a>, AllocError>
+    ensures { IfOk result (λ c. app_of c ≡ gate_app) }
+{
+    listed_command(alloc)?.arg(json_argument(alloc))
 }
 
 /// The command that says whether a loader of a file reaches something, but for what the answer is written as.
@@ -342,8 +344,12 @@ pub fn command_line<'a>(alloc: Global) -> Result<Command<'a>, AllocError>
 {
     // Each command is given over as soon as it is made: one that waits for the others is one more to be dropped where memory runs out.
     without_commands(alloc)
-        .subcommand(list_command(alloc)?)?
-        .subcommand(with_frames(
+        .subcommand(with_json(
+            alloc,
+            "list",
+            "Lists the opcodes of FILE with their offsets and arguments",
+        )?)?
+        .subcommand(with_json(
             alloc,
             "objects",
             "Prints the objects that the opcodes of FILE make, and which of them is the result",

@@ -36,14 +36,15 @@ pub struct GivenFile {
 pub enum Task {
     /// List the opcodes, for people or for programs.
     List(GivenFile, Format),
-    /// Print one line per object, in creation order.
-    Objects(GivenFile),
+    /// Print one line per object, in creation order, for people or for programs.
+    Objects(GivenFile, Format),
     /// Print what pickles would import and call. Whether the file is read as several pickles changes nothing.
     Calls(GivenFile, CallsOptions),
     /// Print whether the first pickle is in the form that picklers write, for people or for programs. Whether the file is read as several
     /// pickles changes nothing.
     Form(GivenFile, Format),
-    /// Print whether the file passes the list that the options name, and whether the further files do, that they name.
+    /// Print whether the file passes the list that the options name, and whether the further files do, that they name, for people or for
+    /// programs.
     Gate(GivenFile, GateOptions),
     /// Print whether a loader of the file reaches something that was given this besides, for people or for programs.
     Reach(GivenFile, Granted, Format),
@@ -84,6 +85,8 @@ pub struct GateOptions {
     pub list: String,
     /// The names of the files behind the first.
     pub more: Vec<String>,
+    /// Whether it is a text for people or lines for programs.
+    pub format: Format,
 }
 
 /// The options of a conversation.
@@ -184,7 +187,8 @@ fn gate_options_of(alloc: Global, found: &ArgMatches<'_>) -> Result<Option<GateO
         return Ok(None);
     };
     let more = more_of(alloc, found)?;
-    Ok(Some(GateOptions { list, more }))
+    let format = format_of(found);
+    Ok(Some(GateOptions { list, more, format }))
 }
 
 /// How many step records are kept; no answer where that is no number within the bounds.
@@ -381,7 +385,7 @@ fn named(alloc: Global, matches: &ArgMatches<'_>) -> Result<Option<Task>, AllocE
     if name == "list" {
         Ok(Some(Task::List(input, format_of(found))))
     } else if name == "objects" {
-        Ok(Some(Task::Objects(input)))
+        Ok(Some(Task::Objects(input, format_of(found))))
     } else if name == "calls" {
         let Some(options) = calls_options_of(alloc, found)? else {
             return Ok(None);

@@ -28,7 +28,7 @@ turn_same : (w : World) (turn : Turn) (x : COnward) (y : Onward) → SameOnward 
 turn_same w turn x y same =
     subst (λ (z : Onward). SameOnward (c_load_turn w turn x) (load_turn (as_in_c w) turn z)) same.is (turn_by w turn x (reads_on turn.way.pickles (seen_loaded x.now)) same.held)
 
-mixed_same : (w : World) (mix : List Turn) (x : COnward) (y : Onward) → SameOnward x y → SameOnward (c_load_mixed w mix x) (load_mixed (as_in_c w) mix y)
+pub mixed_same : (w : World) (mix : List Turn) (x : COnward) (y : Onward) → SameOnward x y → SameOnward (c_load_mixed w mix x) (load_mixed (as_in_c w) mix y)
 unfolding c_load_mixed load_mixed
 mixed_same w [] x y same = same
 mixed_same w (turn ∷ mix) x y same = mixed_same w mix (c_load_turn w turn x) (load_turn (as_in_c w) turn y) (turn_same w turn x y same)

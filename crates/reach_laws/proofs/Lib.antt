@@ -18,4 +18,8 @@ mod Lossless
 mod NoFrames
 mod Splits
 mod Partings
+mod Adding
+mod Placing
+mod OpcodeLines
+mod MixLines
 mod Told

@@ -1,5 +1,5 @@
--- Each act of a load of a file has its line, or the text says from where frames may be mixed.
-use Rattle.std.proofs.Common.{◌≡◌, ◌≢◌, ◌⊎◌, ℕ, zero, suc, ◌+◌, ◌^◌, ◌<◌, ◌≤◌, Bool, true, false, List, [], ◌∷◌, ◌++◌, length, drop, Option, Some, None, refl, sym, ap, subst, ◌∙◌, inl, inr, arith}
+-- Each act of a load of a file has its line, or the text says from where frames may be mixed, and then which opcodes may do it.
+use Rattle.std.proofs.Common.{◌≡◌, ◌≢◌, ◌⊎◌, ℕ, zero, suc, ◌^◌, ◌<◌, ◌≤◌, ◌==◌, Bool, true, false, List, [], ◌∷◌, ◌++◌, length, drop, Option, Some, None, refl, sym, ap, subst, ◌∙◌, inl, inr, arith}
 use Rattle.std.specs.Prelude.{if◌then◌else◌}
 use Rattle.std.proofs.lemmas.Bool.{cases_Bool, cases_lt}
 use Rattle.pickle_ops.specs.Spelling.{Operation}
@@ -7,6 +7,7 @@ use Rattle.pickle_doc.specs.Document.{Contents, ReadsAs, document_bytes, items_o
 use Rattle.pickle_doc.specs.DocUnit.{bytes_of}
 use Rattle.pickle_doc.specs.Place.{ops_of, offset_of}
 use Rattle.pickle_doc.proofs.Ends.{stopped_last}
+use Rattle.pickle_doc.proofs.Existence.{same_document}
 use Rattle.pickle_io.specs.Text.{◌⧺◌}
 use Rattle.pickle_io.specs.Holes.{in_file}
 use Rattle.pickle_machine.specs.State.{start}
@@ -21,21 +22,21 @@ use Rattle.pickle_show.specs.Calls.{calls_end}
 use Rattle.pickle_further.specs.declared.way.Pickles.{Pickles}
 use Rattle.pickle_further.specs.declared.way.Pickles.TheVariants as pickles
 use Rattle.pickle_further.specs.declared.way.Way.{Way}
-use Rattle.pickle_further.specs.Going.{Standing, tale_of}
+use Rattle.pickle_further.specs.Going.{Standing, going, tale_of}
 use Rattle.pickle_further.specs.Parts.{ignoring, buffering, are_many, is_open, standing_first, first_mixed, mixed_words, mixed_line, mixed_text, file_frames}
-use Rattle.pickle_further.specs.CallsText.{first_loss, IsCallsText}
+use Rattle.pickle_further.specs.CallsText.{document_calls, first_loss, IsCallsText}
 use Rattle.pickle_loader.specs.Environment.{Value, Act, World}
 use Rattle.pickle_loader.specs.Dispatch.{acts_of}
 use Rattle.pickle_loader.specs.Listed.{listed_of}
 use Rattle.pickle_loader.specs.Onward.{Onward, stands, reads_on, load_way, begins_anew}
-use Rattle.pickle_loader.specs.Text.{document_lines, lost_lines, mixed_lines, kept_first, kept_last, kept_parts, kept_lines, IsAmong, way_of, is_in_text}
+use Rattle.pickle_loader.specs.Text.{line_gone, document_lines, lost_lines, mixed_lines, kept_first, kept_last, kept_parts, kept_lines, IsAmong, way_of, is_in_text}
 use Rattle.pickle_loader.specs.ByFrames.{IsAct}
 use Rattle.pickle_loader.specs.CLoad.{CLoaded, seen_loaded, COnward, c_load_way, as_in_c}
 use Rattle.pickle_loader.specs.ShownFile.{CLoading, fetch, c_load_found, c_load_file}
 use Rattle.pickle_loader.proofs.ActLines.{each_act_in_c_has_its_line}
 use Rattle.pickle_loader.proofs.Bytes.{drop_all, last_stop, no_tail}
 use Rattle.pickle_loader.proofs.CLoads.{one_load}
-use Rattle.pickle_loader.proofs.EachReach.{First, IsReadSo, end_is, IsOver, first_over, in_parts, in_lossy}
+use Rattle.pickle_loader.proofs.EachReach.{IsReadSo, end_is, IsOver, first_over, in_parts, in_lossy}
 use Rattle.pickle_loader.proofs.FileLines.{quiet_listed}
 use Rattle.pickle_loader.proofs.OneMemo.{read_so}
 use Rattle.pickle_loader.proofs.Reaches.{among_right, among_any}
@@ -44,11 +45,16 @@ use Rattle.pickle_loader.proofs.ShownFiles.{Quiet, file_same}
 use Rattle.pickle_loader.proofs.Streams.{quiet_item}
 use Rattle.pickle_loader.proofs.Ways.{by_items}
 use Rattle.pickle_loader.proofs.WholeText.{whole_text_is_its_lines}
+use Rattle.pickle_mixes.specs.declared.place.Place.{Place}
+use Rattle.pickle_mixes.specs.Acting.{acting_places}
+use Rattle.mixes_text.specs.MixText.{taken_line, many_line, mixes_for_people, found_text, goes_on, mixes_behind, with_mixes}
 use Rattle.reach_laws.specs.Mixed.{c_opened, c_load_mixed}
 use Rattle.reach_laws.specs.Filed.{file_mix, frames_pass}
-use Rattle.reach_laws.specs.Told.{SaysMixed, HaveLines, EachActOfAFileIsTold}
+use Rattle.reach_laws.specs.Told.{SaysMixed, SaysTooMany, HaveLines, HaveOpcodes, TellsMixes, EachActOfAFileIsTold}
 use Rattle.reach_laws.proofs.Filed.{files_are_mixes, same_acts}
 use Rattle.reach_laws.proofs.Partings.{each_did}
+use Rattle.reach_laws.proofs.Placing.{each_act_of_a_file_has_its_place}
+use Rattle.reach_laws.proofs.MixLines.{Ended, among_first, among_behind, among_alone, closed_ended, open_ended, kept_ended, document_status, kept_status_is, mixes_are, no_mixes, among_placed, among_many}
 
 -- ---- where loaders go on behind the end
 
@@ -201,25 +207,90 @@ did_closed w shows p bytes d whole r closed n =
     let same = subst (λ (l : List ℕ). IsBytes w shows p l n) whole (bytes_closed w shows p d n r (closed_of d closed)) in
     (same.0, ap (λ (l : CLoaded). acts_of (seen_loaded l)) same.1)
 
+-- ---- the whole text
+
+-- the lines, and behind them those of what may be taken
+abbrev whole_of : Manner → Pickles → List ℕ → Output → Output
+whole_of how p bytes x = with_mixes mixes_for_people how p bytes x
+
+abbrev mixes_of : Manner → Pickles → List ℕ → Output → List ℕ
+mixes_of how p bytes x = mixes_behind mixes_for_people how p bytes x.status
+
+-- a line keeps its place, since the lines end with a newline, or nothing stands behind them
+abbrev IsApart : Manner → Pickles → List ℕ → Output → Type 0
+IsApart how p bytes x = Ended x.text ⊎ (mixes_of how p bytes x ≡ [])
+
+stays_among : (how : Manner) (p : Pickles) (bytes : List ℕ) (x : Output) (line : List ℕ) → IsApart how p bytes x → IsAmong line (cut_lines x.text) → IsAmong line (cut_lines (whole_of how p bytes x).text)
+stays_among how p bytes x line (inl ended) here = among_first line x.text (mixes_of how p bytes x) ended here
+stays_among how p bytes x line (inr none) here = among_alone line x.text (mixes_of how p bytes x) none here
+
+lines_stay : (how : Manner) (V : ℕ → Value) (p : Pickles) (f : Frames) (bytes : List ℕ) (x : Output) (acts : List Act) → IsApart how p bytes x → HaveLines how V p f bytes x acts → HaveLines how V p f bytes (whole_of how p bytes x) acts
+lines_stay how V p f bytes x acts apart have a is =
+    let l = have a is in
+    (l.0, l.1, l.2, l.3, stays_among how p bytes x (line_gone how.holes l.1 (going (way_of p f) l.1)) apart l.4)
+
+told_whole : (how : Manner) (w : World) (shows : ℕ → ℕ) (p : Pickles) (bytes : List ℕ) (x : Output) → IsApart how p bytes x → Told how w shows p bytes x → Told how w shows p bytes (whole_of how p bytes x)
+told_whole how w shows p bytes x apart (V, U, told) = (
+  V,
+  U,
+  λ n. elim (told n) [
+    | inl have ↦ inl (lines_stay how V p frames.Ignored bytes x (listed_of (acts_of (seen_loaded (c_load_file w shows p bytes n).now))) apart have)
+    | inr have ↦ inr (lines_stay how U p (file_frames p) bytes x (listed_of (acts_of (seen_loaded (c_load_file w shows p bytes n).now))) apart have)
+  ],
+)
+
+-- where frames may be mixed
+tells_mixes : (how : Manner) (w : World) (shows : ℕ → ℕ) (p : Pickles) (bytes : List ℕ) (x : Output) (n : ℕ) → length bytes < 2 ^ 31 → Ended x.text → (x.status == 0) ≡ false → first_mixed how.detail p bytes ≡ Some n → SaysMixed x
+    → TellsMixes how w shows p bytes (whole_of how p bytes x)
+tells_mixes how w shows p bytes x n small ended some is says =
+    ((says.0, stays_among how p bytes x (mixed_line says.0) (inl ended) says.1), by (acting_places (goes_on p) bytes) refl)
+  where
+    -- a line of what was found is one of the whole
+    behind : (z : Option (List Place)) (line : List ℕ) → acting_places (goes_on p) bytes ≡ z → IsAmong line (cut_lines (found_text mixes_for_people how.holes bytes z)) → IsAmong line (cut_lines (whole_of how p bytes x).text)
+    behind z line e here =
+        let same : mixes_of how p bytes x ≡ found_text mixes_for_people how.holes bytes z = mixes_are how p bytes x.status n some is ∙ ap (found_text mixes_for_people how.holes bytes) e in
+        among_behind line x.text (mixes_of how p bytes x) ended (subst (λ (t : List ℕ). IsAmong line (cut_lines t)) (sym same) here)
+
+    by : (z : Option (List Place)) → acting_places (goes_on p) bytes ≡ z
+        → SaysTooMany (whole_of how p bytes x) ⊎ ((k : ℕ) → HaveOpcodes how w p bytes (whole_of how p bytes x) (listed_of (acts_of (seen_loaded (c_load_file w shows p bytes k).now))))
+    by None e = inl (behind None many_line e (among_many how.holes bytes))
+    by (Some found) e = inr (λ k a act.
+        let done = each_act_of_a_file_has_its_place w shows p bytes found k e small a act in (
+          done.0,
+          done.1.0,
+          behind (Some found) (taken_line (in_file how.holes done.1.0.offset) done.1.0.item.op) e (among_placed how.holes bytes found done.1.0.offset done.1.0.item.op done.1.1),
+        ))
+
 -- ---- the law
 
-of_document : (how : Manner) (w : World) (shows : ℕ → ℕ) (p : Pickles) (bytes : List ℕ) (o : Output) (d : Contents) (b : Bool) → IsCallsText how p bytes o → length bytes < 2 ^ 31 → begins_anew p ≡ true → ReadsAs (are_many p) bytes d → cut_lines o.text ≡ document_lines how p d
-    → is_in_text p frames.Ignored ≡ true → is_in_text p (file_frames p) ≡ true → is_open (calls_end d).ending ≡ b → SaysMixed o ⊎ Told how w shows p bytes o
-of_document how w shows p bytes o d false text small anew reads lines plainly kept closed =
-    inr (told_by how w w shows p bytes o text (omega (arith, small)) plainly kept (λ n. inl (did_closed w shows p bytes d reads.whole (read_so p bytes d reads (omega (arith, small)) anew) closed n)))
-of_document how w shows p bytes o d true text small anew reads lines plainly kept goes = by (first_mixed how.detail p (document_bytes d)) refl
+abbrev Tells : Manner → World → (ℕ → ℕ) → Pickles → List ℕ → Output → Type 0
+Tells how w shows p bytes o = TellsMixes how w shows p bytes o ⊎ Told how w shows p bytes o
+
+of_document : (how : Manner) (w : World) (shows : ℕ → ℕ) (p : Pickles) (bytes : List ℕ) (x : Output) (d : Contents) (b : Bool) → IsCallsText how p bytes x → length bytes < 2 ^ 31 → begins_anew p ≡ true → ReadsAs (are_many p) bytes d
+    → x ≡ document_calls how p d → cut_lines x.text ≡ document_lines how p d → is_in_text p frames.Ignored ≡ true → is_in_text p (file_frames p) ≡ true → is_open (calls_end d).ending ≡ b → Tells how w shows p bytes (whole_of how p bytes x)
+of_document how w shows p bytes x d false text small anew reads same lines plainly kept closed =
+    inr (told_whole how w shows p bytes x (inl (subst (λ (y : Output). Ended y.text) (sym same) (closed_ended how p d closed)))
+    (told_by how w w shows p bytes x text (omega (arith, small)) plainly kept (λ n. inl (did_closed w shows p bytes d reads.whole (read_so p bytes d reads (omega (arith, small)) anew) closed n))))
+of_document how w shows p bytes x d true text small anew reads same lines plainly kept goes = by (first_mixed how.detail p (document_bytes d)) refl
   where
-    by : (x : Option ℕ) → first_mixed how.detail p (document_bytes d) ≡ x → SaysMixed o ⊎ Told how w shows p bytes o
-    by (Some n) is = inl (says_mixed how p d o n lines goes is)
+    of_bytes : (z : Option ℕ) → first_mixed how.detail p (document_bytes d) ≡ z → first_mixed how.detail p bytes ≡ z
+    of_bytes z is = ap (first_mixed how.detail p) (sym reads.whole) ∙ is
+
+    by : (z : Option ℕ) → first_mixed how.detail p (document_bytes d) ≡ z → Tells how w shows p bytes (whole_of how p bytes x)
+    by (Some n) is =
+        inl (tells_mixes how w shows p bytes x n small (subst (λ (y : Output). Ended y.text) (sym same) (open_ended how p d n goes is)) (ap (λ (y : Output). y.status == 0) same ∙ document_status how p d goes) (of_bytes (Some n) is)
+        (says_mixed how p d x n lines goes is))
     by None is =
-        let none : first_mixed how.detail p bytes ≡ None = ap (first_mixed how.detail p) (sym reads.whole) ∙ is in
-        inr (told_by how w (frames_pass w) shows p bytes o text (omega (arith, small)) plainly kept (did_open how w shows p bytes small none))
+        let none : first_mixed how.detail p bytes ≡ None = of_bytes None is in
+        inr (told_whole how w shows p bytes x (inr (no_mixes how p bytes x.status none)) (told_by how w (frames_pass w) shows p bytes x text (omega (arith, small)) plainly kept (did_open how w shows p bytes small none)))
 
 -- of one unpickler that loads again the line stands behind all others, whatever ends them
-of_kept : (how : Manner) (w : World) (shows : ℕ → ℕ) (bytes : List ℕ) (o : Output) (x : Option ℕ) → IsCallsText how pickles.OneMemo bytes o → length bytes < 2 ^ 31 → first_mixed how.detail pickles.OneMemo bytes ≡ x
-    → SaysMixed o ⊎ Told how w shows pickles.OneMemo bytes o
-of_kept how w shows bytes o None text small is = inr (told_by how w (frames_pass w) shows pickles.OneMemo bytes o text (omega (arith, small)) refl refl (did_open how w shows pickles.OneMemo bytes small is))
-of_kept how w shows bytes o (Some n) text small is =
+of_kept : (how : Manner) (w : World) (shows : ℕ → ℕ) (bytes : List ℕ) (x : Output) (z : Option ℕ) → IsCallsText how pickles.OneMemo bytes x → length bytes < 2 ^ 31 → first_mixed how.detail pickles.OneMemo bytes ≡ z
+    → Tells how w shows pickles.OneMemo bytes (whole_of how pickles.OneMemo bytes x)
+of_kept how w shows bytes x None text small is =
+    inr (told_whole how w shows pickles.OneMemo bytes x (inr (no_mixes how pickles.OneMemo bytes x.status is))
+    (told_by how w (frames_pass w) shows pickles.OneMemo bytes x text (omega (arith, small)) refl refl (did_open how w shows pickles.OneMemo bytes small is)))
+of_kept how w shows bytes x (Some n) text small is =
     let p : Standing = standing_first how.detail pickles.OneMemo bytes in
     let line : List ℕ = mixed_line (in_file how.holes n) in
     let first : List (List ℕ) = kept_first how p ++ kept_last how bytes (tale_of how.holes (ignoring pickles.OneMemo) p) in
@@ -227,13 +298,19 @@ of_kept how w shows bytes o (Some n) text small is =
     let mixed : List (List ℕ) = mixed_lines how pickles.OneMemo bytes in
     let here : IsAmong line mixed = subst (λ (x : Option ℕ). IsAmong line (if_any (mixed_text how.holes x))) (sym is) (among_any line (mixed_some (in_file how.holes n))) in
     let there : IsAmong line (kept_lines how bytes) = among_right line first (lossy ++ mixed) (among_right line lossy mixed here) in
-    inl (in_file how.holes n, subst (IsAmong line) (sym (whole_text_is_its_lines how pickles.OneMemo bytes o text)) there)
+    let says : SaysMixed x = (in_file how.holes n, subst (IsAmong line) (sym (whole_text_is_its_lines how pickles.OneMemo bytes x text)) there) in
+    inl (tells_mixes how w shows pickles.OneMemo bytes x n small (subst (λ (y : Output). Ended y.text) (sym text) (kept_ended how bytes n is)) (ap (λ (y : Output). y.status == 0) text ∙ kept_status_is how bytes n is) is says)
+
+told_so : (how : Manner) (w : World) (shows : ℕ → ℕ) (p : Pickles) (bytes : List ℕ) (x : Output) → IsCallsText how p bytes x → length bytes < 2 ^ 31 → Tells how w shows p bytes (whole_of how p bytes x)
+told_so how w shows pickles.First bytes x text small =
+    let l = whole_text_is_its_lines how pickles.First bytes x text in
+    let one = same_document false false bytes text.0 l.0 (omega (arith, small)) text.1 l.1 in
+    of_document how w shows pickles.First bytes x l.0 (is_open (calls_end l.0).ending) text small refl l.1 (text.2 ∙ ap (document_calls how pickles.First) one) l.2 refl refl refl
+told_so how w shows pickles.All bytes x text small =
+    let l = whole_text_is_its_lines how pickles.All bytes x text in
+    let one = same_document true false bytes text.0 l.0 (omega (arith, small)) text.1 l.1 in
+    of_document how w shows pickles.All bytes x l.0 (is_open (calls_end l.0).ending) text small refl l.1 (text.2 ∙ ap (document_calls how pickles.All) one) l.2 refl refl refl
+told_so how w shows pickles.OneMemo bytes x text small = of_kept how w shows bytes x (first_mixed how.detail pickles.OneMemo bytes) text small refl
 
 pub each_act_of_a_file_is_told : EachActOfAFileIsTold
-each_act_of_a_file_is_told how w shows pickles.First bytes o text small =
-    let x = whole_text_is_its_lines how pickles.First bytes o text in
-    of_document how w shows pickles.First bytes o x.0 (is_open (calls_end x.0).ending) text small refl x.1 x.2 refl refl refl
-each_act_of_a_file_is_told how w shows pickles.All bytes o text small =
-    let x = whole_text_is_its_lines how pickles.All bytes o text in
-    of_document how w shows pickles.All bytes o x.0 (is_open (calls_end x.0).ending) text small refl x.1 x.2 refl refl refl
-each_act_of_a_file_is_told how w shows pickles.OneMemo bytes o text small = of_kept how w shows bytes o (first_mixed how.detail pickles.OneMemo bytes) text small refl
+each_act_of_a_file_is_told how w shows p bytes o (x, text, same) small = subst (λ (y : Output). Tells how w shows p bytes y) (sym same) (told_so how w shows p bytes x text small)

@@ -11,7 +11,6 @@ use Rattle.pickle_lenient.specs.Stream.{taken}
 use Rattle.pickle_show.specs.Manner.{Manner}
 use Rattle.pickle_show.specs.Output.{Output}
 use Rattle.pickle_further.specs.declared.way.Pickles.{Pickles}
-use Rattle.pickle_further.specs.declared.way.Pickles.TheVariants as pickles
 use Rattle.pickle_further.specs.Parts.{ignoring, file_frames, of_file}
 use Rattle.pickle_further.specs.CallsText.{IsCallsText}
 use Rattle.pickle_loader.specs.Environment.{Value, Act, Unpickler, World}

@@ -3,3 +3,4 @@ pub mod Mixed
 pub mod Reached
 pub mod Filed
 pub mod Told
+pub mod Placed

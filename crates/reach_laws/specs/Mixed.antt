@@ -1,6 +1,7 @@
 -- Loads that read each item in a way of its own.
 -- Source: of one way: Lib/pickle.py, Modules/_pickle.c, as `load_read` and `c_load_read` say. Modules/_pickle.c: `_Unpickler_ReadFromFile`: what a file
--- shows ahead (`peek`) stays in the file. So of a frame that is shown nothing is lost where an item crosses its end, and of another the rest is.
+-- shows ahead (`peek`) stays in the file. So where an item crosses the end of a frame, nothing is lost of a frame that is shown, and the rest is lost
+-- of another.
 use Rattle.std.specs.Prelude.{ℕ, Bool, true, false, List, [], ◌∷◌, if◌then◌else◌}
 use Rattle.pickle_lenient.specs.Stream.{taken}
 use Rattle.pickle_further.specs.declared.way.Way.{Way}

@@ -81,7 +81,7 @@ fn write_left<S: Page>(
 {
     let count = holes.cut(bytes);
     let left = bytes.split_at(count).0;
-    Ok(pickle_further::calls::<ForPeople, S>(alloc, detail, holes, pickles, left, page)?)
+    Ok(mixes_text::calls::<ForPeople, S>(alloc, detail, holes, pickles, left, page)?)
 }
 
 /// Writes what the pickles would import and call that are left of the bytes of a file without these holes, in this reading, with arguments

@@ -13,7 +13,7 @@ use pickle_show::{Ending, write_closing};
 use std::alloc::{AllocError, Global};
 
 /// The words of a line of `calls`: what is behind its offset, a colon and a blank.
-fn words_of(line: &[u8]) -> &[u8]
+pub fn words_of(line: &[u8]) -> &[u8]
     ensures { result.now ≡ words_of line.now }
 {
     let behind = line.split_at(before_colon(line)).1;

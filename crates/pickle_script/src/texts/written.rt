@@ -23,7 +23,8 @@ pub enum Text {
     /// result, and a closing line where one is refused or the bytes have a fault.
     Objects,
     /// What they would import and call in this reading, whatever the mode: a line for each step that does so, how many imports and calls
-    /// these are, and behind an end at which loaders part what those may do that go on; arguments are cut, or shown in full.
+    /// these are, and behind an end at which loaders part what those may do that go on, and what those may take that mix frames; arguments
+    /// are cut, or shown in full.
     Calls(Pickles, Detail),
     /// Whether the first pickle, whatever the mode, is in the form that picklers write, with nothing behind it; else the first place at
     /// which it is not, and why.
@@ -61,7 +62,7 @@ pub fn write_text<S: Page>(
         Text::Reach(granted) => Ok(write_reach(alloc, granted, bytes, page)?),
         Text::Calls(pickles, detail) => {
             let holes = Holes::new(alloc);
-            Ok(pickle_further::calls::<ForPeople, S>(alloc, detail, &holes, pickles, bytes, page)?)
+            Ok(mixes_text::calls::<ForPeople, S>(alloc, detail, &holes, pickles, bytes, page)?)
         }
     }
 }

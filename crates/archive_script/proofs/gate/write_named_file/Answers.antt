@@ -1,5 +1,6 @@
 use Rattle.std.proofs.Common.{ℕ, Ok, subst, sym}
-use Rattle.archive_script.specs.GateText.{IsNamedText, Says, judged_output, named_output}
+use Rattle.archive_script.specs.SingleText.{Says}
+use Rattle.archive_script.specs.GateText.{IsNamedText, judged_output, named_output}
 use Rattle.archive_script.proofs.GateTexts.{named_is, says_wrote, says_broke}
 use Rattle.archive_script.proofs.gate.write_named_file.Goals as goal
 

@@ -1,7 +1,7 @@
 use Rattle.std.specs.Prelude.{ℕ, List, Option}
 use Rattle.json_lines.specs.Line.{fields_text}
 use Rattle.line_buffer.proofs.Lines.{Writes-shown}
-use Rattle.calls_json.specs.ShownFields.{shown_fields}
+use Rattle.pickle_json.specs.ShownFields.{shown_fields}
 use Rattle.calls_json.proofs.shown.write_totals_shown.Goals as goal
 
 pub returns : goal.returns

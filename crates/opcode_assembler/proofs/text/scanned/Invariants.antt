@@ -5,7 +5,7 @@ use Rattle.opcode_assembler.specs.Quotes.{in_front, scanned}
 use Rattle.opcode_assembler.proofs.text.scanned.Given as goal
 
 abbrev pub invariant-loop-byte : goal.invariant-loop-byte
-invariant-loop-byte l = in_front l.bytes.items (scanned l.mode l.rest) ≡ scanned mode.Plain l.text
+invariant-loop-byte l = in_front l.bytes.items (scanned l.quote l.mode l.rest) ≡ scanned l.quote mode.Plain l.text
 
 abbrev pub decreases-loop-byte : goal.decreases-loop-byte
 decreases-loop-byte l = length l.rest

@@ -9,7 +9,7 @@ use Rattle.program_answers.proofs.gate.gate_each.Given as goal
 abbrev pub invariant-loop-name : goal.invariant-loop-name
 invariant-loop-name g l = record {
   handed : (holding (g.K.Sink.told l.page.sink) (held_in l.page.text.items l.page.start l.page.len)).held ≡ 0;
-  left : IsLeft l.list (map string_bytes (drop l.name-index l.more)) (l.first ∷ map string_bytes l.more)
+  left : IsLeft l.format l.list (map string_bytes (drop l.name-index l.more)) (l.first ∷ map string_bytes l.more)
       (reports g.F.Files.bytes_of g.F.Files.refuses g.F.Opened.Source.remaining g.F.Opened.Source.failures g.F.Files.took g.F.Files.loses) l.files
       (g.K.Sink.told l.fn.page.sink) (g.K.Sink.told l.page.sink) l.status;
 }

@@ -69,6 +69,18 @@ returns-then-eq-clause-some c =
       c.format_of.ensures,
     )
 
+pub returns-then-eq-2-clause-some : goal.returns-then-eq-2-clause-some
+returns-then-eq-2-clause-some c =
+    let name : c.in-Some.name.now ≡ codes "objects" = search rules in
+    let rows = rows_of (found_of c.in-Some.found.now) in (
+      record {
+        rows = rows;
+        used = used_is _ _ _ _ _ c.in-Some.ensures.name c.in-Some.ensures.rows ∙ ap (λ (n : Text). Some (n, rows)) name;
+        input_is = search rules;
+      },
+      c.format_of-then-eq-2.ensures,
+    )
+
 pub returns-then-eq-5-clause-some : goal.returns-then-eq-5-clause-some
 returns-then-eq-5-clause-some c =
     let name : c.in-Some.name.now ≡ codes "form" = search rules in

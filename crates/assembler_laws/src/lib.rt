@@ -1,0 +1,6 @@
+//! Laws of listings and the assembler: what `list` prints is assembled to the bytes that it shows. The program does not use them.
+#![tactic(auto)]
+
+mod laws;
+
+pub use laws::{gaps_are_refused, item_line_read_back, listing_read_back};

@@ -1,0 +1,6 @@
+-- Lemmas.
+pub mod Changes
+mod Heaps
+mod Answered
+mod Readable
+mod Agreeing

@@ -1,0 +1,3 @@
+-- Lemmas.
+pub mod Looks
+mod Stands

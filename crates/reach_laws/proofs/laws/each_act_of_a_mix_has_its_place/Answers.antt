@@ -1,0 +1,5 @@
+use Rattle.reach_laws.proofs.Placing.{each_act_of_a_mix_has_its_place as law}
+use Rattle.reach_laws.proofs.laws.each_act_of_a_mix_has_its_place.Goals as goal
+
+pub returns : goal.returns
+returns c = law
