@@ -3,11 +3,13 @@
 from __future__ import annotations
 
 import json
+import threading
 from functools import partial
 from typing import Any, Callable, Dict, Optional
 
-from ..addresses import given
+from ..addresses import given, said_of
 from ..errors import PicklestepError, Refused, reason
+from ..lines import silent
 from ..plain import plainly
 from ..shell.edits import EditError
 from ..shell.shell import Shell, WordError
@@ -16,6 +18,7 @@ from .breakpoints import FILTERS, Breakpoints
 from .console import Console
 from .memory import Memory
 from .moves import MOVES, Moves
+from .progress import Progress
 from .target import Target
 from .variables import Variables
 from .wire import Fields
@@ -37,13 +40,18 @@ _CAPABILITIES: Fields = {
 
 
 class Adapter:
-    """Answers messages, one after another. `is_over` says that the editor has left."""
+    """Answers messages, one after another. `is_ending` says whether one has come that ends a run of opcodes, `is_over` that the editor has left."""
 
-    def __init__(self, write: Callable[[Fields], None]) -> None:
+    def __init__(self, write: Callable[[Fields], None], is_ending: Callable[[], bool] = lambda: False) -> None:
         self._write = write
+        self._is_ending = is_ending
         self._sent = 0
+        self._sends = threading.Lock()
+        self._is_told = False  # whether the editor shows how long something takes
+        self._tell: Callable[[str], None] = silent  # what is told how far a request is
         self._after: Optional[Callable[[], None]] = None  # what is done once the request is answered
         self._first_line, self._first_column = 1, 1
+        self._adapter = ''  # what the editor calls this adapter
         self._target: Optional[Target] = None
         self._breakpoints: Optional[Breakpoints] = None
         self._moves: Optional[Moves] = None
@@ -62,11 +70,15 @@ class Adapter:
     # --- Messages ---
 
     def _send(self, fields: Fields) -> None:
-        self._sent += 1
-        self._write({'seq': self._sent, **fields})
+        with self._sends:
+            self._sent += 1
+            self._write({'seq': self._sent, **fields})
 
     def _event(self, name: str, body: Fields) -> None:
         self._send({'type': 'event', 'event': name, 'body': body})
+
+    def _waiting(self) -> Progress:
+        return Progress(self._event, self._is_told)
 
     def complain(self, text: str, seq: int = 0, command: str = '') -> None:
         """Answers a message that says nothing, or a request that cannot be done."""
@@ -95,7 +107,11 @@ class Adapter:
         try:
             if not isinstance(arguments, (dict, type(None))):
                 raise RequestError('arguments have to be an object')
-            body = self._do(command, Arguments(arguments or {}))
+            with self._waiting() as waiting:
+                self._tell = waiting.progress
+                if self._target is not None:
+                    self._target.shell.pickle.tell = waiting.progress
+                body = self._do(command, Arguments(arguments or {}))
         except (RequestError, WordError, EditError) as error:
             self.complain(str(error), seq, command[:_MOST_COMMAND])
             return
@@ -121,14 +137,19 @@ class Adapter:
             self._after = partial(self._moves.move, command, arguments)
             return {'allThreadsContinued': True} if command == 'continue' else {}
         if command not in self._requests:
-            raise RequestError('nothing is launched' if command in MOVES else f'there is no request {command[:_MOST_COMMAND]!r}')
-        return self._requests[command](arguments)
+            raise RequestError('nothing is launched' if command in (*MOVES, 'pause') else f'there is no request {command[:_MOST_COMMAND]!r}')
+        body = self._requests[command](arguments)
+        if command == 'pause' and self._moves is not None:
+            self._after = self._moves.paused()
+        return body
 
     # --- From the first to the last ---
 
     def _initialize(self, arguments: Arguments) -> Fields:
         self._first_line = int(arguments.flag('linesStartAt1', True))
         self._first_column = int(arguments.flag('columnsStartAt1', True))
+        self._is_told = arguments.flag('supportsProgressReporting')
+        self._adapter = arguments.text('adapterID', '')
         return _CAPABILITIES
 
     def _launch(self, arguments: Arguments) -> Fields:
@@ -139,20 +160,20 @@ class Adapter:
         self._stops_first = arguments.flag('stopOnEntry', True)
         pickle, found = given(program)
         path, container = (program, '') if found is None else ('', found.path)
-        target = Target(Shell(pickle, path, many, unframed=unframed, container=container), program.rpartition('/')[2], self._event,
-                        self._first_line, self._first_column)
+        shell = Shell(pickle, path, many, unframed=unframed, container=container, progress=self._tell, whole=arguments.flag('whole'))
+        target = Target(shell, program.rpartition('/')[2], self._event, self._first_line, self._first_column)
         breakpoints, variables = Breakpoints(target), Variables(target)
-        moves = Moves(target, breakpoints)
-        console = Console(target, variables, self._moved)
+        moves = Moves(target, breakpoints, self._is_ending, self._waiting)
+        console = Console(target, variables, self._moved, self._adapter)
         self._target, self._breakpoints, self._variables, self._moves = target, breakpoints, variables, moves
         for requests in (breakpoints.requests, variables.requests, moves.requests, console.requests, Memory(target).requests):
             self._requests.update(requests)
         if is_in_files:
             target.write_files()
-        said = [] if found is None else list(found.said)
+        said = said_of(program, found)
 
         def launched() -> None:
-            target.say('\n'.join([*said, *target.shell.hints(), *target.pickle.lines.closing]))
+            target.say('\n'.join([*said, *target.shell.hints(), *([] if target.pickle.is_part else target.pickle.closing)]))
             self._event('initialized', {})
 
         self._after = launched

@@ -3,12 +3,13 @@
 from __future__ import annotations
 
 import argparse
+import contextlib
 import socket
 import sys
 from typing import BinaryIO, List
 
 from .adapter import Adapter
-from .wire import Malformed, Wire
+from .wire import Inbox, Malformed, Wire
 
 __all__ = ['converse', 'main']
 
@@ -23,7 +24,7 @@ def _port(text: str) -> int:
 
 def _parser() -> argparse.ArgumentParser:
     parser = argparse.ArgumentParser(
-        prog='picklestep dap', description='Lets an editor step through a pickle, which it names, by the Debug Adapter Protocol. Nothing of the pickle is run.',
+        prog='picklestep dap', description='Lets an editor step through a pickle by the Debug Adapter Protocol. The editor names the pickle, and nothing of it is run.',
         epilog='Status: 0 once the editor has left; 2 if what it sends is not framed as the protocol says, or the port cannot be had; 130 after Ctrl-C.')
     parser.add_argument('--port', metavar='N', type=_port,
                         help='let one editor of this machine connect to 127.0.0.1:N, in place of standard input and output (0: to a free port, which is printed)')
@@ -35,7 +36,8 @@ def main(arguments: List[str]) -> int:
     options = _parser().parse_args(arguments)
     try:
         if options.port is None:
-            return converse(sys.stdin.buffer, sys.stdout.buffer)
+            # (A reader of its own: a thread may still wait for it when Python ends, which then could not close that of sys.stdin.)
+            return converse(open(sys.stdin.fileno(), 'rb', closefd=False), sys.stdout.buffer)
         return _listen(options.port)
     except KeyboardInterrupt:
         return 130
@@ -52,16 +54,21 @@ def _listen(port: int) -> int:
         print('{}:{}'.format(*server.getsockname()), flush=True)
         connection, _ = server.accept()
     with connection, connection.makefile('rb') as reader, connection.makefile('wb') as writer:
-        return converse(reader, writer)
+        try:
+            return converse(reader, writer)
+        finally:
+            with contextlib.suppress(OSError):
+                connection.shutdown(socket.SHUT_RD)  # (whoever waits for a message gets the end)
 
 
 def converse(reader: BinaryIO, writer: BinaryIO) -> int:
     """Answers messages until the editor leaves, or the input ends."""
     wire = Wire(reader, writer)
-    adapter = Adapter(wire.write)
+    inbox = Inbox(wire)
+    adapter = Adapter(wire.write, inbox.is_ending)
     try:
         while not adapter.is_over:
-            message = wire.read()
+            message = inbox.next()
             if message is None:
                 break
             adapter.take(message)
@@ -72,5 +79,6 @@ def converse(reader: BinaryIO, writer: BinaryIO) -> int:
     except ConnectionError:  # (the editor has left)
         return 0
     finally:
+        inbox.close()
         adapter.close()
     return 0

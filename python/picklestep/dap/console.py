@@ -2,14 +2,13 @@
 
 from __future__ import annotations
 
-import re
 from typing import Callable, Dict, Optional
 
 from ..opcodes import BY_NAME
+from ..patterns import pattern
 from ..records import Ref
 from ..shell.complete import completions
 from ..shell.expressions import Expression, ExpressionError
-from ..shell.shell import WordError
 from ..shell.words import WORDS, understood
 from .arguments import Arguments, RequestError
 from .target import Target
@@ -18,7 +17,13 @@ from .wire import Fields
 
 __all__ = ['Console']
 
-_OBJECT = re.compile(r'#([0-9]+)')
+_OBJECT = pattern(r'#([0-9]+)')
+# What Kate calls an adapter. Its command line sends what is behind `print` as a watch, and it sends no other watches by itself. (Another editor does, at
+# each stop: there a watch never edits or saves.)
+_KATE = 'qdap'
+# What is typed there before a line of the console. (Kate's *Print Value* sends what is selected in the listing as a watch, too. That is text of whoever
+# made the pickle, and may be `save` and the name of a file.)
+_TYPED = '!'
 
 
 def _is_look(line: str) -> bool:
@@ -39,16 +44,21 @@ def _expression(line: str) -> Optional[Expression]:
 
 
 class Console:
-    """Does what is typed. `moved` is told where the pickle was before a line that let it go elsewhere."""
+    """Does what is typed. `moved` is told where the pickle was before a line that let it go elsewhere. `adapter` is what the editor calls this."""
 
-    def __init__(self, target: Target, variables: Variables, moved: Callable[[int], None]) -> None:
+    def __init__(self, target: Target, variables: Variables, moved: Callable[[int], None], adapter: str) -> None:
         self._target = target
         self._variables = variables
         self._moved = moved
+        self._is_kate = adapter == _KATE
         self.requests: Dict[str, Callable[[Arguments], Fields]] = {'evaluate': self._evaluate, 'completions': self._completions}
 
     def _evaluate(self, arguments: Arguments) -> Fields:
         line, context = arguments.text('expression').strip(), arguments.text('context', 'repl')
+        if self._is_kate and context == 'watch' and line.startswith(_TYPED):
+            if self._target.shows(line):
+                raise RequestError('this line stands in the pickle, so it is not done: write it with another number of blanks')
+            line, context = line[len(_TYPED):].strip(), 'repl'
         found = _OBJECT.fullmatch(line)
         if found is not None:
             return self._object(int(found[1]))
@@ -59,7 +69,8 @@ class Console:
             if expression is not None:
                 return self._value(expression)
             if not _is_look(line):
-                raise RequestError('outside of the console only a value (#3, top) or a word that shows something is evaluated')
+                others = f'; {_TYPED} before the line lets it do others' if self._is_kate else ''
+                raise RequestError(f'outside of the console only a value (#3, top) or a word that shows something is evaluated{others}')
         if '\n' in line:
             raise RequestError('one line at a time is done')
         return {'result': self._obey(line), 'variablesReference': 0}
@@ -84,11 +95,11 @@ class Console:
     def _obey(self, line: str) -> str:
         """What the shell answers to a line. The editor is told of what changes by it."""
         shell, before = self._target.shell, self._target.here().place
-        edits = self._target.pickle.edits_made
+        known = self._target.pickle.edits_made, self._target.pickle.is_part
         try:
             return shell.obey(line)
         finally:
-            if self._target.pickle.edits_made != edits:
+            if (self._target.pickle.edits_made, self._target.pickle.is_part) != known:
                 self._target.edited()
             if self._target.here().place != before:
                 self._moved(before)

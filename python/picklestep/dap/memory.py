@@ -6,8 +6,8 @@ import base64
 import binascii
 from typing import Callable, Dict, List
 
+from ..lines import CODE_BY_NAME
 from ..shell.edits import Edit
-from ..view.lines import CODE_BY_NAME
 from .arguments import Arguments, RequestError
 from .target import Target
 from .wire import Fields

@@ -2,7 +2,9 @@
 
 from __future__ import annotations
 
-from typing import Callable, Dict, List, Sequence
+import contextlib
+from functools import partial
+from typing import Callable, Dict, Iterator, List, Optional, Sequence
 
 from ..errors import PicklestepError, Refused
 from ..plain import plainly
@@ -12,6 +14,7 @@ from ..shell.nests import behind_mark, behind_next
 from ..shell.shell import WordError
 from .arguments import Arguments, RequestError
 from .breakpoints import Breakpoints
+from .progress import Progress
 from .target import Target
 from .wire import Fields
 
@@ -21,15 +24,25 @@ __all__ = ['MOVES', 'Moves', 'THREAD']
 THREAD = 1
 
 
-class Moves:
-    """Goes where the editor says, and tells it where that ended. The frames are the open marks, with the pickle below them."""
+class _Paused(Exception):
+    """The editor does not want that this goes on."""
 
-    def __init__(self, target: Target, breakpoints: Breakpoints) -> None:
+
+class Moves:
+    """Goes where the editor says, and tells it where that ended. The frames are the open marks, with the pickle below them.
+
+    While it goes on, `is_ending` says whether the editor has sent something that ends this, and what `waiting` makes tells how long it takes.
+    """
+
+    def __init__(self, target: Target, breakpoints: Breakpoints, is_ending: Callable[[], bool], waiting: Callable[[], Progress]) -> None:
         self._target = target
         self._breakpoints = breakpoints
+        self._is_ending = is_ending
+        self._waiting = waiting
+        self._paused_from: Optional[int] = None  # where it began to go, where it was paused and the editor does not know that yet
         self._refused = ''  # why the opcode is refused at which it has stopped
         self.requests: Dict[str, Callable[[Arguments], Fields]] = {
-            'threads': self._threads, 'stackTrace': self._stack_trace, 'gotoTargets': self._goto_targets, 'exceptionInfo': self._exception_info}
+            'threads': self._threads, 'pause': self._pause, 'stackTrace': self._stack_trace, 'gotoTargets': self._goto_targets, 'exceptionInfo': self._exception_info}
 
     # --- Going ---
 
@@ -38,12 +51,41 @@ class Moves:
         begin = self._target.here().place
         reason, why = 'step', ''
         try:
-            reason, why = MOVES[command](self, arguments)
+            with self._asking():
+                reason, why = MOVES[command](self, arguments)
+        except _Paused:
+            self._paused_from = begin
+            return
         except Refused as error:
             why = error.text
         except (RequestError, WordError, PicklestepError) as error:
             self._target.say(str(error), 'stderr')
         self.stopped(reason, why, begin)
+
+    @contextlib.contextmanager
+    def _asking(self) -> Iterator[None]:
+        """Within it the shell asks now and then whether it is to go on. Raises _Paused where it is not: the cursor is where it came to."""
+        def ask(text: str) -> None:
+            if self._is_ending():
+                raise _Paused
+            waiting.progress(text)
+
+        pickle = self._target.pickle
+        with self._waiting() as waiting:
+            before, pickle.tell = pickle.tell, ask
+            try:
+                yield
+            finally:
+                pickle.tell = before
+
+    def _pause(self, arguments: Arguments) -> Fields:
+        """What was going on has ended by now, whichever thread is named: there is one."""
+        return {}
+
+    def paused(self) -> Optional[Callable[[], None]]:
+        """What tells the editor where a run was paused, if one was that it does not know of."""
+        begin, self._paused_from = self._paused_from, None
+        return None if begin is None else partial(self.stopped, 'pause', '', begin)
 
     def stopped(self, reason: str, why: str = '', begin: int = -1) -> None:
         """Tells where the pickle is, after it moved from a place."""
@@ -51,7 +93,7 @@ class Moves:
         self._refused = opcode_refused_in(why)
         hit = [point for point in self._target.shell.breaks if where.place != begin and is_hit(self._target.pickle, point, where.place)]
         reason = 'exception' if self._refused else self._breakpoints.reason(hit) if hit else reason
-        ends = {0: 'You are at the start.', where.places: f'You are at the end: {where.end.text}.'}
+        ends = {0: 'You are at the start.', where.places: f'You are at {self._target.pickle.end_text}.'}
         said = f'The next opcode is refused: {plainly(self._refused)}' if self._refused else ends.get(where.place, '')
         self._target.send('stopped', {
             'reason': reason, 'threadId': THREAD, 'allThreadsStopped': True, **({'description': said} if said else {}),

@@ -3,13 +3,12 @@
 from __future__ import annotations
 
 import os
-import re
 import tempfile
 from typing import Callable, List, Optional
 
 from ..errors import PicklestepError
-from ..python_source import source
-from ..records import Where
+from ..patterns import pattern
+from ..session_records import Where
 from ..shell.edits import Edit
 from ..shell.opened import Opened
 from ..shell.shell import Shell, WordError
@@ -20,9 +19,9 @@ __all__ = ['MOST_LISTED', 'Target']
 
 # So many opcodes are in the listing, each in a line of its own. Those behind them are only in the disassembly.
 MOST_LISTED = 200_000
-_LINE_OF_SOURCE = re.compile(r'  # ([0-9]+)\b')
-_NO_LETTER = re.compile(r'[^A-Za-z0-9._-]')
-_ADDRESS = re.compile(r'0x[0-9a-fA-F]{1,16}|[0-9]{1,20}')
+_LINE_OF_SOURCE = pattern(r'  # ([0-9]+)\b')
+_NO_LETTER = pattern(r'[^A-Za-z0-9._-]')
+_ADDRESS = pattern(r'0x[0-9a-fA-F]{1,16}|[0-9]{1,20}')
 
 
 class Target:
@@ -131,6 +130,10 @@ class Target:
             return {'content': '\n'.join(self.python_lines()) + '\n', 'mimeType': 'text/x-python'}
         return {'content': '\n'.join(self._listed()) + '\n'}
 
+    def shows(self, text: str) -> bool:
+        """Whether a text stands in a line of what the editor was given to show. (Such a text may be of whoever made the pickle.)"""
+        return any(text in line for line in (*self._listed(), *self._python))
+
     def _listed(self) -> List[str]:
         """The lines of the listing, each with what its opcode imports or calls."""
         pickle = self.pickle
@@ -142,12 +145,13 @@ class Target:
                 break
             rows[place] += f'   <- {pickle.reaches.text(at)}'
         more = [f'.. {len(pickle.lines) - count} opcodes more: the disassembly has them'] if count < len(pickle.lines) else []
-        return [*rows, *more, *pickle.lines.closing]
+        return [*rows, *more, *pickle.closing]
 
     def python_lines(self) -> List[str]:
         """The lines of the Python code."""
         if not self._python:
-            self._python = source(self.pickle.content(), full=False, **self.shell.modes).text.split('\n')[:-1]
+            self.shell.settled()
+            self._python = self.shell.source().split('\n')[:-1]
         return self._python
 
     def place_of_line(self, given: Arguments, line: int) -> int:

@@ -13,14 +13,15 @@ from bisect import bisect_right
 from typing import Any, Dict, List, NamedTuple, Optional, Protocol, Sequence, Tuple
 
 from ..arguments import ArgumentValue, encoded
-from ..printed import offset_of
+from ..document import MOST_EXACT, MOST_TEXT, Done, Reaches
+from ..lines import CODE_BY_NAME, Line, Lines, Makers, OpcodeLines, lines_of
 from ..opcodes import TABLE
+from ..printed import offset_of
 from ..replies import is_mark
 from ..tasks import listing, objects
-from ..texts import MARK, behind_word, end_of_line, frame_length, key_in, kind_in, line_of, moved_line, without_number
+from ..texts import (behind_word, end_of_line, frame_length, key_in, kind_in, line_of, mark_in, moved_line, readonly_count, with_mark,
+                     without_number)
 from ..values import PLAIN_KINDS
-from ..view.document import MOST_EXACT, MOST_TEXT, Done, Reaches
-from ..view.lines import CODE_BY_NAME, Line, Lines, Makers, OpcodeLines, lines_of
 
 __all__ = ['MOST_EDITS', 'Between', 'Objects', 'Put', 'Unknown', 'is_known_edit', 'line_put']
 
@@ -122,7 +123,7 @@ class Between:
         ends = {0, *(piece.old for piece in old), *(piece.old + piece.length for piece in old), len(lines)} - {0, len(lines)}
         self._edited = sorted(ends if begins else {0, *ends})
         self.makers = Makers(codes)
-        self.makers.finish(final, lambda place, number: False)
+        self.makers.finish(lambda: readonly_count(final.all()), lambda place, number: False)
         self._codes = codes
         self._is_same = _are_same(lines, final, edits)
         self._made = lines.makers.before(self._first)
@@ -167,8 +168,8 @@ class Between:
         offset = offset_of(was)
         if self._codes[place] == _FRAME:
             self._frame(offset, frame_length(was))
-        mark = MARK.search(was) if self._codes[place] not in _VALUE_CODES else None
-        line = was if mark is None else f'{was[:mark.start(1)]}{self._moved(int(mark[1]))})'
+        mark = mark_in(was) if self._codes[place] not in _VALUE_CODES else None
+        line = was if mark is None else with_mark(was, self._moved(mark))
         return _whole(moved_line(line, offset + piece.shift), was if piece.shift else '')
 
     def at(self, place: int) -> Line:
@@ -205,8 +206,8 @@ class Between:
         found = self._reaches.texts_at(line.offset - piece.shift)
         if place < self._first or line.name in _QUIET and not found or self._is_same and line.name in _FILLS:
             return found
-        mark = MARK.search(line.argument)
-        if line.name in _FILLS and not found and mark is not None and int(mark[1]) < self._lines.offset(self._first):
+        mark = mark_in(line.argument)
+        if line.name in _FILLS and not found and mark is not None and mark < self._lines.offset(self._first):
             return found
         raise Unknown
 

@@ -7,13 +7,13 @@ from bisect import bisect_left, bisect_right
 from dataclasses import dataclass
 from fnmatch import fnmatchcase
 from heapq import merge
-from typing import Callable, Dict, Iterator, Optional, Tuple
+from typing import Callable, Dict, Iterable, Iterator, Optional, Tuple
 
+from ..document import around, in_a_line
 from ..errors import Refused
+from ..lines import CODE_BY_NAME
 from ..opcodes import BY_NAME
 from ..texts import has_key
-from ..view.document import around, in_a_line
-from ..view.lines import CODE_BY_NAME
 from .edits import unquoted
 from .expressions import Expression, dotted
 from .opened import Opened
@@ -27,6 +27,7 @@ _OF_NUMBERS = frozenset(('at', 'memo', 'store', 'change', 'depth'))
 _TAKES = {'opcode': 'the name of one', 'import': 'a pattern, as os.*', 'call': 'a pattern, as os.*'}
 # The kind that is at each opcode, which is of use with a condition alone.
 _EACH = 'each'
+_TOLD_EACH = 1000  # (places that are asked about)
 
 
 class BreakError(ValueError):
@@ -64,6 +65,14 @@ def made_break(pickle: Opened, number: int, what: str, rest: str, condition: str
     return Break(number, what, rest, condition=Expression(condition) if condition else None)
 
 
+def _told(pickle: Opened, places: Iterable[int]) -> Iterator[int]:
+    """The places that are asked about one after another. Now and then `pickle.tell` is told, which may end it."""
+    for count, place in enumerate(places, 1):
+        if count % _TOLD_EACH == 0:
+            pickle.tell(f'asked at {count:,} places')
+        yield place
+
+
 def _each(pickle: Opened, text: str, place: int, step: int) -> Iterator[int]:
     return iter(range(place, len(pickle.lines)) if step > 0 else range(min(place, len(pickle.lines) - 1), -1, -1))
 
@@ -83,12 +92,12 @@ def _opcode(pickle: Opened, text: str, place: int, step: int) -> Iterator[int]:
 def _text(pickle: Opened, text: str, place: int, step: int) -> Iterator[int]:
     wanted = text.encode('utf-8', 'surrogatepass')
     shown = in_a_line(wanted)
-    in_lines = (at for at in around(pickle.lines, shown, place, step) if shown.decode('ascii') in pickle.lines.at(at).argument)
+    in_lines = (at for at in _told(pickle, around(pickle.lines, shown, place, step)) if shown.decode('ascii') in pickle.lines.at(at).argument)
     return iter(merge(in_lines, pickle.cut_with(wanted, place, step), reverse=step < 0))
 
 
 def _memo(pickle: Opened, text: str, place: int, step: int) -> Iterator[int]:
-    return (at for at in around(pickle.lines, text.encode('ascii', 'replace'), place, step) if has_key(pickle.lines.at(at), text))
+    return (at for at in _told(pickle, around(pickle.lines, text.encode('ascii', 'replace'), place, step)) if has_key(pickle.lines.at(at), text))
 
 
 def _store(pickle: Opened, text: str, place: int, step: int) -> Iterator[int]:
@@ -104,7 +113,7 @@ def _depth(pickle: Opened, text: str, place: int, step: int) -> Iterator[int]:
     if int(text) > len(pickle.lines):  # (so many marks are never open, and what is looked for would fill the memory)
         return iter(())
     found = around(pickle.lines, b' ' * (4 * int(text) + 1), place, step)
-    return (at for at in found if pickle.lines.at(at).marks >= int(text))
+    return (at for at in _told(pickle, found) if pickle.lines.at(at).marks >= int(text))
 
 
 def _reached(kinds: 'tuple[str, ...]') -> 'Callable[[Opened, str, int, int], Iterator[int]]':
@@ -114,7 +123,7 @@ def _reached(kinds: 'tuple[str, ...]') -> 'Callable[[Opened, str, int, int], Ite
         reaches, offset = pickle.reaches, pickle.lines.offset(min(place, len(pickle.lines) - 1)) if len(pickle.lines) else 0
         at = bisect_left(reaches.offsets, offset)
         numbers = range(at, len(reaches.offsets)) if step > 0 else range(min(at, len(reaches.offsets) - 1), -1, -1)
-        for number in numbers:
+        for number in _told(pickle, numbers):
             where = pickle.lines.place_of(reaches.offsets[number])
             if reaches.kinds[number] in kinds and (where - place) * step >= 0:
                 reach = reaches.answer[number]

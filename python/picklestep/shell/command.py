@@ -3,6 +3,7 @@
 from __future__ import annotations
 
 import argparse
+import contextlib
 import sys
 from typing import Iterable, Iterator, List
 
@@ -25,6 +26,7 @@ def _parser() -> argparse.ArgumentParser:
     parser.add_argument('file', metavar='FILE', help='the pickle, or its address')
     parser.add_argument('--many', action='store_true', help='FILE has several pickles that follow one another')
     parser.add_argument('--unframed', action='store_true', help='ignore the lengths of frames, so that a pickle that was cut off is read to the cut')
+    parser.add_argument('--whole', action='store_true', help='read all of a long pickle at once, and not the first opcodes alone')
     parser.add_argument('--batch', metavar='SCRIPT', help='run the lines of this file instead of a prompt, up to the first that is refused')
     return parser
 
@@ -36,8 +38,10 @@ def main(arguments: List[str]) -> int:
         pickle, found = given(options.file)
         path, container = (options.file, '') if found is None else ('', found.path)
         with Waiting() as waiting:
-            opened = Shell(pickle, path, options.many, unframed=options.unframed, container=container, progress=waiting.progress)
+            opened = Shell(pickle, path, options.many, unframed=options.unframed, container=container, progress=waiting.progress, whole=options.whole)
         with opened as shell:
+            if shell.pickle.is_part and (options.batch is not None or not is_terminal()):
+                print('\n'.join(f'picklestep: {line.strip("()")}' for line in shell.hints()[0].split('\n')), file=sys.stderr)
             if options.batch is not None:
                 with open(options.batch, encoding='utf-8') as script:
                     return _obey_all(shell, options.batch, _lines(options.batch, script))
@@ -88,8 +92,8 @@ def _answer(shell: Shell, terminal: Terminal, line: str) -> str:
     """What is shown for a line that is typed. After Ctrl-C the shell is where it was, with its edits."""
     with Waiting() as waiting:
         def ask(question: str) -> bool:
-            waiting.end()
-            return terminal.ask(question)
+            with waiting.asking():
+                return terminal.ask(question)
 
         shell.ask, shell.pickle.tell = ask, waiting.progress
         try:
@@ -104,21 +108,44 @@ def _answer(shell: Shell, terminal: Terminal, line: str) -> str:
         return answer
 
 
+@contextlib.contextmanager
+def _dropped_interrupts() -> Iterator[List[str]]:
+    """What is to be said of each Ctrl-C that Python drops within it. (One that comes while an object is freed ends nothing.)"""
+    said: List[str] = []
+    hook = sys.unraisablehook
+
+    def note(dropped: 'sys.UnraisableHookArgs') -> None:
+        if isinstance(dropped.exc_value, KeyboardInterrupt):
+            said.append('^C (it came too late: the line above is done)')
+        else:
+            hook(dropped)
+
+    sys.unraisablehook = note
+    try:
+        yield said
+    finally:
+        sys.unraisablehook = hook
+
+
 def _converse(shell: Shell) -> int:
     """Runs lines that are typed."""
     terminal = Terminal(lambda before: completions(shell.pickle, before))
     terminal.show('\n'.join([shell.obey('where'), *shell.hints(), '`help` shows the words.']))
     try:
-        while not shell.is_over:
-            for line in terminal.lines():
-                try:
-                    terminal.show(_answer(shell, terminal, line))
-                except KeyboardInterrupt:  # (while the answer was shown: what is left of it is not)
-                    terminal.show('^C')
-                if shell.is_over:
-                    break
-            else:
-                _answer(shell, terminal, 'quit')
+        with _dropped_interrupts() as dropped:
+            while not shell.is_over:
+                for line in terminal.lines():
+                    try:
+                        terminal.show(_answer(shell, terminal, line))
+                    except KeyboardInterrupt:  # (while the answer was shown: what is left of it is not)
+                        terminal.show('^C')
+                    if dropped:
+                        terminal.show(dropped[0])
+                        dropped.clear()
+                    if shell.is_over:
+                        break
+                else:
+                    _answer(shell, terminal, 'quit')
     finally:
         terminal.close()
     return 0

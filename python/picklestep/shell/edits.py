@@ -2,16 +2,16 @@
 
 from __future__ import annotations
 
-import re
 from ast import literal_eval
 from typing import TYPE_CHECKING, Dict, NamedTuple, Optional, Sequence, Union
 
 from ..arguments import ArgumentValue, encoded
 from ..opcodes import BY_NAME
+from ..patterns import pattern
 
 if TYPE_CHECKING:
     from ..renaming.small import Small
-    from ..view.document import Document
+    from ..document import Document
     from .opened import Opened
 
 __all__ = ['Edit', 'EditError', 'of_object', 'of_value', 'of_words', 'unquoted']
@@ -23,7 +23,7 @@ _HOLDERS: Dict[type, Sequence[str]] = {
     str: ('SHORT_BINUNICODE', 'BINUNICODE', 'BINUNICODE8', 'UNICODE')}
 _PLAIN = frozenset(name for name, info in BY_NAME.items() if not info.takes and info.leaves and (
     not name.endswith('GET') and not name.startswith('EXT') and name not in ('GLOBAL', 'INST', 'PERSID', 'MARK', 'PROTO', 'FRAME')))
-_MADE = re.compile(r'(bytearray|float)\((.*)\)|-?(?:inf|nan)')
+_MADE = pattern(r'(bytearray|float)\((.*)\)|-?(?:inf|nan)')
 # Texts of Python 2, and what is put in their place where a sign is beyond ASCII: Python 3 would not load its bytes, or another text of them.
 _LEGACY = {'STRING': 'UNICODE', 'BINSTRING': 'BINUNICODE', 'SHORT_BINSTRING': 'BINUNICODE'}
 

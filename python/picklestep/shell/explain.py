@@ -1,13 +1,53 @@
-"""What an opcode takes from the stack, by the words of the table."""
+"""What an opcode does, takes from the stack and makes, by the words of the table."""
 
 from __future__ import annotations
 
-from typing import List, Sequence, Tuple
+from typing import List, Optional, Sequence, Tuple
 
 from ..opcodes import BY_NAME
-from ..replies import is_mark
+from ..plain import plainly
+from ..replies import is_mark, number_in_word, words_of
+from .opened import Opened
 
-__all__ = ['taken']
+__all__ = ['explained', 'taken']
+
+_MOST_TAKEN = 4
+
+
+def explained(pickle: Opened, place: int, stack: Optional[str]) -> List[str]:
+    """The lines about the opcode at a place. The top of the stack is given where the cursor is there."""
+    line = pickle.lines.at(place)
+    rows = [f'{line.name}: {BY_NAME[line.name].sentence}', *(f'here: {reached}' for reached in pickle.calls_at(place, line))]
+    if stack is not None:
+        rows.append(f'the stack before it: {stack}')
+    number = pickle.makes(place)
+    with pickle.before(place) as is_there:
+        if number is not None:
+            made = pickle.final_object(number)
+            takes = _numbered(pickle, [f'#{part}' for part in made.parts] if made is not None else [])
+            rows.append(f'it makes #{number}' + (f' of {takes}' if takes else ''))
+        else:
+            why = pickle.refusal() if is_there else ''
+            takes = BY_NAME[line.name].takes and (_taken_here(pickle, line.name) if is_there and not why else BY_NAME[line.name].takes)
+            rows += [f'it is refused here: {plainly(why)}'] if why else [f'it takes {takes}'] if takes else []
+    return rows
+
+
+def _taken_here(pickle: Opened, name: str) -> str:
+    """What an opcode at the cursor takes from the stack."""
+    shown = []
+    for word, entries in taken(name, words_of(pickle.session.ask('stack'))):
+        if entries and is_mark(entries[0]):
+            shown.append(f'the mark of {number_in_word(entries[0])}')
+        elif entries:
+            shown.append(f'{word.partition(" or ")[0]} {_numbered(pickle, entries)}')
+    return ', '.join(shown)
+
+
+def _numbered(pickle: Opened, objects: Sequence[str]) -> str:
+    """Objects by their numbers, the first of them."""
+    more = [f'.. {len(objects) - _MOST_TAKEN} more'] if len(objects) > _MOST_TAKEN else []
+    return ', '.join([f'{each} {pickle.described(number_in_word(each), 0)}' for each in objects[:_MOST_TAKEN]] + more)
 
 
 def taken(name: str, stack: Sequence[str]) -> List[Tuple[str, Sequence[str]]]:

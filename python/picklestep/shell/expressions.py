@@ -13,8 +13,11 @@ from typing import Any, Callable, Dict, List, Sequence, Tuple, Type, Union
 
 from ..comparing import shown_value
 from ..errors import PicklestepError
-from ..records import Change, Extension, Global, Mark, Name, Object, Ref
+from ..listing_records import Change, Object
+from ..patterns import pattern
+from ..records import Extension, Global, Name, Ref
 from ..replies import is_mark, last_words, number_in_word
+from ..session_records import Mark
 from ..texts import LinesError, opcode_of
 from ..trees import Values
 from .opened import Opened
@@ -24,8 +27,8 @@ __all__ = ['Expression', 'ExpressionError', 'NAMES', 'dotted', 'split_condition'
 _LONGEST = 1000  # letters
 _MOST_SHOWN = 3
 # A text in quotes, the number of an object, or the cursor as gdb has it.
-_SPELT = re.compile(r"""('(?:[^'\\]|\\.)*'|"(?:[^"\\]|\\.)*")|#([0-9]{1,12})|\$(?:pc|ip)\b|#""")
-_IF = re.compile(r"""('(?:[^'\\]|\\.)*'|"(?:[^"\\]|\\.)*")|(?:^|\s)if\s""")
+_SPELT = pattern(r"""('(?:[^'\\]|\\.)*'|"(?:[^"\\]|\\.)*")|#([0-9]{1,12})|\$(?:pc|ip)\b|#""")
+_IF = pattern(r"""('(?:[^'\\]|\\.)*'|"(?:[^"\\]|\\.)*")|(?:^|\s)if\s""")
 _OBJECT = 'object'
 _FUNCTIONS = ('len', 'kind')
 
@@ -223,7 +226,7 @@ class _At:
             return Ref(number)
         shown = {each.number: each.object for each in self._pickle.session.show(number) if each.object is not None}
         at = {known: place for place, known in enumerate(sorted(shown))}
-        return Values([_renumbered(shown[known], at) for known in sorted(shown)], {}).at(at[number])
+        return Values([_renumbered(shown[known], at) for known in sorted(shown)]).at(at[number])
 
     def _named(self, node: ast.Name) -> Any:
         return NAMES[node.id](self._pickle)

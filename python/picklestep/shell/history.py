@@ -8,8 +8,8 @@ from bisect import bisect_left
 from itertools import chain, compress
 from typing import Callable, Dict, Iterator, List, Sequence, Tuple
 
+from ..lines import OpcodeLines
 from ..opcodes import TABLE, OpcodeInfo
-from ..view.lines import OpcodeLines
 
 __all__ = ['History']
 

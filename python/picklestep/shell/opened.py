@@ -4,25 +4,31 @@ from __future__ import annotations
 
 import contextlib
 import threading
+import time
 from itertools import islice
 from typing import Any, Callable, Dict, Iterator, List, NamedTuple, Optional, Sequence, Tuple
 
 from ..changes import changed
 from ..comparing import shown_value
+from ..document import Document, Done, Reaches, places_edited
 from ..errors import NoResult, Refused
+from ..lines import CODE_BY_NAME, Line, Lines, OpcodeLines, silent
+from ..listing_records import Object
 from ..python_source.shapes import BRACKETS
-from ..records import Global, Object, Ref, Where
+from ..records import Global, Ref
 from ..replies import opcode_refused_in, words_of
 from ..session import SHIFTS, Session
-from ..sources import Input, Source
-from ..texts import LinesError, behind_word, count_held, end_of_texts, held_in, key_in, object_of
+from ..session_records import Where
+from ..sources import Input, Source, rereadable
+from ..texts import LinesError, behind_word, count_held, end_of_texts, held_in, key_in, object_of, readonly_count
+from ..took import seconds_of_programs
 from ..values import PLAIN_KINDS, kind_value
-from ..view.document import Document, Done, Reaches, places_edited
-from ..view.lines import CODE_BY_NAME, Line, Lines, OpcodeLines, silent
 from .between import MOST_EDITS, Between, Objects, Put, Unknown, is_known_edit
 from .edits import Edit
+from .first import first_of
 from .history import History
 from .later import Later
+from .part import Part
 
 __all__ = ['Opened']
 
@@ -53,7 +59,7 @@ class _Stale(Exception):
     """Nobody wants to know any more."""
 
 
-class Opened(Document):
+class Opened(Part):
     """A document whose objects can be described by their values, and that is edited at any place.
 
     After an edit the pickle is read while the prompt waits for a line: call `settle` before anything else, or within `unread` make do with what is
@@ -73,23 +79,75 @@ class Opened(Document):
     _known: Optional[Dict[str, Any]] = None  # what was read before the latest change
     _turn = ''  # the word of that: '' is an edit
 
-    def __init__(self, source: Source, name: str, many: bool = False, progress: Callable[[str], None] = silent, *, unframed: bool = False) -> None:
-        """Reads a pickle. While that goes on, `progress` is given how far it is; later `tell` is, where something takes long."""
-        self._source, self._is_many, self._is_unframed = source, many, unframed
+    def __init__(self, source: Source, name: str, many: bool = False, progress: Callable[[str], None] = silent, *, unframed: bool = False,
+                 whole: bool = False) -> None:
+        """Reads a pickle: of a long one only the first part, unless it is the `whole` that is wanted. While that goes on, `progress` is given how
+        far it is; later `tell` is, where something takes long."""
+        source = rereadable(source)
+        self._first = None if whole else first_of(source, many, unframed, progress)
+        self._source = source if self._first is None else self._first.content
+        self._is_many, self._is_unframed = many, unframed
         self.tell: Callable[[str], None] = silent
         self._free = threading.Event()  # whoever reads beside the prompt may go on
         self._free.set()
-        super().__init__(source, name, many, progress, unframed=unframed)
+        begin = time.process_time() + seconds_of_programs()
+        try:
+            super().__init__(self._source, name, many, progress, unframed=unframed)
+        except BaseException:
+            self._close_first()
+            raise
+        self._seconds = time.process_time() + seconds_of_programs() - begin
 
     def reopen(self) -> None:
         """Has a session anew, after one that was interrupted within an answer: with the edits, and where the cursor was."""
         edits = self.session._talk.edits()[:len(self._edits)]
         self.session.close()
-        self.session = Session(self._source, many=self._is_many, unframed=self._is_unframed)
-        for line in edits:
-            self.session._talk.line(line.rstrip(b'\n'))
+        self.session = self._session_after(self._source, edits)
         self._undone = []
         self._return(self.place)
+
+    def _session_after(self, source: Source, edits: List[bytes]) -> Session:
+        """A session of a pickle, after edits."""
+        session = Session(source, many=self._is_many, unframed=self._is_unframed)
+        try:
+            for line in edits:
+                session._talk.line(line.rstrip(b'\n'))
+        except BaseException:
+            session.close()
+            raise
+        return session
+
+    def read_whole(self) -> bytes:
+        """Reads all of the pickle, with the edits of its first part, and answers the bytes that were not read. Where that fails or is interrupted, all
+        is as it was."""
+        self.settle()
+        first, here, before = self._first, self.session.where().place, dict(vars(self))
+        if first is None:
+            return b''
+        self._edition += 1
+        undone = self.session._talk.undone()
+        self.tell('opening')
+        try:
+            source = b''.join(first.given.blocks(0))
+            session = self._session_after(source, [*self.session._talk.edits(), *reversed(undone)])
+        except BaseException:
+            self._follow()
+            raise
+        try:
+            for _ in undone:
+                session.undo()
+            self.session, self._source, self._first, self._codes, self._known, self._progress = session, source, None, None, None, self.tell
+            self._read()
+            self._return(here)
+        except BaseException:
+            vars(self).update(before, _edition=self._edition + 1)
+            session.close()
+            self._follow()
+            raise
+        self._progress = silent
+        before['session'].close()
+        first.close()
+        return source[len(first.content):]
 
     # --- The pickle ---
 
@@ -111,6 +169,7 @@ class Opened(Document):
             if work is not None:
                 work.wait()
         super().close()
+        self._close_first()
 
     def settle(self) -> None:
         """Waits until the pickle is read after an edit. Where that failed, the edits were taken back, and it is raised why."""
@@ -152,7 +211,7 @@ class Opened(Document):
             self._history = read.history
         else:
             here = self.session.where().place
-            self._makers.finish(self._final, self._makes_object)
+            self._makers.finish(lambda: readonly_count(self._final.all()), self._makes_object)
             self.session.goto(here)
             self._follow()
 
@@ -233,7 +292,7 @@ class Opened(Document):
                 lines, final, reaches, listed = self._lists(given, len(codes), None, progress)
         history = None
         if _READONLY not in codes:
-            lines.makers.finish(final, lambda place, number: False)
+            lines.makers.finish(lambda: readonly_count(final.all()), lambda place, number: False)
             history = self._later_history(lines, listed, edition)
         return _Read(content, lines, final, reaches, listed, history)
 
@@ -320,12 +379,6 @@ class Opened(Document):
         if self._base is not None and self._base.lists['reaches'].answer.array_at is None:
             return None
         raise Unknown
-
-    @property
-    def kept(self) -> List[str]:
-        """A line of the bytes after STOP, where there are some: nothing of them is in the session."""
-        kept = behind_word(self.lines.closing, 'kept')
-        return [] if kept is None else [f'kept: {kept} (try --many)']
 
     def maker(self, number: int) -> Optional[int]:
         """The place of the opcode that makes an object, if there is such an object."""
@@ -420,8 +473,12 @@ class Opened(Document):
         """Steps to a place, or to the opcode before it that is refused. Answers why it is not at the place, or nothing."""
         where = self.session.where()
         if where.place < place:
+            end = min(place, where.places)
             with contextlib.suppress(Refused):  # (an opcode on the way is refused)
-                self.session.goto(min(place, where.places))
+                for at in range(where.place + _PIECE, end, _PIECE):
+                    self.session.goto(at)
+                    self.tell(f'at {at:,}')
+                self.session.goto(end)
                 return ''
         if place >= where.places:
             ran = self.session.run()
@@ -653,6 +710,7 @@ _CALL = '(', ')'
 _FRAME = CODE_BY_NAME['FRAME']
 _READONLY = CODE_BY_NAME['READONLY_BUFFER']
 _MOST_WALKED = 100_000
+_PIECE = 50_000  # (opcodes that are stepped over at once)
 # So far from the cursor something is shown before the pickle is read, and so many opcodes are shown behind one.
 _MOST_AHEAD = 20_000
 _SHOWN_AFTER = 3

@@ -10,18 +10,15 @@ from typing import TYPE_CHECKING, Dict, Iterable, Iterator, List, NamedTuple, Op
 from ..opcodes import BY_NAME
 from ..records import Reach
 from ..renaming.pairs import Names, Pairs, encoded_names, names_of
-from ..texts import HELD, NAMED_BY_TEXTS, end_of_texts
 from .edits import Edit, EditError, of_value
 
 if TYPE_CHECKING:
     from ..renaming.small import Small
-    from ..view.document import Document
+    from ..document import Document
 
-__all__ = ['Renaming', 'named_at', 'renamed_of', 'renaming', 'renaming_of']
+__all__ = ['Renaming', 'renamed_of', 'renaming', 'renaming_of']
 
 _STORES = ('MEMOIZE', 'PUT', 'BINPUT', 'LONG_BINPUT')
-# What may stand behind the number of an object.
-_BEHIND = (b' ', b')', b']', b'\n')
 _GETS = ('GET', 'BINGET', 'LONG_BINGET')
 _TEXTS = tuple(name for name in BY_NAME if 'UNICODE' in name or 'STRING' in name)
 
@@ -71,23 +68,13 @@ def renamed_of(reach: Reach, pairs: Pairs) -> Tuple[Optional[Names], Optional[Na
     return known, known and (pairs.of([names_of(reach.name), known]) or known)
 
 
-def named_at(heap: Union[bytes, bytearray], name: bytes) -> Iterator[int]:
-    """Where lines name an object, `#` and its number."""
-    for behind in _BEHIND:
-        at = heap.find(name + behind)
-        while at >= 0:
-            yield at
-            at = heap.find(name + behind, at + 1)
-
-
 class _Texts:
     """The texts that imports take from the stack, and what else each of them is."""
 
     def __init__(self, pickle: 'Union[Document, Small]', imports: Sequence[_Import]) -> None:
         self._pickle = pickle
         self._imports = imports
-        found = NAMED_BY_TEXTS.finditer(pickle.final.text)
-        self._parts = {int(match[1]): (int(match[2]), int(match[3])) for match in found}
+        self._parts = pickle.names_of_imports()
         self._uses = self._all_uses()
         self._stays: Set[int] = set()
 
@@ -108,17 +95,7 @@ class _Texts:
         if left is None:
             return texts
         found = texts & left
-        heap = self._pickle.final.text
-        return found | {number for number in texts - found if self._is_held(heap, b'#%d' % number)}
-
-    def _is_held(self, heap: Union[bytes, bytearray], name: bytes) -> bool:
-        """Whether an object holds another one, and not only as the name of an import."""
-        for at in named_at(heap, name):
-            start = heap.rfind(b'\n', 0, at) + 1
-            named = NAMED_BY_TEXTS.match(heap, start)
-            if at > max(end_of_texts(heap, start, heap.index(b'\n', at)), named.end() if named else 0) and HELD.match(heap, at - 1):
-                return True
-        return False
+        return found | self._pickle.held_as_data(texts - found)
 
     def edits(self) -> Tuple[List[Edit], List[int]]:
         """The edits, from the first place to the last, and the places of the texts that stay."""

@@ -6,49 +6,51 @@ import contextlib
 import re
 import shlex
 from bisect import bisect_right
-from itertools import accumulate, chain, islice
+from itertools import accumulate, chain
 from typing import Callable, Dict, List, Optional, Sequence, Tuple
 
 from ..comparing import compare
 from ..diff import of_reaches
+from ..document import Done
 from ..errors import NoResult, PicklestepError, Refused, reason
 from ..hints import OF_FRAMES, of_array, of_frame
+from ..lines import silent
 from ..opcodes import BY_NAME
+from ..patterns import pattern
 from ..plain import plainly
-from ..records import Ref
 from ..python_source import source
+from ..records import Ref
 from ..renaming.pairs import names_of, pairs_of
-from ..replies import entry_of, is_mark, last_words, number_in_word, stored_under, words_of
+from ..replies import entry_of, is_mark, last_words, number_in_word, stored_under
 from ..session import SHIFTS
 from ..sources import Source
-from ..view.document import Done
-from ..view.lines import silent
-from .breaks import BREAKS, Break, BreakError, is_hit, made_break, next_break
 from .between import Unknown, line_put
+from .breaks import BREAKS, Break, BreakError, is_hit, made_break, next_break
 from .displays import Display, made_display
 from .edits import Edit, EditError, of_object, of_value, of_words
-from .explain import taken
+from .explain import explained
 from .expressions import Expression, ExpressionError, split_condition
 from .nests import behind_mark, behind_next
 from .opened import Opened
 from .renames import Renaming, renaming
-from .shown import MOST_BYTES, latest, shown_argument, shown_bytes, shown_opcode
-from .words import WORDS, help_page, help_pages, no_word, understood, whole_word
+from .shown import MOST_BYTES, latest, question_of_whole, reached, said_of_part, shown_argument, shown_bytes, shown_opcode
+from .words import WORDS, help_page, help_pages, it_is, no_word, understood, whole_word
 
 __all__ = ['Shell', 'WordError']
 
 _AROUND = 3
 _MOST_LINES = 20
 _MOST_STACK = 3
-_MOST_TAKEN = 4
 # The cursor, as a place, and how other places are typed.
 _CURSOR = ('', '.', '$pc')
-_PLACE = re.compile(r'[@*]?(?:0x[0-9a-fA-F]+|[0-9]+)')
+_PLACE = pattern(r'[@*]?(?:0x[0-9a-fA-F]+|[0-9]+)')
 # A name or a pattern, as `break os.system` has it.
-_FUNCTION = re.compile(r'[\w*?]+(?:\.[\w*?]+)+')
+_FUNCTION = pattern(r'[\w*?]+(?:\.[\w*?]+)+')
 # Words that do nothing without what comes after them.
-_NEED = frozenset('goto until go clear off on condition find who show replace insert set rename frame'.split())
+_NEED = frozenset('goto until go clear off on condition find who show replace insert delete set rename frame'.split())
 _SHOW_OBJECTS = frozenset('step back goto until run go where explain show stack memo objects display'.split())
+# How it is said that something is not there, which may be in the rest where a part of the pickle is read.
+_NOT_THERE = pattern('there is no (?:opcode|object)|no opcode begins|in no opcode|no such|at the end|are read')
 # Words that may do with what is known before the pickle is read after an edit.
 _UNREAD = frozenset('where step back goto until list stack insert replace delete set undo'.split())
 
@@ -69,9 +71,10 @@ class Shell:
     """
 
     def __init__(self, pickle: Source, path: str, many: bool = False, ask: Optional[Callable[[str], bool]] = None, unframed: bool = False,
-                 container: str = '', progress: Callable[[str], None] = silent) -> None:
-        """`container` is the file that the pickle was opened in, which is not written over. While it is read, `progress` is given how far that is."""
-        self.pickle = Opened(pickle, path, many, progress, unframed=unframed)
+                 container: str = '', progress: Callable[[str], None] = silent, whole: bool = False) -> None:
+        """`container` is the file that the pickle was opened in, which is not written over. While it is read, `progress` is given how far that is. Of a
+        long pickle the first part is read, unless `whole` says that all of it is wanted."""
+        self.pickle = Opened(pickle, path, many, progress, unframed=unframed, whole=whole)
         self.pickle.container = container
         self.modes: Dict[str, bool] = {'many': many, 'unframed': unframed}
         self._path = path
@@ -125,7 +128,7 @@ class Shell:
             raise WordError(no_word(name))
         self._last = line if WORDS[name].is_again else ''
         if not text and name in _NEED or text and WORDS[name].usage == name:
-            raise WordError(f'it is: {WORDS[name].usage}')
+            raise WordError(it_is(name))
         try:
             if name in _UNREAD and self.pickle.is_unread and not self.pickle.is_read and self._unchecked is None:
                 with contextlib.suppress(Unknown):
@@ -134,11 +137,15 @@ class Shell:
             self._check_names()  # (of a rename that was interrupted)
             return self._done(name, text)
         except Refused as error:
-            raise WordError(f'refused: {plainly(error.text)}') from error
+            raise WordError(self._of_part(f'refused: {plainly(error.text)}')) from error
         except (EditError, ValueError, TypeError, OverflowError, OSError, PicklestepError) as error:
-            raise WordError(str(error)) from error
+            raise WordError(self._of_part(str(error))) from error
         except Exception as error:  # (edits are not lost for what went wrong in one word)
             raise WordError(f'{name} failed: {type(error).__name__}: {error}') from error
+
+    def _of_part(self, text: str) -> str:
+        """Why a word cannot be done; where something is not there, also that the pickle has more than is read."""
+        return '\n'.join([text, *self.pickle.kept]) if self.pickle.is_part and _NOT_THERE.search(text) else text
 
     def _done(self, name: str, text: str) -> str:
         """What a word answers; behind one that goes somewhere, what is displayed there."""
@@ -148,7 +155,8 @@ class Shell:
     def _note(self, name: str) -> str:
         """What is to be known of the objects that a word has shown: where there are many, they are not those at the cursor."""
         is_other = name in _SHOW_OBJECTS and self.pickle.place < len(self.pickle.lines) and not self.pickle.is_exact
-        return '\n(What objects hold is as it is at the end.)' if is_other else ''
+        end = 'the end of what is read' if self.pickle.is_part else 'the end'
+        return f'\n(What objects hold is as it is at {end}.)' if is_other else ''
 
     def _obey_unread(self, name: str, text: str) -> str:
         """Does what a word says by what is known before the pickle is read after an edit. Where that does not do, nothing is done."""
@@ -221,7 +229,7 @@ class Shell:
         where = self.pickle.at_cursor()
         rows = self._rows(where.place - _AROUND, where.place + _AROUND, where.place)
         if where.place == where.places:
-            rows += [f'>  {where.place:>6} {where.offset:>5}: the end: {where.end.text}', *self.pickle.kept]
+            rows += [f'>  {where.place:>6} {where.offset:>5}: {self.pickle.end_text}', *self.pickle.kept]
         rows += self.hints(where.offset)
         rows.append(f'stack: {self._top()}')
         made = self.pickle.made_before(where.place)[0]
@@ -234,10 +242,11 @@ class Shell:
     def hints(self, offset: Optional[int] = None) -> List[str]:
         """Where else to look for what is not read here, as far as that is known at an offset."""
         array, end = self.pickle.array_at, self.pickle.session.where().end
+        part = [said_of_part(self.pickle)] if self.pickle.is_part and offset is None else []
         found = [] if array is None or offset is not None and offset < array else [of_array(array)]
         is_at_end = offset is None or end.offset is not None and offset >= end.offset
         found += [of_frame('shell')] if end.code in OF_FRAMES and is_at_end else []
-        return [f'({hint[:1].upper()}{hint[1:]}.)' for hint in found]
+        return [*part, *(f'({hint[:1].upper()}{hint[1:]}.)' for hint in found)]
 
     def _changed(self, begin: int, known: int, end: int, made: int) -> List[str]:
         """What the opcodes from a place on before another did: the objects that they made, changed and stored, the latest of each."""
@@ -317,7 +326,7 @@ class Shell:
 
     def _do_run(self, text: str) -> str:
         if text not in ('', 'back'):
-            raise WordError(f'it is: {WORDS["run"].usage}')
+            raise WordError(it_is('run'))
         before = self._now()
         if text:
             return self._here(before, '' if self.run_back() else 'no break before this: the start')
@@ -474,36 +483,28 @@ class Shell:
         return '\n'.join([*self._rows(first, last, here), *(self.pickle.kept if last >= len(self.pickle.lines) else [])])
 
     def _do_calls(self, text: str) -> str:
-        offsets, answer = self.pickle.reaches.offsets, self.pickle.reaches.answer
         first = self._count(text) - 1
         if first < 0:
             raise WordError('calls counts from 1')
-        rows = [f'{offsets[at]:>7}: {answer[at].text}' for at in range(first, min(len(offsets), first + _MOST_LINES))]
-        if first + _MOST_LINES < len(offsets):
-            rows.append(f'.. {len(offsets) - first - _MOST_LINES} more: calls {first + _MOST_LINES + 1}')
-        if self.pickle.reaches.is_part:
-            return '\n'.join([*rows, *self.pickle.reaches.behind, *self.pickle.kept])
-        rows.append(f'{answer.imports} imports, {answer.calls} calls, {answer.end.text}')
-        for part in answer.parts:
-            rows.append(f'{part.heading}:')
-            rows += [f'{reach.offset:>7}: {reach.text}' for reach in islice(part, _MOST_LINES)]
-            rows.append(f'{part.imports} imports, {part.calls} calls, it ends: {part.end.text}')
-        return '\n'.join(rows + self.pickle.kept)
+        return '\n'.join(reached(self.pickle, first, _MOST_LINES))
 
     def _do_find(self, text: str) -> str:
         here = self._now()[0]
         found = self.pickle.find(text, self._found[2] if self._found[:2] == (text, here) else here)
         if found is None:
             raise WordError(f'{text[:40]!r} is in no opcode')
+        is_again = self.pickle.is_part and found <= (self._found[2] if self._found[:2] == (text, here) else here)
         self._found = text, here, found
-        return '\n'.join(self._rows(found - 1, found + 2, here)) + f'\nat {found}'
+        return '\n'.join([*self._rows(found - 1, found + 2, here), f'at {found}', *(self.pickle.kept if is_again else [])])
 
     def _do_hex(self, text: str) -> str:
         words = text.split() or ['']
         if len(words) > 2:
-            raise WordError(f'it is: {WORDS["hex"].usage}')
+            raise WordError(it_is('hex'))
         content = self.pickle.content()
         if len(words) > 1 and _PLACE.fullmatch(words[0]) and _is_offset(words[0]):
+            if self.pickle.is_part and _number(words[0]) >= len(content):
+                raise WordError(f'only {len(content):,} bytes are read')
             return shown_bytes(content, _number(words[0]), _number(words[0]) + self._count(words[1]))
         place = self._place(words[0])
         if place >= len(self.pickle.lines):
@@ -517,37 +518,8 @@ class Shell:
             return f'{text.upper()}: {BY_NAME[text.upper()].sentence}'
         place = self._place(text)
         if place >= len(self.pickle.lines):
-            return '\n'.join([f'the end: {self.pickle.session.where().end.text}', *self.pickle.kept])
-        line = self.pickle.lines.at(place)
-        rows = [f'{line.name}: {BY_NAME[line.name].sentence}', *(f'here: {reached}' for reached in self.pickle.calls_at(place, line))]
-        if place == self._now()[0]:
-            rows.append(f'the stack before it: {self._top()}')
-        number = self.pickle.makes(place)
-        with self.pickle.before(place) as is_there:
-            if number is not None:
-                made = self.pickle.final_object(number)
-                takes = self._numbered([f'#{part}' for part in made.parts] if made is not None else [])
-                rows.append(f'it makes #{number}' + (f' of {takes}' if takes else ''))
-            else:
-                why = self.pickle.refusal() if is_there else ''
-                takes = BY_NAME[line.name].takes and (self._taken(line.name) if is_there and not why else BY_NAME[line.name].takes)
-                rows += [f'it is refused here: {plainly(why)}'] if why else [f'it takes {takes}'] if takes else []
-        return '\n'.join(rows)
-
-    def _taken(self, name: str) -> str:
-        """What an opcode at the cursor takes from the stack."""
-        shown = []
-        for word, entries in taken(name, words_of(self.pickle.session.ask('stack'))):
-            if entries and is_mark(entries[0]):
-                shown.append(f'the mark of {number_in_word(entries[0])}')
-            elif entries:
-                shown.append(f'{word.partition(" or ")[0]} {self._numbered(entries)}')
-        return ', '.join(shown)
-
-    def _numbered(self, objects: Sequence[str]) -> str:
-        """Objects by their numbers, the first of them."""
-        more = [f'.. {len(objects) - _MOST_TAKEN} more'] if len(objects) > _MOST_TAKEN else []
-        return ', '.join([f'{each} {self.pickle.described(number_in_word(each), 0)}' for each in objects[:_MOST_TAKEN]] + more)
+            return '\n'.join([self.pickle.end_text, *self.pickle.kept])
+        return '\n'.join(explained(self.pickle, place, self._top() if place == self._now()[0] else None))
 
     def _do_who(self, text: str) -> str:
         maker = self._maker(text)
@@ -557,7 +529,8 @@ class Shell:
         rows = ['made by', *self._rows(maker, maker + 1, here)]
         if changes:
             rows += ['changed by', *(self._row(place, here) for place in changes[:_MOST_LINES])]
-        return '\n'.join(rows + ([f'.. {len(changes) - _MOST_LINES} more'] if len(changes) > _MOST_LINES else []))
+        more = [f'.. {len(changes) - _MOST_LINES} more'] if len(changes) > _MOST_LINES else []
+        return '\n'.join([*rows, *more, *(self.pickle.kept if self.pickle.is_part else [])])
 
     def _do_show(self, text: str) -> str:
         self._here()
@@ -603,8 +576,14 @@ class Shell:
 
     def _do_source(self, text: str) -> str:
         if text not in ('', 'full'):
-            raise WordError(f'it is: {WORDS["source"].usage}')
-        return source(self.pickle.content(), full=text == 'full', **self.modes).text.rstrip('\n')
+            raise WordError(it_is('source'))
+        return self.source(text == 'full').rstrip('\n')
+
+    def source(self, full: bool = False) -> str:
+        """The pickle as Python source; of a part, its opcodes and the stack behind them."""
+        content, first = self.pickle.content(), len(self.pickle.lines) if self.pickle.is_part else None
+        # (with an opcode behind those that are wanted, so that it is said of them that they are the first)
+        return source(content if first is None else content + b'.', full=full, first=first, **self.modes).text
 
     # --- Edits ---
 
@@ -679,7 +658,7 @@ class Shell:
     def _do_frame(self, text: str) -> str:
         words = text.split()
         if len(words) != 2:
-            raise WordError(f'it is: {WORDS["frame"].usage}')
+            raise WordError(it_is('frame'))
         return self.edit([Edit('frame', self._place(words[0]), members=self._count(words[1]))])
 
     def _do_unframe(self, text: str) -> str:
@@ -688,13 +667,15 @@ class Shell:
     def _do_set(self, text: str) -> str:
         match = re.fullmatch(r'#?([0-9]+) to (.+)', text)
         if match is None:
-            raise WordError(f'it is: {WORDS["set"].usage}')
+            raise WordError(it_is('set'))
         return self.edit([of_object(self.pickle, int(match[1]), match[2])])
 
     def _do_rename(self, text: str) -> str:
         words = text.split()
         if len(words) != 2:
-            raise WordError(f'it is: {WORDS["rename"].usage}')
+            raise WordError(it_is('rename'))
+        if self.pickle.is_part:
+            raise WordError('rename needs all of the pickle: `whole` reads it. (`picklestep rename` reads all of a file.)')
         found = renaming(self.pickle, pairs_of([(words[0], words[1])]))
         end = self.pickle.reaches.answer.end
         if not found.edits:
@@ -746,8 +727,11 @@ class Shell:
     def _do_diff(self, text: str) -> str:
         if self.pickle.content() == self._original:
             return 'as the file'
-        rows = [f'{len(self._original)} bytes -> {len(self.pickle.content())} bytes']
+        rest = self.pickle.rest_size
+        rows = [f'{len(self._original) + rest} bytes -> {len(self.pickle.content()) + rest} bytes']
         rows += [self._row(place, -1) for place in sorted(self.pickle.edited)[:_MOST_LINES] if place < len(self.pickle.lines)]
+        if self.pickle.is_part:
+            return '\n'.join([*rows, '(What the results differ in is known once `whole` has read all.)'])
         try:
             differences = [*map(str, compare(self._original, self.pickle.content(), **self.modes))]
         except NoResult as error:
@@ -755,6 +739,16 @@ class Shell:
             differences = list(of_reaches(self._original, self.pickle.content(), self.modes['unframed']))
         more = [f'.. {len(differences) - _MOST_LINES} more'] if len(differences) > _MOST_LINES else []
         return '\n'.join([*rows, *differences[:_MOST_LINES], *more, *self.pickle.kept])
+
+    def _do_whole(self, text: str) -> str:
+        if not self.pickle.is_part:
+            return 'all of it is read'
+        if self.ask is not None and not self.ask(question_of_whole(*self.pickle.of_whole)):
+            return 'not read'
+        rest = self.pickle.read_whole()
+        self._original += rest
+        self._saved_bytes += rest
+        return '\n'.join([f'all {len(self.pickle.lines):,} opcodes are read', self._here()])
 
     def _do_save(self, text: str) -> str:
         words = _names(text)

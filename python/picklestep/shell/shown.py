@@ -2,13 +2,15 @@
 
 from __future__ import annotations
 
+from itertools import islice
 from typing import List
 
 from ..comparing import shown_value
+from ..lines import line_of
 from ..texts import LinesError, opcode_of
-from ..view.lines import line_of
+from .opened import Opened
 
-__all__ = ['MOST_BYTES', 'latest', 'shown_argument', 'shown_bytes', 'shown_opcode']
+__all__ = ['MOST_BYTES', 'latest', 'question_of_whole', 'reached', 'said_of_part', 'shown_argument', 'shown_bytes', 'shown_opcode']
 
 # The most bytes that are shown at once.
 MOST_BYTES = 256
@@ -46,3 +48,39 @@ def shown_bytes(content: bytes, start: int, end: int) -> str:
 
 def _letters(data: bytes) -> str:
     return ''.join(chr(byte) if 32 <= byte < 127 else '.' for byte in data)
+
+
+def reached(pickle: Opened, first: int, most: int) -> List[str]:
+    """What all of a pickle imports and calls, from one line on, and how that ends."""
+    reaches = pickle.all_reaches()
+    offsets, answer = reaches.offsets, reaches.answer
+    kept = [f'kept: {answer.kept} bytes after STOP (try --many)'] * bool(answer.kept) if pickle.is_part else pickle.kept
+    rows = [f'{offsets[at]:>7}: {answer[at].text}' for at in range(first, min(len(offsets), first + most))]
+    if first + most < len(offsets):
+        rows.append(f'.. {len(offsets) - first - most} more: calls {first + most + 1}')
+    if reaches.is_part:
+        return [*rows, *reaches.behind, *kept]
+    rows.append(f'{answer.imports} imports, {answer.calls} calls, {answer.end.text}')
+    for part in answer.parts:
+        rows.append(f'{part.heading}:')
+        rows += [f'{reach.offset:>7}: {reach.text}' for reach in islice(part, most)]
+        rows.append(f'{part.imports} imports, {part.calls} calls, it ends: {part.end.text}')
+    return rows + kept
+
+
+def said_of_part(pickle: Opened) -> str:
+    """What is said of a pickle whose first part alone is read."""
+    size, rest = len(pickle.content()), pickle.rest_size
+    return (f'(These are the first {len(pickle.lines):,} opcodes: {size:,} of {size + rest:,} bytes. `whole` reads the rest.\n'
+            '`calls` and `save` are of the whole pickle, all other words of these opcodes.)')
+
+
+def question_of_whole(seconds: int, size: int) -> str:
+    """What is asked before all of a pickle is read, which may take so many seconds and bytes.
+
+    >>> question_of_whole(130, 5_200_000_000)
+    'It may take 2 minutes and 5.2 GB of memory. Read all of it? (yes/no) '
+    """
+    time = f'{seconds} seconds' if seconds < 120 else f'{seconds // 60} minutes'
+    memory = f'{size / 1e9:.1f} GB' if size > 1e9 else f'{size // 1_000_000} MB'
+    return f'It may take {time} and {memory} of memory. Read all of it? (yes/no) '

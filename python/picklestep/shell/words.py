@@ -2,10 +2,11 @@
 
 from __future__ import annotations
 
-import re
 from typing import Dict, List, NamedTuple, Tuple
 
-__all__ = ['OTHERS', 'SAMPLE', 'WORDS', 'Word', 'examples', 'help_page', 'help_pages', 'no_word', 'understood', 'whole_word']
+from ..patterns import pattern
+
+__all__ = ['OTHERS', 'SAMPLE', 'WORDS', 'Word', 'examples', 'help_page', 'help_pages', 'it_is', 'no_word', 'understood', 'whole_word']
 
 # The pickle of the examples: a call of a function of a module that was renamed.
 SAMPLE = b'\x80\x02coldapp.tasks\nsend\nq\x00X\x03\x00\x00\x00bobq\x01K\x03\x86q\x02Rq\x03.'
@@ -45,7 +46,7 @@ WORDS: Dict[str, Word] = {
     'where': Word('look', 'where', 'Shows the place with its neighbours, and the top of the stack.', ('where',)),
     'list': Word('look', 'list [PLACE [PLACE | +N]]', 'Shows opcodes, up to a place or N of them, else 20, each with what it imports or calls; again those behind them.',
              ('list 0 3',), True),
-    'calls': Word('look', 'calls [N]', 'Shows what the pickle imports and calls, from line N on.', ('calls',)),
+    'calls': Word('look', 'calls [N]', 'Shows what the pickle imports and calls, from line N on; also of a long pickle all of it.', ('calls',)),
     'find': Word('look', 'find TEXT', 'Finds the next opcode that has a text in its line or argument, or an offset; again the one behind it.',
                  ('find bob',), True),
     'hex': Word('look', 'hex [PLACE [COUNT]]', 'Shows the bytes of an opcode, or so many from its first.', ('hex 1', 'hex @2 32')),
@@ -68,7 +69,7 @@ WORDS: Dict[str, Word] = {
                     ("replace @23 'alice'", 'replace 5 70000')),
     'insert': Word('edit', 'insert [PLACE] VALUE | NAME [VALUE] | NAME hex BYTES', 'Puts an opcode before a place.',
                    ('insert 10 POP', 'insert 10 None')),
-    'delete': Word('edit', 'delete [PLACE]', 'Takes an opcode out.', ('delete 9',)),
+    'delete': Word('edit', 'delete PLACE', 'Takes an opcode out; `delete .` the one at the cursor.', ('delete 9',)),
     'set': Word('edit', 'set N to VALUE', 'Replaces the opcode that makes object N.', ('set 2 to 41',)),
     'rename': Word('edit', 'rename OLD NEW',
                    'Renames a module in all imports. MODULE:NAME is one name: NEW is a name in that module, or MODULE:NAME. MODULE.* is what is below a '
@@ -79,6 +80,9 @@ WORDS: Dict[str, Word] = {
     'undo': Word('edit', 'undo', 'Takes back what the latest word edited.', ('delete 9', 'undo')),
     'redo': Word('edit', 'redo', 'Makes again what was taken back.', ('delete 9', 'undo', 'redo')),
     'diff': Word('file', 'diff', 'Shows what was edited, and what the results differ in.', ("set 2 to 'x'", 'diff')),
+    'whole': Word('file', 'whole',
+                  'Reads all of a long pickle, of which the first opcodes alone were read, and says before what that may take. Edits and breaks stay.',
+                  ('whole',)),
     'save': Word('file', 'save [FILE]', 'Writes the pickle as it is; without FILE to the file that was opened. A name with blanks is in quotes.',
                  ('set 2 to 41', 'save /dev/null')),
     'quit': Word('file', 'quit', 'Ends. It asks where something is not saved.', ('quit',)),
@@ -97,13 +101,18 @@ OTHERS: Dict[str, Tuple[str, str]] = {
     'reverse-continue': ('run', 'back'), 'cont': ('run', ''), 'start': ('goto', '0'), 'jump': ('goto', ''), 'advance': ('until', ''),
     **dict.fromkeys(('print', 'pp', 'inspect', 'ptype', 'whatis'), ('show', '')), **dict.fromkeys(('disassemble', 'disas', 'll'), ('list', '')),
     **dict.fromkeys(('backtrace', 'bt'), ('stack', '')), 'watch': ('break', 'change'), 'rwatch': ('break', 'memo'), 'disable': ('off', ''),
-    'enable': ('on', ''), 'search': ('find', '')}
+    'enable': ('on', ''), 'search': ('find', ''), 'fin': ('out', ''), 'dis': ('off', ''), 'en': ('on', ''), 'j': ('goto', '')}
 
 # Words of gdb and pdb that are none here, and what does something of the kind.
 _NO_WORDS: Dict[str, str] = {
-    'tbreak': '`until PLACE` goes on to a place', 'commands': '`display` shows something wherever the cursor stops', 'kill': '`quit` ends',
+    **dict.fromkeys(('tbreak', 'tb'), '`until PLACE` goes on to a place, and `run` then goes on from there'), 'commands': '`display` shows something wherever the cursor stops', 'kill': '`quit` ends',
     'ignore': 'a break may have a condition, as `condition 1 place > 8`', 'args': '`explain` shows what an opcode takes',
     **dict.fromkeys(('up', 'down'), '`stack` shows all of the stack'), **dict.fromkeys(('d', 'del'), '`clear N` takes a break away, `delete PLACE` an opcode')}
+
+# What else may have been meant by who gives a word what it does not take.
+_MEANT: Dict[str, str] = {
+    'delete': '`clear N` takes a break away', 'frame': '`where` shows where you are, and `stack` the stack with its marks',
+    'set': 'N is the number of an object, as `made:` and `show` have it'}
 
 # Those that `help` shows.
 _SHOWN = ('next', 'finish', 'reverse-step', 'reverse-continue', 'print', 'disassemble', 'bt', 'watch', 'disable', 'enable')
@@ -114,17 +123,19 @@ _INFO: Dict[str, str] = {
 _INFO_IS = 'info breakpoints, info stack, info frame, info variables or info functions'
 # Bytes of a unit, as `x/8xw` has it.
 _UNITS = {'b': 1, 'h': 2, 'w': 4, 'g': 8}
-_EXAMINE = re.compile(r'x/([0-9]{0,6})([a-z]{0,2})')
+_EXAMINE = pattern(r'x/([0-9]{0,6})([a-z]{0,2})')
 # A word that prints, with a form, of which there is one and that of opcodes; and a key of the memo, to be watched.
-_PRINT = re.compile(r'(p|print|inspect|display)/([a-z0-9]+)')
-_KEY = re.compile(r'memo ?\[?([0-9]+)\]?')
+_PRINT = pattern(r'(p|print|inspect|display)/([a-z0-9]+)')
+_KEY = pattern(r'memo ?\[?([0-9]+)\]?')
+# An object and its new value, as gdb has them.
+_SET = pattern(r'(?:var(?:iable)?\s+)?#?([0-9]+)\s*=\s*(.+)')
 
 
 def understood(line: str) -> Tuple[str, str]:
     """The word of a line and what comes after it, both as the shell has them. Raises ValueError where `info` has nothing to show.
 
-    >>> understood('x/16xb @23'), understood('info b'), understood('reverse-continue')
-    (('hex', '@23 16'), ('break', ''), ('run', 'back'))
+    >>> understood('x/16xb @23'), understood('info b'), understood('set var 2 = 3')
+    (('hex', '@23 16'), ('break', ''), ('set', '2 to 3'))
     """
     word, _, rest = line.partition(' ')
     rest = rest.strip()
@@ -134,11 +145,14 @@ def understood(line: str) -> Tuple[str, str]:
         if 'i' in examined[2]:
             return 'list', f'{place} +{count}'
         return 'hex', f'{place} {count * max([_UNITS.get(letter, 1) for letter in examined[2]], default=1)}'
-    if word == 'info':
+    if word in ('info', 'i'):
         found = [name for known, name in _INFO.items() if rest and known.startswith(rest)]
         if not found:
             raise ValueError(f'it is: {_INFO_IS}')
         return found[0], ''
+    assigned = _SET.fullmatch(rest) if word == 'set' else None
+    if assigned is not None:
+        return 'set', f'{assigned[1]} to {assigned[2]}'
     printed, key = _PRINT.fullmatch(word), _KEY.match(rest) if word == 'watch' else None
     if key is not None:
         return 'break', f'store {key[1]}{rest[key.end():]}'
@@ -159,11 +173,20 @@ def whole_word(word: str) -> Tuple[str, str]:
     return (known[0], '') if len(known) == 1 else (word, '')
 
 
+def it_is(name: str) -> str:
+    """What is said where a word is given what it does not take.
+
+    >>> it_is('delete')
+    'it is: delete PLACE (`clear N` takes a break away)'
+    """
+    return f'it is: {WORDS[name].usage}' + (f' ({_MEANT[name]})' if name in _MEANT else '')
+
+
 def no_word(word: str) -> str:
     """What is said of a word that is none.
 
-    >>> no_word('tbreak'), no_word('stepp')
-    ("there is no word 'tbreak': `until PLACE` goes on to a place", "there is no word 'stepp'; `help` shows them")
+    >>> no_word('kill'), no_word('stepp')
+    ("there is no word 'kill': `quit` ends", "there is no word 'stepp'; `help` shows them")
     """
     return f'there is no word {word[:40]!r}' + (f': {_NO_WORDS[word]}' if word in _NO_WORDS else '; `help` shows them')
 
