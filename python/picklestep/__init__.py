@@ -12,26 +12,30 @@ What is public is imported when it is first used: the entrance starts faster, an
 __version__ = '1.1.0'
 
 __all__ = ['Again', 'Answer', 'Argument', 'Brief', 'Briefs', 'Call', 'Calls', 'Change', 'Difference', 'End', 'Extension', 'FoundPickle', 'FoundPickles',
-           'GateAnswer', 'Global', 'Heap', 'Item', 'Items', 'Listing', 'Mark', 'Member', 'MemoSize', 'Name', 'NoResult', 'NotAllowed', 'NotConverted', 'NotOpened', 'NotRenamed', 'Object', 'Objects',
+           'GateAnswer', 'Global', 'Heap', 'Item', 'Items', 'Listing', 'Mark', 'Member', 'MemoSize', 'Name', 'NoResult', 'NotAllowed', 'NotAssembled', 'NotConverted', 'NotOpened', 'NotRenamed', 'Object', 'Objects',
            'Opcode', 'OtherForm', 'OutOfMemory', 'Part', 'PathSize', 'PicklestepError', 'PlainValue', 'ProgramError', 'PythonSource', 'Ran', 'Reach', 'ReachAnswer', 'Reached', 'Ref',
-           'Refused', 'Renamed', 'RenamedImport', 'Saving', 'Session', 'Shown', 'ShownObjects', 'Sized', 'Sizes', 'TimedOut', 'TooLarge', 'Value', 'Where', 'calls', 'check', 'compare', 'convert', 'form', 'gate',
+           'Refused', 'Renamed', 'RenamedImport', 'Saving', 'Session', 'Shown', 'ShownObjects', 'Sized', 'Sizes', 'TimedOut', 'TooLarge', 'Value', 'Where', 'assemble', 'calls', 'check', 'compare', 'convert', 'form', 'gate',
            'listing', 'members', 'objects', 'optimize', 'pickles_in', 'reach', 'rename', 'size', 'source', 'tree']
 
 TYPE_CHECKING = False  # (`typing` would be an import)
 if TYPE_CHECKING:
     from .addresses import FoundPickle, FoundPickles, pickles_in
-    from .answers import Answer, Calls, Heap, Items, Listing, Objects, Part, Reached, ShownObjects
+    from .answers import Answer, Calls, Listing, Objects, Part, Reached
+    from .assembling import assemble
     from .comparing import Difference, compare
     from .converting import convert
-    from .errors import NoResult, NotAllowed, NotConverted, NotOpened, NotRenamed, OutOfMemory, PicklestepError, ProgramError, Refused, TimedOut, TooLarge
+    from .errors import NoResult, NotAllowed, NotAssembled, NotConverted, NotOpened, NotRenamed, OutOfMemory, PicklestepError, ProgramError, Refused, TimedOut, TooLarge
+    from .listing_records import Change, Object, Opcode
     from .optimizing import optimize
     from .python_source import PythonSource, source
-    from .records import (Argument, Brief, Briefs, Change, End, Extension, GateAnswer, Global, Item, Mark, Member, Name, Object, Opcode, OtherForm,
-                          Ran, Reach, ReachAnswer, Ref, Shown, Value, Where)
+    from .records import Argument, Brief, Briefs, End, Extension, Global, Name, Reach, Ref, Value
     from .renaming.one import Renamed, RenamedImport, rename
     from .scan.checking import check
     from .scan.gating import gate
     from .session import Session
+    from .session_answers import Heap, Items, ShownObjects
+    from .session_records import Item, Mark, Ran, Shown, Where
+    from .short_records import GateAnswer, Member, OtherForm, ReachAnswer
     from .sizing import Again, MemoSize, PathSize, Saving, Sized, Sizes, size
     from .tasks import calls, form, listing, members, objects, reach
     from .trees import Call, tree
@@ -41,18 +45,22 @@ if TYPE_CHECKING:
 # its place.
 _MODULES = {
     'addresses': ('FoundPickle', 'FoundPickles', 'pickles_in'),
-    'answers': ('Answer', 'Calls', 'Heap', 'Items', 'Listing', 'Objects', 'Part', 'Reached', 'ShownObjects'),
+    'answers': ('Answer', 'Calls', 'Listing', 'Objects', 'Part', 'Reached'),
+    'assembling': ('assemble',),
     'comparing': ('Difference', 'compare'),
     'converting': ('convert',),
-    'errors': ('NoResult', 'NotAllowed', 'NotConverted', 'NotOpened', 'NotRenamed', 'OutOfMemory', 'PicklestepError', 'ProgramError', 'Refused', 'TimedOut', 'TooLarge'),
+    'errors': ('NoResult', 'NotAllowed', 'NotAssembled', 'NotConverted', 'NotOpened', 'NotRenamed', 'OutOfMemory', 'PicklestepError', 'ProgramError', 'Refused', 'TimedOut', 'TooLarge'),
+    'listing_records': ('Change', 'Object', 'Opcode'),
     'optimizing': ('optimize',),
     'python_source': ('PythonSource', 'source'),
-    'records': ('Argument', 'Brief', 'Briefs', 'Change', 'End', 'Extension', 'GateAnswer', 'Global', 'Item', 'Mark', 'Member', 'Name', 'Object', 'Opcode',
-                'OtherForm', 'Ran', 'Reach', 'ReachAnswer', 'Ref', 'Shown', 'Value', 'Where'),
+    'records': ('Argument', 'Brief', 'Briefs', 'End', 'Extension', 'Global', 'Name', 'Reach', 'Ref', 'Value'),
     'renaming.one': ('Renamed', 'RenamedImport', 'rename'),
     'scan.checking': ('check',),
     'scan.gating': ('gate',),
     'session': ('Session',),
+    'session_answers': ('Heap', 'Items', 'ShownObjects'),
+    'session_records': ('Item', 'Mark', 'Ran', 'Shown', 'Where'),
+    'short_records': ('GateAnswer', 'Member', 'OtherForm', 'ReachAnswer'),
     'sizing': ('Again', 'MemoSize', 'PathSize', 'Saving', 'Sized', 'Sizes', 'size'),
     'tasks': ('calls', 'form', 'listing', 'members', 'objects', 'reach'),
     'trees': ('Call', 'tree'),

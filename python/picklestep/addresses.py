@@ -12,16 +12,16 @@ from dataclasses import dataclass
 from importlib import import_module
 from typing import TYPE_CHECKING, Any, List, Optional, Sequence, Tuple, Union, overload
 
-from .errors import NotOpened
-from .opens import BETWEEN, has_zip_behind, holds_others, is_at_server, may_have_arrays, split
-from .sources import Source, is_opened
+from .errors import NotOpened, PicklestepError
+from .opens import BETWEEN, begins_gated, has_zip_behind, holds_others, is_at_server, is_gated_whole, may_have_arrays, split
+from .sources import Source, content_of, is_opened
 from .wording import shown
 
 if TYPE_CHECKING:
     from .scan.finder import Finding, Found
 
-__all__ = ['FoundPickle', 'FoundPickles', 'Opened', 'arrays_of', 'bytes_at', 'ends_early', 'given', 'holes_of', 'is_in', 'left_out', 'opened', 'opened_in',
-           'pickles_in', 'quoted', 'ranges', 'zip_behind']
+__all__ = ['FoundPickle', 'FoundPickles', 'Opened', 'arrays_of', 'bytes_at', 'check_out', 'content_in', 'ends_early', 'gated', 'given', 'holes_of', 'is_in', 'left_out', 'opened',
+           'opened_in', 'pickles_in', 'quoted', 'ranges', 'said_of', 'saved', 'zip_behind']
 
 # So many addresses are shown, and so many lines of what was not looked at.
 _MOST_SHOWN = 100
@@ -33,13 +33,14 @@ _MOST_RANGES = 3
 @dataclass(frozen=True)
 class Opened:
     """A pickle that was opened in a file: its address, its bytes, and what is said of it, a line each. `skip` are the bytes that are no opcodes, as
-    `calls` takes them, and `path` is the file."""
+    `calls` takes them, and `path` is the file. It `is_marked` where `scan` marks something on the way to it."""
 
     path: str
     address: str
     content: bytes
     skip: Tuple[Tuple[int, int], ...] = ()
     said: Tuple[str, ...] = ()
+    is_marked: bool = False
 
 
 @dataclass(frozen=True)
@@ -92,7 +93,8 @@ def pickles_in(path: 'Union[str, os.PathLike[str]]') -> FoundPickles:
     """The pickles in a file or on a server, or below an address there: those that `picklestep scan` finds, by its readers and within its limits.
 
     `calls` and the other functions take each address. A file that is a pickle itself has its own path for one. Raises OSError where the file or the
-    server cannot be read. (The word `members` of the command line is another one: it lists what a zip archive has, whatever that is.)
+    server cannot be read, and NotOpened where nothing has the address. (The word `members` of the command line is another one: it lists what a zip
+    archive has, whatever that is.)
 
     >>> import pathlib, zipfile
     >>> with zipfile.ZipFile('two.zip', 'w') as archive:
@@ -109,14 +111,24 @@ def pickles_in(path: 'Union[str, os.PathLike[str]]') -> FoundPickles:
     else:
         with open(file, 'rb'):  # (which says why it cannot be read)
             pass
-        finding = _finder().find(file, address)
+        finding = _found_in(file, address)
     if finding.error is not None:
         raise OSError(f'cannot read {shown(file)}: {finding.error}')
+    if address and not finding.found and not finding.kinds and finding.content is None:
+        raise NotOpened('\n'.join(_Choice(file, address, finding).where_else()))
     return FoundPickles([FoundPickle(_address(file, each.name), each.size, each.raw, each.kind) for each in finding.found], finding.missed)
 
 
 def _finder() -> Any:
     return import_module('picklestep.scan.finder')
+
+
+def _found_in(file: str, address: str, of_any: bool = False) -> Finding:
+    """What is at an address in a file, `of_any` with the bytes there. (What only `scan --everywhere` finds has a place in brackets.)"""
+    finding: Finding = _finder().find(file, address, of_any=of_any)
+    if '(' in address and not finding.found and finding.content is None:
+        finding = _finder().find(file, address, everywhere=True)
+    return finding
 
 
 def _address(file: str, name: str) -> str:
@@ -130,21 +142,47 @@ def opened_in(source: Source) -> Optional[Opened]:
     return opened(os.fsdecode(source)) if isinstance(source, (str, os.PathLike)) else None
 
 
+def content_in(source: Source) -> bytes:
+    """The bytes of a source; of an address or a container those of the pickle that is opened. Raises NotOpened, and what `open` raises."""
+    found = opened_in(source)
+    return content_of(source) if found is None else found.content
+
+
 def opened(word: str) -> Optional[Opened]:
     """The pickle at an address; that in a container, where it has one. None where the file is read as it is. Raises NotOpened where no one pickle is
     meant."""
+    choice = _choice(word)
+    return None if choice is None else choice.opened()
+
+
+def _choice(word: str, of_any: bool = False) -> Optional[_Choice]:
+    """What there is to choose from. None where the file is read as it is."""
     parts = split(word)
     if is_at_server(word):
         return _of_server(*(parts or (word, '')))
     if parts is None and (is_opened(word) or not holds_others(word)):
         return None
     file, address = parts or (word, '')
-    finding = _finder().find(file, address)
-    if '(' in address and not finding.found and finding.content is None:
-        finding = _finder().find(file, address, everywhere=True)
+    finding = _found_in(file, address, of_any)
     if finding.error is not None:
         raise NotOpened(f'cannot read {shown(file)}: {finding.error}')
-    return _Choice(file, address, finding).opened()
+    return _Choice(file, address, finding)
+
+
+def gated(word: str) -> Optional[Opened]:
+    """What `gate` looks at: the same as `opened`, but for what the program opens itself. That is given whole, also at an address. Raises NotOpened
+    where `scan` marks something in a container: its loaders may find something else in it."""
+    choice = None if is_gated_whole(word) else _choice(word, of_any=True)
+    if choice is None:
+        return None
+    content = choice.finding.content
+    if choice.address and content is not None and begins_gated(content) and not choice.finding.is_of_several:
+        return Opened(choice.file, word, content, (), (f'opened {quoted(word)} ({len(content):,} bytes)',), bool(choice.finding.missed))
+    found = choice.opened()
+    if found is not None and found.is_marked and not choice.address:
+        head = f'scan marks something in the container {shown(word)}, so gate does not open it; the pickle in it has the address {quoted(found.address)}'
+        raise NotOpened('\n'.join([head, *found.said[1:]]))
+    return found
 
 
 def bytes_at(word: str) -> bytes:
@@ -164,7 +202,7 @@ def bytes_at(word: str) -> bytes:
     return content
 
 
-def _of_server(url: str, address: str) -> Opened:
+def _of_server(url: str, address: str) -> _Choice:
     """A value of a server, or what is in it. Raises NotOpened. (All of its values are not listed: there may be millions.)"""
     if not address:
         server = quoted(_finder().server_name(url))
@@ -173,9 +211,7 @@ def _of_server(url: str, address: str) -> Opened:
     server = finding.name  # (without a password)
     if finding.error is not None:
         raise NotOpened(f'cannot read {shown(server)}: {finding.error}')
-    found = _Choice(server, address, finding).opened()
-    assert found is not None  # (with an address there is one, or NotOpened)
-    return found
+    return _Choice(server, address, finding)
 
 
 class _Choice:
@@ -219,11 +255,12 @@ class _Choice:
     def _of_bytes(self) -> Opened:
         """The bytes at an address that are no pickle."""
         if self.finding.content is None:
-            raise NotOpened('\n'.join(self._where_else()))
+            raise NotOpened('\n'.join(self.where_else()))
         lines = [f'opened {quoted(self._name)}, where scan finds no pickle', *self._missed()]
-        return Opened(self.file, _address(self.file, self.address), self.finding.content, (), tuple(lines))
+        return Opened(self.file, _address(self.file, self.address), self.finding.content, (), tuple(lines), bool(self.finding.missed))
 
-    def _where_else(self) -> List[str]:
+    def where_else(self) -> List[str]:
+        """That nothing has the address, and what has one."""
         if is_at_server(self.file):
             return [f'nothing on {shown(self.file)} has the address {self.address!a}', *self._missed()]
         found = _finder().find(self.file)
@@ -236,7 +273,7 @@ class _Choice:
                             f'{_quoted(self.file, found)} is too large to be opened: it has {found.size:,} bytes')
         inner = [each for each in self._of_arrays if each.where[:-1] == found.where]
         lines += [f'pickles are within its arrays of objects too: {_quoted(self.file, each)}' for each in inner]
-        return Opened(self.file, _address(self.file, found.name), found.content, found.raw, (*lines, *self._missed()))
+        return Opened(self.file, _address(self.file, found.name), found.content, found.raw, (*lines, *self._missed()), bool(self.finding.missed))
 
     def _too(self) -> List[str]:
         """That loaders which open no container may take its bytes for a pickle."""
@@ -320,14 +357,15 @@ def ranges(skip: Sequence[Tuple[int, int]]) -> str:
 def given(word: str) -> 'Tuple[Source, Optional[Opened]]':
     """What a word of the package reads: the file, or the bytes that are opened in it, which is said on standard error. Raises NotOpened."""
     found = opened(word)
-    if found is None:
-        lines = zip_behind(word)
-    else:
-        lines = [*found.said, *([ends_early(found)] if found.skip else [])]
-    for line in lines:
+    for line in said_of(word, found):
         print(line if line.startswith('  ') else f'picklestep: {line}', file=sys.stderr)
     source: Source = word if found is None else found.content
     return source, found
+
+
+def said_of(word: str, found: Optional[Opened]) -> List[str]:
+    """What is said of what a word reads, a line each."""
+    return zip_behind(word) if found is None else [*found.said, *([ends_early(found)] if found.skip else [])]
 
 
 def zip_behind(word: str) -> List[str]:
@@ -342,3 +380,14 @@ def is_in(path: str, container: str) -> bool:
     """Whether a path to write to is that of a container that was opened, or an address in one: a member is not replaced."""
     return split(path) is not None or bool(container) and os.path.exists(path) and os.path.samefile(path, container)
 
+
+def check_out(path: str, container: str = '') -> None:
+    """Raises PicklestepError where a result would be written into a container, in the place of the one that was opened, or to a name that is an
+    address."""
+    if is_in(path, container):
+        raise PicklestepError(f'cannot write {shown(path)}: nothing is written into a container')
+
+
+def saved(path: str, found: Optional[Opened]) -> str:
+    """The line about a pickle that is saved. One that was opened in a container is out of it now."""
+    return f'saved {ascii(path)[1:-1]}{"" if found is None else ": the pickle alone, and no container"}\n'

@@ -6,7 +6,7 @@ from collections import deque
 from itertools import chain
 from typing import Any, Deque, Dict, Hashable, Iterator, List, Sequence, Set, Tuple
 
-from .python_source.literals import literal
+from .literals import literal
 from .records import Global, Ref
 from .trees import Call, Values
 from .values import Unread
@@ -14,6 +14,8 @@ from .values import Unread
 __all__ = ['CONTAINERS', 'Compared', 'Labels', 'inside', 'is_held', 'paired']
 
 CONTAINERS = (list, tuple, dict, set, frozenset, Call)
+# Types of values that hold nothing. (Others may, too.)
+_PLAIN = frozenset((int, float, str, bytes, bool, type(None)))
 # Values that hold themselves are compared by what they hold up to so many levels.
 _LEVELS = 16
 
@@ -66,8 +68,11 @@ class Labels:
     def _of_plain(self, value: Any) -> int:
         kind = type(value)
         # (a pickle can choose numbers of one hash, and no texts)
-        text = literal(value) if kind is float else f'{value:x}' if kind is int else bytes(value) if kind is bytearray else value
-        label = self._label(value.kind if kind is Unread else kind, text)
+        text = value if kind is str else literal(value) if kind is float else f'{value:x}' if kind is int else bytes(value) if kind is bytearray else value
+        key = value.kind if kind is Unread else kind, text
+        label = self._labels.get(key)
+        if label is None:
+            label = self._label(*key)
         self._plain.add(label)
         return label
 
@@ -166,7 +171,7 @@ class Compared:
 
 
 def _has_inside(value: Any) -> bool:
-    return isinstance(value, CONTAINERS) or is_held(value)
+    return type(value) not in _PLAIN and (isinstance(value, CONTAINERS) or is_held(value))
 
 
 def _in_pairs(labels: List[int]) -> List[Tuple[int, int]]:

@@ -7,19 +7,21 @@ What the program prints is passed on as it comes, and its status is this one's. 
 from __future__ import annotations
 
 import contextlib
+import json
 import os
 import signal
 import stat
 import subprocess
 import sys
 from dataclasses import dataclass
-from typing import Iterator, List, Optional, Tuple
+from typing import Iterator, List, Optional, Sequence, Tuple
 
 from .entrance import explains, gathers, saves
 from .errors import PicklestepError, reason
 from .hints import Watch
-from .opens import has_zip_behind, is_archive, is_taken_apart, may_have_arrays, split
+from .opens import has_zip_behind, is_gated_whole, is_taken_apart, may_have_arrays, split
 from .place import NOT_FOR_NODE, find_program, program_words
+from .waiting import Waiting
 from .wording import shown
 
 __all__ = ['main']
@@ -30,6 +32,8 @@ _HEAD = 1 << 10
 _WITH_VALUES = ('--memo', '--save', '--skip', '--window')
 # Words that are about the bytes of a file, whatever these hold.
 _OF_BYTES = ('assemble', 'members')
+# How each line of `gate --json` begins.
+_VERDICT = '{"kind":"verdict",'
 _SIGNALS = ('SIGINT', 'SIGTERM', 'SIGHUP')  # (Windows has not all of them)
 
 
@@ -38,9 +42,6 @@ def main(words: List[str]) -> int:
     if explains(words):
         from .scan.explaining import main as explain
         return explain(words[1:])
-    if saves(words):
-        from .assembling import main as assemble
-        return assemble(words[1:])
     with contextlib.ExitStack() as held:
         try:
             if gathers(words):
@@ -51,6 +52,9 @@ def main(words: List[str]) -> int:
             return _complain(reason(error))
         for line in given.said:
             print(line if line.startswith('  ') else f'picklestep: {line}', file=sys.stderr)
+        if saves(words):
+            from .assembling import main as assemble
+            return assemble(given.words[1:])
         status = _run(given)
     if status < 0:
         _end_by(-status)
@@ -63,13 +67,17 @@ def _run(given: _Given) -> int:
     try:
         command = [*program_words(find_program()), *given.words]
         # (A file may be one that the shell has opened, as in `<(..)`: it stays open for the program.)
-        process = subprocess.Popen(command, env=environment, stdout=subprocess.PIPE if is_watched else None, close_fds=False)
+        process = subprocess.Popen(command, env=environment, stdout=subprocess.PIPE if is_watched or given.names else None,
+                                   stderr=subprocess.PIPE if is_watched and sys.stderr.isatty() else None, close_fds=False)
     except PicklestepError as error:
         return _complain(reason(error))
     except OSError as error:
         return _complain(f'cannot start {command[0]}: {error.strerror}')
     _pass_signals_on(process)
-    watch = _pass_on(process) if is_watched else Watch()
+    watch = _pass_on(process) if is_watched else _pass_on_named(process, given.names) if given.names else Watch()
+    if process.stderr is not None:  # (it comes once nothing is told of the time any more)
+        with process.stderr as said:
+            print(said.read().decode('utf-8', 'replace'), end='', file=sys.stderr)
     status = process.wait()
     if status < 0:
         return status
@@ -102,11 +110,13 @@ def _complain(text: str) -> int:
 
 @dataclass(frozen=True)
 class _Given:
-    """The words for the program, whether arrays are left out of what it reads, and what is said before."""
+    """The words for the program, whether arrays are left out of what it reads, and what is said before. `names` has for each name that the program prints
+    of what was opened the one that the user gave."""
 
     words: List[str]
     leaves_out: bool = False
     said: Tuple[str, ...] = ()
+    names: Tuple[Tuple[str, str], ...] = ()
 
     def without(self, skip: Tuple[Tuple[int, int], ...], held: contextlib.ExitStack, said: List[str]) -> _Given:
         """The same where `calls` leaves bytes out."""
@@ -118,9 +128,16 @@ class _Given:
 def _given(words: List[str], held: contextlib.ExitStack) -> _Given:
     """What the program is given: the file, or the bytes that are opened in it, for as long as they are held. Raises NotOpened."""
     at = _place_of_file(words)
-    if words[0] in _OF_BYTES and at is not None and split(words[at]) is not None:
+    parts = None if at is None else split(words[at])
+    out = _value_of(words, '--save')
+    if out:
+        from .addresses import check_out
+        check_out(out, '' if parts is None else parts[0])
+    if words[0] == 'gate':
+        return _gated(words, held)
+    if words[0] in _OF_BYTES and at is not None and parts is not None:
         return _at_address(words, at, held)
-    if at is None or words[0] in _OF_BYTES or words[0] == 'gate' and is_archive(words[at]):  # (gate looks at an archive itself)
+    if at is None or words[0] in _OF_BYTES:
         return _Given(words)
     if is_taken_apart(words[at]):
         given = _opened(words, at, held)
@@ -135,15 +152,50 @@ def _opened(words: List[str], at: int, held: contextlib.ExitStack) -> Optional[_
     found = addresses.opened(words[at])
     if found is None:
         return None
-    out = _value_of(words, '--save')
-    if out and addresses.is_in(out, found.path):
-        raise PicklestepError(f'cannot write {shown(out)}: nothing is written into a container')
-    made = _Given(_with_content(words, at, found.content, held), said=found.said)
+    out, said = _value_of(words, '--save'), found.said
+    if out:
+        addresses.check_out(out, found.path)
+        said = (*said, f'the pickle alone, and no container, is saved to {shown(out)}')
+    made = _Given(_with_content(words, at, found.content, held), said=said)
     if not found.skip or _value_of(words, '--skip'):
         return made
     if words[0] == 'calls':
         return made.without(found.skip, held, addresses.left_out(found.address, found.skip))
     return _Given(made.words, said=(*made.said, addresses.ends_early(found)))
+
+
+def _gated(words: List[str], held: contextlib.ExitStack) -> _Given:
+    """The same for `gate`: of one FILE what is opened in it, and of several those that are addresses."""
+    places = [at for at, each in enumerate(_with_options(words)) if at and _is_file(*each)][1:]
+    said: List[str] = []
+    names: List[Tuple[str, str]] = []
+    is_json = '--json' in (words[:words.index('--')] if '--' in words else words)
+    for at in places:
+        name = words[at]
+        if split(name) is None if len(places) > 1 else not is_taken_apart(name) or is_gated_whole(name):
+            continue
+        from . import addresses
+        found = addresses.gated(name)
+        if found is not None:
+            said += addresses.said_of(name, found)
+            words = _with_content(words, at, found.content, held)
+            names += [(_printed(words[at], is_json), _printed(name, is_json))] if len(places) > 1 else []
+    return _Given(words, said=tuple(said), names=tuple(names))
+
+
+def _printed(name: str, is_json: bool = False) -> str:
+    """How a line of `gate` begins, by the name of one file among several.
+
+    >>> print(_printed("it's") + _printed("it's", is_json=True))
+    'it\\'s': {"kind":"verdict","file":"it's",
+    """
+    content = os.fsencode(name)
+    if not is_json:
+        return f"'{repr(content + b'%c' % 34)[2:-2]}': "
+    try:
+        return f'{_VERDICT}"file":{json.dumps(content.decode("utf-8"))},'
+    except UnicodeDecodeError:
+        return f'{_VERDICT}"file_hex":"{content.hex()}",'
 
 
 def _at_address(words: List[str], at: int, held: contextlib.ExitStack) -> _Given:
@@ -197,12 +249,13 @@ def _end_by(number: int) -> None:
 
 def _pass_on(process: 'subprocess.Popen[bytes]') -> Optional[Watch]:
     """Writes what the program writes, as it comes, and reads it. None where it cannot be written: then the program, whose reader leaves,
-    cannot write either, and says so."""
+    cannot write either, and says so. Until the first lines come somebody at a terminal is told how long it takes."""
     assert process.stdout is not None
     watch = Watch()
     parts: List[bytes] = []
-    with process.stdout as answer:
+    with process.stdout as answer, Waiting() as waiting:
         while block := os.read(answer.fileno(), _BLOCK):
+            waiting.end()
             try:
                 _write(block)
             except OSError:
@@ -213,6 +266,21 @@ def _pass_on(process: 'subprocess.Popen[bytes]') -> Optional[Watch]:
                 parts = []
             parts.append(rest)
     return watch
+
+
+def _pass_on_named(process: 'subprocess.Popen[bytes]', names: Sequence[Tuple[str, str]]) -> Optional[Watch]:
+    """Writes the lines of `gate` of several files, with the names that the user gave. None where they cannot be written."""
+    assert process.stdout is not None
+    given = {old.encode('ascii'): new.encode('ascii') for old, new in names}
+    with process.stdout as answer:
+        for line in answer:
+            begin = line.find(b'",', len(_VERDICT) + len('"file":"')) + 2 if line.startswith(b'{') else line.find(b"': ") + 3
+            name = line[:begin]
+            try:
+                _write(given.get(name, name) + line[len(name):])
+            except OSError:
+                return None
+    return Watch()
 
 
 def _write(block: bytes) -> None:

@@ -3,22 +3,23 @@
 from __future__ import annotations
 
 import abc
-import html
-import re
 from array import array
 from functools import cached_property
 from itertools import chain, islice
 from typing import Any, ClassVar, Dict, Iterator, List, Optional, Sequence, Tuple, TypeVar, Union, overload
 
-from . import listed, reaches, texts
+from . import held, listed, made, reaches
 from .hints import Watch
-from .records import End, Item, Object, Opcode, Reach, Shown
+from .listing_records import Object, Opcode
+from .records import End, Reach
 
-__all__ = ['Answer', 'Calls', 'Heap', 'Items', 'Listing', 'Objects', 'Part', 'Printed', 'Reached', 'ShownObjects']
+__all__ = ['Answer', 'Calls', 'Line', 'Listing', 'Objects', 'Part', 'Reached']
 
 Line = TypeVar('Line')
 
+# So many lines are shown in a notebook, and so many letters of each.
 _SHOWN_LINES = 200
+_SHOWN_LETTERS = 1000
 _BLOCK = 1 << 16
 # How lines of `calls --json` begin that do not come from opcodes.
 _HEADING, _UNSURE = b'{"kind":"heading"', b'{"kind":"unsure"'
@@ -28,7 +29,8 @@ _CLOSING = b'{"kind":"begins"', b'{"kind":"counts"', b'{"kind":"hole"'
 class Answer(Sequence[Line]):
     """An answer of the program: a sequence over lines, and the program's `text`.
 
-    What the program printed is kept, and 8 bytes for each line once there was an index or a length: a line is read each time it is asked for.
+    What the program printed is kept, and 8 bytes for each line once there was an index or a length: a line is read each time it is asked for. `said` has
+    lines about what was opened, as words say it on standard error: there are none of bytes, and of a file that is read as it is.
 
     >>> import picklestep
     >>> answer = picklestep.listing(b'N.')
@@ -38,6 +40,7 @@ class Answer(Sequence[Line]):
 
     _what: ClassVar[str] = 'lines'
     text: str
+    said: Tuple[str, ...] = ()
 
     @cached_property
     def _starts(self) -> 'array[int]':
@@ -82,68 +85,29 @@ class Answer(Sequence[Line]):
 
     def _repr_html_(self) -> str:
         """The first lines of the text, for notebooks."""
+        import html  # (a notebook has it)
         lines, count = self._shown()
-        shown = html.escape('\n'.join(line if len(line) <= texts.TAIL else line[:texts.TAIL] + ' ..' for line in lines))
+        shown = html.escape('\n'.join(line if len(line) <= _SHOWN_LETTERS else line[:_SHOWN_LETTERS] + ' ..' for line in lines))
         return f'<pre>{shown}{f"{chr(10)}.. {count} lines more" if count else ""}</pre><p>{html.escape(self._summary())}</p>'
 
 
-class Printed(Answer[Line]):
-    """An answer whose lines are those of its text."""
+class _OfLines(Answer[Line]):
+    """An answer that is read of lines of JSON."""
 
-    _lines: ClassVar['texts.LineReader[Any]']
-
-    def __init__(self, text: str, refused_at: Optional[int] = None) -> None:
-        self.text = text
-        self._span = (0, len(text))  # where its lines are in the text
-        self._refused_at = refused_at  # the offset of a refused opcode, where the text does not show it
-
-    def matches(self) -> Iterator['re.Match[str]']:
-        """The lines as they stand in the text.
-
-        >>> import picklestep
-        >>> [match[0] for match in picklestep.objects(b'N.').matches()]
-        ['#0 none']
-        """
-        return self._lines.pattern.finditer(self.text, *self._span)
-
-    def _find(self) -> Iterator[int]:
-        return (match.start() for match in self.matches())
-
-    def _at(self, start: int) -> Line:
-        match = self._lines.pattern.match(self.text, start)
-        assert match is not None
-        line: Line = self._lines.read(match)
-        return line
-
-    def __iter__(self) -> Iterator[Line]:
-        return map(self._lines.read, self.matches())
-
-    @cached_property
-    def _closing(self) -> texts.Closing:
-        """The closing lines. A line of which only a part was looked at is none of them."""
-        return texts.closing_in(self.text, *self._span)
-
-
-class Listing(Answer[Opcode]):
-    """The opcodes of a pickle.
-
-    >>> import picklestep
-    >>> answer = picklestep.listing(b'N.')
-    >>> answer[0].name, len(answer), answer.end.how, answer.protocol
-    ('NONE', 2, 'stopped', 0)
-    """
-
-    _what = 'opcodes'
+    # How the lines begin that it has.
+    _begins: ClassVar[bytes]
 
     def __init__(self, json: bytes) -> None:
-        """Takes the lines of `list --json`. Raises ProgramError where they are not whole."""
+        """Takes the lines. Raises ProgramError where they are not whole."""
         self.json = listed.check_whole(json)
 
-    def _find(self) -> Iterator[int]:
-        return listed.starts_in(self.json)
+    @staticmethod
+    @abc.abstractmethod
+    def _printed_of(fields: listed.Fields) -> List[str]:
+        """What the program prints of a line without `--json`."""
 
-    def _at(self, start: int) -> Opcode:
-        return listed.opcode_of(self._fields(start))
+    def _find(self) -> Iterator[int]:
+        return listed.starts_in(self.json, self._begins)
 
     def _fields(self, start: int) -> listed.Fields:
         return listed.fields_of(self.json[start:self.json.index(b'\n', start)])
@@ -154,11 +118,11 @@ class Listing(Answer[Opcode]):
 
     @property
     def text(self) -> str:  # type: ignore[override]
-        """What `list` prints. It is made of the lines of JSON each time it is asked for.
+        """What the program prints without `--json`. It is made of the lines of JSON each time it is asked for.
 
         >>> import picklestep
-        >>> picklestep.listing(b'K').text
-        'fault: F3 truncated at 0\\n'
+        >>> picklestep.listing(b'K').text, picklestep.objects(b'K').text
+        ('fault: F3 truncated at 0\\n', 'fault: F3 truncated at 0\\n')
         """
         return ''.join(f'{line}\n' for line in self._printed())
 
@@ -170,15 +134,35 @@ class Listing(Answer[Opcode]):
         for lines in listed.whole_lines(self._blocks()):
             yield from listed.fields_in(lines)
 
-    def __iter__(self) -> Iterator[Opcode]:
-        return listed.opcodes_of(self._blocks())
-
     def _printed(self) -> Iterator[str]:
-        return chain.from_iterable(map(listed.printed, self._all()))
+        return chain.from_iterable(map(self._printed_of, self._all()))
 
     def _shown(self) -> Tuple[List[str], int]:
         lines = list(islice(self._printed(), _SHOWN_LINES))
-        return lines, max(0, self.json.count(b'\n') + len(listed.closing_of(self._end)) - 1 - len(lines))
+        return lines, max(0, self.json.count(b'\n') + len(self._printed_of(self._end)) - 1 - len(lines))
+
+
+class Listing(_OfLines[Opcode]):
+    """The opcodes of a pickle.
+
+    >>> import picklestep
+    >>> answer = picklestep.listing(b'N.')
+    >>> answer[0].name, len(answer), answer.end.how, answer.protocol
+    ('NONE', 2, 'stopped', 0)
+    """
+
+    _what = 'opcodes'
+    _begins = listed.OPCODE
+
+    @staticmethod
+    def _printed_of(fields: listed.Fields) -> List[str]:
+        return listed.printed(fields)
+
+    def _at(self, start: int) -> Opcode:
+        return listed.opcode_of(self._fields(start))
+
+    def __iter__(self) -> Iterator[Opcode]:
+        return listed.opcodes_of(self._blocks())
 
     @cached_property
     def end(self) -> End:
@@ -225,20 +209,7 @@ class Listing(Answer[Opcode]):
         return f'{len(self)} opcodes, {self.end.text}'
 
 
-class Heap(Printed[Object]):
-    """Objects, in the order in which they were made.
-
-    >>> import picklestep
-    >>> with picklestep.Session(b'N.') as session:
-    ...     session.step(), session.objects()[0].kind
-    (1, 'none')
-    """
-
-    _lines = texts.OBJECTS
-    _what = 'objects'
-
-
-class Objects(Heap):
+class Objects(_OfLines[Object]):
     """The objects that a pickle makes.
 
     >>> import picklestep
@@ -246,6 +217,42 @@ class Objects(Heap):
     >>> answer[2], answer.results
     (Object(number=2, kind='tuple', text=None, parts=(1,), changes=()), (2,))
     """
+
+    _what = 'objects'
+    _begins = made.OBJECT
+
+    def __init__(self, json: bytes, refused_at: Optional[int] = None) -> None:
+        """Takes the lines of `objects --json`, and the offset of a refused opcode, which they do not show. Raises ProgramError where they are not whole."""
+        super().__init__(json)
+        self._refused_at = refused_at
+
+    @staticmethod
+    def _printed_of(fields: made.Fields) -> List[str]:
+        return made.printed(fields)
+
+    def _at(self, start: int) -> Object:
+        return made.object_of(self._fields(start))
+
+    def __iter__(self) -> Iterator[Object]:
+        return map(made.object_of, self.fields())
+
+    def fields(self) -> Iterator[made.Fields]:
+        """The fields of the lines of objects.
+
+        >>> import picklestep
+        >>> list(picklestep.objects(b'N.').fields())
+        [{'kind': 'object', 'object': 0, 'is': 'none'}]
+        """
+        return chain.from_iterable(made.made_in(self._blocks()))
+
+    def tails(self) -> Iterator[List[str]]:
+        """What stands behind the numbers in the lines of objects, some at a time.
+
+        >>> import picklestep
+        >>> list(picklestep.objects(b'N.').tails())
+        [['none"}']]
+        """
+        return held.tails_in(self._blocks())
 
     @cached_property
     def end(self) -> End:
@@ -255,7 +262,7 @@ class Objects(Heap):
         >>> picklestep.objects(b'N0.').end
         End(how='refused', code='S2', text='S2 stack underflow', offset=2, item=2)
         """
-        return self._closing.end(self._refused_at)
+        return made.end_of(self._end, self._refused_at)
 
     @cached_property
     def results(self) -> Tuple[int, ...]:
@@ -265,7 +272,7 @@ class Objects(Heap):
         >>> picklestep.objects(b'NN\\x86.]K\\x07a.', many=True).results
         (2, 3)
         """
-        return texts.results_in(self.text, self.text.rfind('\n#') + 1)
+        return made.results_in(self.json)
 
     def _summary(self) -> str:
         return f'{len(self)} objects, {self.end.text}'
@@ -401,6 +408,10 @@ class Part(Reached):
         self.heading = reaches.text_of(reaches.fields_of(json[start:begin - 1]))[:-1]
 
 
+def _taken(fields: reaches.Fields) -> str:
+    return reaches.text_of(fields).strip() or f'{fields["offset"]}: {fields["opcode"]}'
+
+
 class Calls(Reached):
     """What pickles import and call: the lines of the strict reading. What loaders may reach behind its end is in `parts`.
 
@@ -413,10 +424,11 @@ class Calls(Reached):
     def __init__(self, json: bytes, refused_at: Optional[int] = None) -> None:
         """Takes the lines of `calls --json`. Raises ProgramError where they are not whole."""
         last = listed.check_whole(json).rfind(b'\n', 0, -1) + 1
-        mixed = json.rfind(b'\n', 0, max(0, last - 1)) + 1
-        fields = reaches.fields_of(json[mixed:last - 1]) if json.startswith(_UNSURE, mixed) else {}
-        # What the last line says where frames may be mixed.
-        self._mixed = listed.words_of(fields) if fields.get('code') == 'U3' else None
+        mixed = json.rfind(b'\n' + _UNSURE, 0, last) + 1
+        unsure, *behind = [reaches.fields_of(line) for line in json[mixed:last].splitlines()] if json.startswith(_UNSURE, mixed) else [{}]
+        # What the line says where frames may be mixed; and behind it what loaders may take that mix them.
+        self._mixed = listed.words_of(unsure) if unsure.get('code') == 'U3' else None
+        self._mixes = () if self._mixed is None else tuple(_taken(fields) for fields in behind if fields['kind'] in ('taken', 'too_many_ways'))
         last = last if self._mixed is None else mixed
         headings = [*listed.starts_in(json, _HEADING), last]
         super().__init__(json, 0, headings[0], refused_at)
@@ -434,6 +446,17 @@ class Calls(Reached):
         'U3 frames may be mixed at 10'
         """
         return self._mixed
+
+    @property
+    def mixes(self) -> Tuple[str, ...]:
+        """What loaders may take that mix frames, each opcode with its offset, as `calls` prints it: no more is done by one of them. Empty where no frames
+        may be mixed, and where no opcode imports, calls or changes anything; one line where there are too many ways.
+
+        >>> import picklestep
+        >>> picklestep.calls(b'\\x95\\x03\\0\\0\\0\\0\\0\\0\\0NM\\x01\\x000\\x95\\x01\\0\\0\\0\\0\\0\\0\\0cos\\ngetpid\\n)R.').mixes
+        ("23: GLOBAL 'os' 'getpid'", '35: REDUCE')
+        """
+        return self._mixes
 
     @property
     def parts(self) -> Tuple[Part, ...]:
@@ -500,29 +523,3 @@ class Calls(Reached):
         12
         """
         return int(self._closing['ending'].get('kept', 0)) if 'ending' in self._closing else 0
-
-
-class Items(Printed[Item]):
-    """The opcodes of a session, with their places.
-
-    >>> import picklestep
-    >>> with picklestep.Session(b'N.') as session:
-    ...     [item.name for item in session.items()]
-    ['NONE', 'STOP']
-    """
-
-    _lines = texts.ITEMS
-    _what = 'items'
-
-
-class ShownObjects(Printed[Shown]):
-    r"""An object and all that it holds, each with its depth.
-
-    >>> import picklestep
-    >>> with picklestep.Session(b'N\x85.') as session:
-    ...     session.run().place, [shown.number for shown in session.show(1)]
-    (3, [1, 0])
-    """
-
-    _lines = texts.SHOWN
-    _what = 'lines'

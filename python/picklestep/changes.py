@@ -5,7 +5,7 @@ from __future__ import annotations
 from typing import Any, Callable, List, TypeVar, Union
 
 from .errors import NoResult
-from .records import Object
+from .listing_records import Object
 
 __all__ = ['changed']
 
@@ -18,7 +18,7 @@ def changed(items: _Items, made: Object, value_of: Callable[[int], Any], item_of
 
     Raises NoResult where an item is set at a place, or put into a byte array, of which it is not known which number it is.
 
-    >>> from picklestep.records import Change
+    >>> from picklestep import Change
     >>> changed([0], Object(2, 'list', None, (0,), (Change('append', 1), Change('state', 1), Change('set', 1, 0))), {0: 1}.get)
     [0, 1]
     """

@@ -2,20 +2,22 @@
 
 from __future__ import annotations
 
+import os
 import sys
 from dataclasses import dataclass
+from functools import partial
 from itertools import zip_longest
 from typing import Any, Dict, Iterator, List, Optional, Sequence, Tuple, Union
 
 from .aligning import Steps, aligned, gaps
 from .alike import CONTAINERS, Compared, Labels, inside, is_held, paired
+from .literals import literal
 from .records import Extension, Global, Ref
-from .python_source.literals import literal
 from .sources import Source
-from .trees import Call, Values, values
+from .trees import Call, Values, objects_to_stop, values
 from .values import Unread
 
-__all__ = ['Comparison', 'Difference', 'compare', 'shown_line', 'shown_pair', 'shown_value']
+__all__ = ['Comparison', 'Difference', 'compare', 'has_same_bytes', 'shown_line', 'shown_pair', 'shown_value']
 
 _SLOTS: Dict[str, Any] = {'slots': True} if sys.version_info >= (3, 10) else {}
 _MOST_LETTERS = 64
@@ -32,6 +34,10 @@ _MOST_PARTS, _MOST_LEVELS = 50, 3
 # So many times as many pairs as there are objects are compared, each for itself.
 _MANY = 4
 _ABSENT = object()
+# So many bytes of two files, and so many items of two sequences, are compared at once.
+_BLOCK, _AT_ONCE = 1 << 20, 1 << 12
+# Values that are the same where Python calls them equal and they have one type.
+_EXACT = frozenset((int, str, bytes, bool, type(None)))
 
 
 @dataclass(frozen=True, **_SLOTS)
@@ -72,7 +78,26 @@ def compare(old: Source, new: Source, *, many: bool = False, unframed: bool = Fa
     ['a'][1]: 2 -> 5
     ['a'][2]: added 6
     """
+    if has_same_bytes(old, new):
+        objects_to_stop(old, many, unframed, timeout, memory)
+        return []
     return list(Comparison(*(values(source, many, unframed, timeout, memory) for source in (old, new))).of_results())
+
+
+def has_same_bytes(old: Source, new: Source) -> bool:
+    """Whether two pickles are the same, byte by byte. What is read once is not looked at.
+
+    >>> has_same_bytes(b'N.', b'N.'), has_same_bytes(b'N.', b'K\\x01.')
+    (True, False)
+    """
+    if isinstance(old, (bytes, bytearray)) and isinstance(new, (bytes, bytearray)):
+        return old == new
+    if not isinstance(old, (str, os.PathLike)) or not isinstance(new, (str, os.PathLike)) or not (os.path.isfile(old) and os.path.isfile(new)):
+        return False
+    with open(old, 'rb') as one, open(new, 'rb') as other:
+        if os.fstat(one.fileno()).st_size != os.fstat(other.fileno()).st_size:
+            return False
+        return all(first == second for first, second in zip_longest(*(iter(partial(file.read, _BLOCK), b'') for file in (one, other))))
 
 
 # A path: the path before it, and its last step. (A text for each place would cost as much as the place is deep.)
@@ -251,11 +276,22 @@ class Comparison:
 def _between(one: Sequence[Any], other: Sequence[Any]) -> Tuple[int, int, int]:
     """Where plain values end with which both begin, and where those begin in both with which both end."""
     begin, end, other_end = 0, len(one), len(other)
+    while begin < min(end, other_end) and _are_exactly_same(one[begin:begin + _AT_ONCE], other[begin:begin + _AT_ONCE]):
+        begin += _AT_ONCE
+    begin = min(begin, end, other_end)
+    while min(end, other_end) - begin >= _AT_ONCE and _are_exactly_same(one[end - _AT_ONCE:end], other[other_end - _AT_ONCE:other_end]):
+        end, other_end = end - _AT_ONCE, other_end - _AT_ONCE
     while begin < end and begin < other_end and _is_plainly_same(one[begin], other[begin]):
         begin += 1
     while begin < end and begin < other_end and _is_plainly_same(one[end - 1], other[other_end - 1]):
         end, other_end = end - 1, other_end - 1
     return begin, end, other_end
+
+
+def _are_exactly_same(one: Sequence[Any], other: Sequence[Any]) -> bool:
+    """Whether these are the same plain values, as Python tells at once; it does not of floats."""
+    kinds = list(map(type, one))
+    return _EXACT.issuperset(kinds) and kinds == list(map(type, other)) and one == other
 
 
 def _is_plainly_same(one: Any, other: Any) -> bool:

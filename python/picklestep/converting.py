@@ -13,17 +13,18 @@ from itertools import zip_longest
 from pathlib import Path
 from typing import Dict, List, NamedTuple, Optional, Sequence, Tuple, Union
 
-from .addresses import given, is_in
+from .addresses import check_out, content_in, given, saved
 from .errors import NotConverted, PicklestepError, reason
+from .listing_records import Opcode
+from .made import line_of
 from .protocols.changing import PROTOCOLS, in_protocol
 from .printing import print_text
-from .records import Opcode
 from .saving import naming, written_whole
 from .session import Session
 from .sources import Source, content_of
 from .tasks import listing, objects
-from .texts import kind_in
 from .values import unescaped
+from .waiting import Waiting
 from .wording import count_of, shown
 
 __all__ = ['ENCODINGS', 'convert', 'main']
@@ -52,6 +53,8 @@ def convert(source: Source, encoding: Optional[str] = None, *, protocol: Optiona
     With an encoding, or without a protocol, each `str` of Python 2 becomes a text first, or bytes with the encoding 'bytes': `pickle.loads` of Python 3
     makes of the result what it makes of the source with `encoding=` ('ascii' where none is given). Then several pickles may follow one another.
 
+    Of an address or the path of a container it is the pickle alone that is opened there.
+
     Raises NotConverted where the protocol cannot say something, where a text is none in this encoding, and where the pickle does not read to its end.
 
     >>> convert(b'U\\x03abc.'), convert(b'U\\x02\\xc3\\xa9.', 'utf-8'), convert(b"S'a'\\n.", 'bytes')
@@ -59,7 +62,7 @@ def convert(source: Source, encoding: Optional[str] = None, *, protocol: Optiona
     >>> convert(b'(lp0\\nI5\\na.', protocol=2), convert(b'\\x80\\x02]q\\x00K\\x05a.', protocol=0)
     (b'\\x80\\x02]q\\x00K\\x05a.', b'(lp0\\nI5\\na.')
     """
-    content = content_of(source)
+    content = content_in(source)
     if encoding is not None or protocol is None:
         content = _converted(content, encoding or ENCODINGS[0])[0]
     if protocol is None:
@@ -109,9 +112,9 @@ def _compare(before: bytes, after: bytes) -> None:
     old, new = objects(before, many=True), objects(after, many=True)
     if not new.end.is_stopped or old.results != new.results:
         raise NotConverted([f'it would not read to its end: {new.end.text}'])
-    for line, other in zip_longest((match[0] for match in old.matches()), (match[0] for match in new.matches())):
-        if line is None or other is None or line != other and kind_in(line) not in _KINDS:
-            raise NotConverted([f'another object would be another one: {line or other:.60}'])
+    for one, other in zip_longest(old.fields(), new.fields()):
+        if one is None or other is None or one != other and one['is'] not in _KINDS:
+            raise NotConverted([f'another object would be another one: {line_of(one or other):.60}'])
 
 
 def main(arguments: List[str]) -> int:
@@ -125,12 +128,12 @@ def main(arguments: List[str]) -> int:
         return 2
     try:
         pickle, found = given(options.file)
-        if is_in(options.save, '' if found is None else found.path):
-            raise PicklestepError(f'cannot write {shown(options.save)}: nothing is written into a container')
-        content, said = _made(content_of(pickle), options)
+        check_out(options.save, '' if found is None else found.path)
+        with Waiting():
+            content, said = _made(content_of(pickle), options)
         with naming(options.save), written_whole(Path(options.save)) as file:
             file.write(content)
-        print_text(f'{said}saved {ascii(options.save)[1:-1]}\n')
+        print_text(f'{said}{saved(options.save, found)}')
     except NotConverted as error:
         print_text(_report(error.lines, options))
         return 1
@@ -162,12 +165,13 @@ def _report(lines: Sequence[str], options: argparse.Namespace) -> str:
 
 def _parser() -> argparse.ArgumentParser:
     parser = argparse.ArgumentParser(
-        prog='picklestep convert', description='Makes a pickle of another protocol or kind that loads alike. Nothing of it is run.',
+        prog='picklestep convert', description='Writes a pickle in the opcodes of another protocol, or makes a pickle of Python 2 into one that Python 3 loads without '
+                                              'an encoding. Nothing of it is run.',
         epilog='Status: 0 if the result is saved; 1 if it cannot be converted, and nothing is written; 2 if it cannot be read or written.')
     parser.add_argument('file', metavar='FILE', help='the pickle, or its address')
     parser.add_argument('--protocol', metavar='N', type=int, choices=PROTOCOLS, help='write it in the opcodes of this protocol, from 0 to 5')
     parser.add_argument('--many', action='store_true', help='FILE may have several pickles that follow one another')
-    parser.add_argument('--python2', action='store_true', help='texts that Python 2 wrote become texts of Python 3, which then needs no encoding')
-    parser.add_argument('--encoding', choices=ENCODINGS, help='the encoding that pickle.load would be given (ascii); bytes makes bytes of them')
+    parser.add_argument('--python2', action='store_true', help='texts that Python 2 wrote become texts of Python 3')
+    parser.add_argument('--encoding', choices=ENCODINGS, help='with --python2: how to decode the texts of Python 2 (ascii); with bytes they become bytes')
     parser.add_argument('--save', metavar='OUT', required=True, help='write the result to this file')
     return parser

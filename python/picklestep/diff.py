@@ -7,19 +7,19 @@ import argparse
 import os
 import sys
 from collections import Counter
-from functools import partial
-from itertools import chain, repeat, zip_longest
+from itertools import chain, repeat
 from typing import Any, Callable, Iterator, List, Optional, Tuple, TypeVar
 
 from .addresses import given
 from .aligning import Steps, aligned, gaps
 from .alike import paired
 from .answers import Calls
-from .comparing import Comparison, Difference, shown_line, shown_pair, shown_value
+from .comparing import Comparison, Difference, has_same_bytes, shown_line, shown_pair, shown_value
 from .errors import NoResult, PicklestepError, reason
+from .listing_records import Opcode
 from .printing import print_text
-from .records import Opcode, Reach
-from .sources import Source, rereadable
+from .records import Reach
+from .sources import Source, rereadable, size_of
 from .tasks import calls, frames, listing
 from .texts import renumbered
 from .trees import Values, objects_to_stop, values
@@ -29,6 +29,7 @@ from .wording import shown
 __all__ = ['main', 'of_opcodes', 'of_reaches']
 
 _BLOCK = 1 << 20
+_SECONDS = 6  # (that a million bytes take)
 _MADE = ' as #'
 # What is said of bytes that differ, where their opcodes and arguments do not.
 _SPELLINGS = 'opcodes: the same, with arguments that are spelled otherwise'
@@ -37,8 +38,8 @@ _T = TypeVar('_T')
 
 def main(arguments: List[str]) -> int:
     """Writes a line for each difference. The status is 0 where there is none, 1 where there is one, 2 where they cannot be compared."""
-    parser = argparse.ArgumentParser(prog='picklestep diff', description='Prints what two pickles differ in: their results, their imports and '
-                                     'calls (- only in A, + only in B), and how they end. Nothing of them is run.',
+    parser = argparse.ArgumentParser(prog='picklestep diff', description='Prints what two pickles differ in: their results, and their imports and '
+                                     'calls (- only in A, + only in B). Nothing of them is run.',
                                      epilog='Status: 0 if nothing differs; 1 if something does; 2 if they cannot be compared.')
     parser.add_argument('old', metavar='A', help='a pickle, or its address')
     parser.add_argument('new', metavar='B', help='another one')
@@ -48,8 +49,8 @@ def main(arguments: List[str]) -> int:
     parser.add_argument('--full', action='store_true', help='print whole arguments of imports and calls: they are not cut')
     options = parser.parse_args(arguments)
     try:
-        with Waiting():
-            lines = _lines(options)
+        with Waiting() as waiting:
+            lines = _lines(options, waiting.progress)
     except (OSError, PicklestepError) as error:
         print(f'picklestep: {reason(error)}', file=sys.stderr)
         return 2
@@ -57,12 +58,23 @@ def main(arguments: List[str]) -> int:
     return 1 if lines else 0
 
 
-def _lines(options: argparse.Namespace) -> List[str]:
+def told(size: int) -> str:
+    """What is told of a comparison of pickles of so many bytes that takes more than a minute; nothing of another.
+
+    >>> told(1_000_000), told(240_000_000)
+    ('', 'comparing, which may take 24 minutes')
+    """
+    minutes = size * _SECONDS / 60_000_000
+    return f'comparing, which may take {minutes:.0f} minutes' if minutes > 1 else ''
+
+
+def _lines(options: argparse.Namespace, progress: Callable[[str], None]) -> List[str]:
     """A line for each difference."""
     old, new = (rereadable(given(name)[0]) for name in (options.old, options.new))
-    if _has_same_bytes(old, new):
+    if has_same_bytes(old, new):
         _named(options.old, lambda: objects_to_stop(old, options.many, options.unframed))
         return []
+    progress(told(max(size_of(old), size_of(new))) or 'comparing')
     comparison = Comparison(_values(options.old, old, options), _values(options.new, new, options))
     lines = [*map(str, comparison.of_results()), *of_reaches(old, new, options.unframed, comparison, options.full)]
     lines += of_opcodes(old, new, options.many, options.unframed) if options.opcodes else []
@@ -81,16 +93,6 @@ def _named(name: str, ask: Callable[[], _T]) -> _T:
         return ask()
     except NoResult as error:
         raise PicklestepError(f'{shown(name)}: {reason(error)}') from error
-
-
-def _has_same_bytes(old: Source, new: Source) -> bool:
-    """Whether two pickles are the same, byte by byte."""
-    if not isinstance(old, (str, os.PathLike)) or not isinstance(new, (str, os.PathLike)):
-        return type(old) is type(new) and bool(old == new)
-    with open(old, 'rb') as one, open(new, 'rb') as other:
-        if os.fstat(one.fileno()).st_size != os.fstat(other.fileno()).st_size:
-            return False
-        return all(first == second for first, second in zip_longest(*(iter(partial(file.read, _BLOCK), b'') for file in (one, other))))
 
 
 def of_reaches(old: Source, new: Source, unframed: bool = False, comparison: Optional[Comparison] = None, full: bool = False) -> Iterator[str]:

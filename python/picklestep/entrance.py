@@ -18,7 +18,7 @@ _HERE = os.path.dirname(os.path.realpath(__file__))
 _PAGES = os.path.join(_HERE, 'help')
 # The words of this package, and the modules that do them.
 _OWN = {'convert': 'converting', 'dap': 'dap', 'diff': 'diff', 'mend': 'mend', 'optimize': 'optimizing', 'policy': 'scan.policy.command', 'rename': 'renaming.command',
-        'scan': 'scan', 'shell': 'shell.command', 'size': 'sizing', 'source': 'python_source', 'view': 'view.command'}
+        'scan': 'scan.command', 'shell': 'shell.command', 'size': 'sizing', 'source': 'python_source', 'view': 'view.command'}
 _MOST_WRONG = 2  # letters that are taken for a slip
 _ASKS_HELP = ('--help', '-h')
 
@@ -113,7 +113,7 @@ def _is_told_more(words: 'list[str]') -> bool:
     if explains(words) or gathers(words):
         return True
     from .opens import holds_others
-    opens = words[0] != 'gate' or len(words) <= 3  # (LIST and FILE: among several files none is opened)
+    opens = words[0] != 'gate' or sum(not word.startswith('-') for word in words) <= 3  # (LIST and FILE: among several files none is opened)
     return any(not os.access(word, os.R_OK) or os.path.isdir(word) or opens and holds_others(word) for word in words[1:] if not word.startswith('-'))
 
 
@@ -127,12 +127,12 @@ def explains(words: 'list[str]') -> bool:
 
 
 def saves(words: 'list[str]') -> bool:
-    """Whether `assemble` is to save what it makes, which this package does.
+    """Whether `assemble` is to save what it makes, or to frame it, which this package does.
 
-    >>> saves(['assemble', 'a', '--save', 'b']), saves(['assemble', '--save=b', 'a']), saves(['debug', 'a', '--save', 'b'])
+    >>> saves(['assemble', 'a', '--save', 'b']), saves(['assemble', '--frame', 'a']), saves(['debug', 'a', '--save', 'b'])
     (True, True, False)
     """
-    return _has_option(words, '--save', 'assemble')
+    return any(_has_option(words, option, 'assemble') for option in ('--save', '--frame'))
 
 
 def gathers(words: 'list[str]') -> bool:
@@ -226,6 +226,8 @@ def _do_apart(words: 'list[str]') -> int:
     except KeyboardInterrupt:
         _complain('interrupted')
         return 130
+    except MemoryError:
+        return _complain('out of memory')
     return status
 
 

@@ -4,10 +4,9 @@ from __future__ import annotations
 
 from typing import List, Optional, Sequence
 
-from .texts import code_of
 from .wording import shown
 
-__all__ = ['NoResult', 'NotAllowed', 'NotConverted', 'NotOpened', 'NotRenamed', 'OutOfMemory', 'PicklestepError', 'ProgramError', 'Refused', 'TimedOut', 'TooLarge']
+__all__ = ['NoResult', 'NotAllowed', 'NotAssembled', 'NotConverted', 'NotOpened', 'NotRenamed', 'OutOfMemory', 'PicklestepError', 'ProgramError', 'Refused', 'TimedOut', 'TooLarge']
 
 
 # What reads on where reading ended at a frame: in Python, and on the command line.
@@ -42,6 +41,7 @@ class Refused(PicklestepError):
     """
 
     def __init__(self, text: str) -> None:
+        from .texts import code_of  # (most runs need no reader of texts)
         super().__init__(text)
         self.text = text
         self.code = code_of(text)
@@ -77,6 +77,20 @@ class NotOpened(PicklestepError):
     nothing in a.zip has the address 'b.pkl': it has 1 pickle
       'a.zip > a.pkl'  # 2 bytes
     """
+
+
+class NotAssembled(PicklestepError):
+    """A line of a text is no line of an assembler. `line` is its number, from 1, and `text` says why.
+
+    >>> error = NotAssembled(2, 'no opcode has this name')
+    >>> error.line, str(error)
+    (2, 'line 2: no opcode has this name')
+    """
+
+    def __init__(self, line: int, text: str) -> None:
+        super().__init__(f'line {line}: {text}')
+        self.line = line
+        self.text = text
 
 
 class ProgramError(PicklestepError):

@@ -12,7 +12,8 @@ from typing import Optional
 
 from .errors import ProgramError
 from .place import node_path
-from .program import Process, count_ended, count_seconds
+from .program import Process
+from .took import count_ended, count_seconds
 from .question import Question
 
 __all__ = ['InNode']

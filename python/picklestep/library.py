@@ -15,7 +15,7 @@ from .errors import ProgramError
 from .place import find_library, find_program, is_module
 from .question import Question, question, question_of_gate, question_of_reach, reading
 
-__all__ = ['MOST_BYTES', 'MOST_KEPT', 'Kept', 'answer', 'gate', 'open_session', 'reach']
+__all__ = ['MOST_BYTES', 'MOST_KEPT', 'Kept', 'answer', 'gate', 'load', 'open_session', 'reach']
 
 # Inputs up to this size are asked about here. For a larger one the start of the program is a small part of its time.
 MOST_BYTES = 1 << 16
@@ -85,6 +85,11 @@ def _found() -> Optional[_Library]:
         return None
 
 
+def load() -> None:
+    """Loads the library, if there is one."""
+    _library()
+
+
 def answer(words: Sequence[str], content: bytes, memory: Optional[int] = None) -> Optional[bytes]:
     """What the program writes about these bytes with these words, or None where it has to be asked.
 
@@ -108,13 +113,13 @@ def open_session(content: bytes, many: bool, unframed: bool, window: Optional[in
     return None if library is None else library.open(content, reading(many, unframed), window or 0)
 
 
-def gate(entries: bytes, content: bytes, memory: Optional[int] = None) -> Optional[bytes]:
-    """What the program says of these bytes and of a list, the lines of which it can read. None where the program has to be asked.
+def gate(entries: bytes, content: bytes, memory: Optional[int] = None, is_json: bool = True) -> Optional[bytes]:
+    """What the program says of these bytes and of a list, with `--json` or without it. None where the program has to be asked.
 
     >>> gate(b'a.b:\\n', b'N' * 100_000) is None
     True
     """
-    return _ask(question_of_gate(entries, content), memory, MOST_BYTES - len(content), _MOST_OF_LIST - len(entries))
+    return _ask(question_of_gate(entries, content, is_json), memory, MOST_BYTES - len(content), _MOST_OF_LIST - len(entries))
 
 
 def reach(content: bytes, granted: int = 0, memory: Optional[int] = None) -> Optional[bytes]:

@@ -7,19 +7,22 @@ from __future__ import annotations
 
 import json
 import struct
-from typing import Any, Collection, Dict, Generator, Iterable, Iterator, List, NamedTuple, Optional, Sequence, Tuple, Union
+from operator import itemgetter
+from typing import TYPE_CHECKING, Any, Collection, Dict, Generator, Iterable, Iterator, List, NamedTuple, Optional, Sequence, Tuple
 
 from . import library
 from .errors import ProgramError
 from .opcodes import BY_NAME
-from .program import Process
-from .records import Argument, End, Opcode
+from .records import Argument, End
 from .sources import Input
 
-__all__ = ['Batch', 'FRAME_SIZE', 'Fields', 'Line', 'Listed', 'argument_of', 'batch_of', 'check_whole', 'closing_of', 'codes_in', 'content_of', 'cut',
-           'end_of', 'fields_in', 'fields_of', 'fields_of_tails', 'frames_in', 'is_whole', 'joined', 'key_at', 'key_of', 'last_opcode', 'left_of',
-           'line_at', 'line_of', 'made_of', 'name_in', 'names_of', 'offset_at', 'offset_in', 'offsets_in', 'opcode_of', 'opcodes_of', 'packed', 'printed',
-           'shown_argument', 'shown_code', 'sign_of', 'sign_of_marks', 'signs_of_key', 'starts_in', 'unpacked', 'whole_lines', 'words_of']
+if TYPE_CHECKING:
+    from .listing_records import Opcode
+
+__all__ = ['Batch', 'FRAME_SIZE', 'Fields', 'Line', 'Listed', 'OPCODE', 'argument_of', 'batch_of', 'check_whole', 'closing_of', 'content_of',
+           'end_of', 'fields_in', 'fields_of', 'fields_of_tails', 'frames_in', 'is_whole', 'key_of', 'last_opcode', 'left_of', 'line_at', 'line_of',
+           'name_in', 'names_of', 'offset_in', 'offsets_in', 'opcode_of', 'opcodes_of', 'printed', 'shown_argument', 'shown_code', 'starts_in',
+           'whole_lines', 'words_of']
 
 Fields = Dict[str, Any]
 
@@ -31,7 +34,7 @@ _MOST_OF_LINES = 4 << 20
 # How many bytes FRAME has.
 FRAME_SIZE = 9
 # How lines begin: the first field is the kind. No text in a line has a newline or a quote that is not escaped.
-_OPCODE, _LEFT, _END = b'{"kind":"opcode"', b'{"kind":"left"', b'{"kind":"end"'
+OPCODE, _LEFT, _END = b'{"kind":"opcode"', b'{"kind":"left"', b'{"kind":"end"'
 _NO_END = 'the program gave no whole answer'
 
 
@@ -61,7 +64,7 @@ def fields_in(lines: bytes) -> List[Fields]:
 
 # --- Lines among others ---
 
-def starts_in(lines: bytes, begins: bytes = _OPCODE) -> Iterator[int]:
+def starts_in(lines: bytes, begins: bytes = OPCODE) -> Iterator[int]:
     """Where the lines of opcodes begin.
 
     >>> list(starts_in(b'{"kind":"opcode"}\\n{"kind":"left"}\\n{"kind":"opcode"}\\n'))
@@ -129,7 +132,7 @@ def last_opcode(blocks: Iterable[bytes]) -> Optional[Fields]:
             parts.clear()
         parts.append(block)
     lines = b''.join(parts).split(b'\n')[-3:-1]
-    return fields_of(lines[0]) if len(lines) == 2 and lines[0].startswith(_OPCODE) else None
+    return fields_of(lines[0]) if len(lines) == 2 and lines[0].startswith(OPCODE) else None
 
 
 # --- Many opcodes ---
@@ -142,6 +145,7 @@ class Batch(NamedTuple):
 
 
 _HEAD, _TAIL = '{"kind":"opcode","offset":', ',"opcode":"'
+_BEHIND_HEAD = itemgetter(slice(len(_HEAD), None))
 # (To replace a text by another one of its length takes half the time.)
 _BREAK = '\n'.rjust(len(_TAIL))
 _TAIL_BEGINS, _TAIL_BETWEEN = '{"opcode":"', ',{"opcode":"'
@@ -175,7 +179,10 @@ def offsets_in(heads: Sequence[str]) -> List[int]:
     >>> offsets_in(['{"kind":"opcode","offset":2', '{"kind":"opcode","offset":13 '])
     [2, 13]
     """
-    return list(map(int, ' '.join(heads).replace(_HEAD, '').replace('"', '').split()))
+    try:
+        return list(map(int, map(_BEHIND_HEAD, heads)))
+    except ValueError:  # (a large number is in quotes)
+        return list(map(offset_in, heads))
 
 
 def name_in(tail: str) -> str:
@@ -199,76 +206,6 @@ def fields_of_tails(tails: Collection[str]) -> List[Fields]:
     return found
 
 
-# What stands in each line of an opcode, and the control characters that stand for it where lines are kept: no line of JSON has one of its own.
-_BEGINS, _ENDS = b'{"kind":"opcode","offset":', b'}'
-_KEPT = (b'\t', b',"opcode":"'), (b'\v', b'","argument":'), (b'\f', b',"marks":')
-
-
-def packed(lines: bytes) -> bytes:
-    """Lines of opcodes, each with its newline, as they are kept: a third as long. What stands in texts stays as it is.
-
-    >>> packed(b'{"kind":"opcode","offset":2,"opcode":"BINGET","argument":7,"marks":0}\\n')
-    b'2\\tBINGET\\x0b7\\x0c0\\n'
-    """
-    for sign, words in _KEPT:
-        lines = lines.replace(words, sign)
-    return lines.replace(_BEGINS, b'').replace(_ENDS + b'\n', b'\n')
-
-
-def unpacked(line: bytes) -> Fields:
-    """The fields of a line that is kept so, without its newline.
-
-    >>> unpacked(b'2\\tBINGET\\x0b7\\x0c0')
-    {'kind': 'opcode', 'offset': 2, 'opcode': 'BINGET', 'argument': 7, 'marks': 0}
-    """
-    for sign, words in _KEPT:
-        line = line.replace(sign, words, 1)
-    return fields_of(_BEGINS + line + _ENDS)
-
-
-def signs_of_key(key: int) -> Tuple[bytes, ...]:
-    """What stands in the line, as it is kept, of an opcode that stores an object under this key or gets one; and in a few others."""
-    return b'\v%d\f' % key, b'"memo":%d' % key, b'"%d"' % key
-
-
-def sign_of(name: str, key: int) -> bytes:
-    """The same of an opcode of this name, whose argument is the key."""
-    return b'\t%b\v%d\f' % (name.encode('ascii'), key)
-
-
-def sign_of_marks(count: int) -> bytes:
-    """The same of so many open marks, and of as many as begin with these digits."""
-    return b'\f%d' % count
-
-
-def key_at(line: bytes) -> Optional[int]:
-    """The key in a line as it is kept.
-
-    >>> key_at(b'2\\tBINGET\\x0b7\\x0c0'), key_at(b'2\\tNONE"\\x0c0')
-    (7, None)
-    """
-    begin, end = line.find(b'\v') + 1, line.find(b'\f')
-    return int(line[begin:end]) if begin and line[begin:end].isdigit() else key_of(unpacked(line))
-
-
-def codes_in(lines: bytes) -> bytes:
-    """The codes of the opcodes in lines of which there may be millions.
-
-    >>> codes_in(b'{"kind":"opcode","offset":0,"opcode":"NONE","marks":0}\\n')
-    b'N'
-    """
-    return b''.join([_CODE_OF[rest[:rest.index(b'"')]] for rest in lines.split(b',"opcode":"')[1:]])
-
-
-def offset_at(lines: Union[bytes, bytearray], start: int) -> int:
-    """The offset in a line, as it is kept, that begins at a place.
-
-    >>> offset_at(b'12\\tNONE"\\x0c0', 0)
-    12
-    """
-    return int(lines[start:lines.index(b'\t', start)].strip(b'"'))
-
-
 # --- An opcode ---
 
 def opcode_of(fields: Fields) -> Opcode:
@@ -277,6 +214,7 @@ def opcode_of(fields: Fields) -> Opcode:
     >>> opcode_of({'offset': 11, 'opcode': 'GLOBAL', 'module': 'os', 'name': 'getcwd', 'marks': 1})
     Opcode(offset=11, code=b'c', name='GLOBAL', argument=(b'os', b'getcwd'), note='', marks=1)
     """
+    from .listing_records import Opcode  # (`scan` needs none)
     return Opcode(int(fields['offset']), *_said(fields))
 
 
@@ -286,13 +224,14 @@ def opcodes_of(blocks: Iterable[bytes]) -> Iterator[Opcode]:
     >>> [opcode.offset for opcode in opcodes_of([b'{"kind":"opcode","offset":2,"opcode":"NONE","marks":0}\\n'])]
     [2]
     """
+    from .listing_records import Opcode
     known: Dict[str, _Said] = {}
     for lines in whole_lines(blocks):
         batch = batch_of(lines.decode('ascii'))
         new = set(batch.tails).difference(known)
         known.update(zip(new, map(_said, fields_of_tails(new))))
-        for head, said in zip(batch.heads, map(known.__getitem__, batch.tails)):
-            yield Opcode(offset_in(head), *said)
+        for offset, said in zip(offsets_in(batch.heads), map(known.__getitem__, batch.tails)):
+            yield Opcode(offset, *said)
         if len(known) > _MOST_KNOWN or len(lines) > _MOST_OF_LINES:
             known.clear()
 
@@ -301,27 +240,6 @@ def _said(fields: Fields) -> _Said:
     """What an opcode has besides its offset."""
     name = fields['opcode']
     return _CODES[name], name, argument_of(fields), _note(fields), fields['marks']
-
-
-def made_of(offset: int, name: str, argument: Argument) -> Fields:
-    """The fields of an opcode, of which it is not known how many marks are open before it."""
-    fields: Fields = {'kind': 'opcode', 'offset': offset, 'opcode': name}
-    for key, value in zip(('module', 'name'), argument) if isinstance(argument, tuple) else [('argument', argument)]:
-        if isinstance(value, bytes):
-            _put(fields, key, value)
-        elif isinstance(value, float):
-            fields['argument_f8_hex'] = struct.pack('>d', value).hex()
-        elif value is not None:
-            fields['argument' if abs(value) < _MOST_EXACT else 'argument_digits'] = value if abs(value) < _MOST_EXACT else str(value)
-    return {**fields, 'marks': 0}
-
-
-def _put(fields: Fields, name: str, content: bytes) -> None:
-    """Puts bytes into a field, as text if they are that."""
-    try:
-        fields[name] = content.decode('utf-8')
-    except UnicodeDecodeError:
-        fields[f'{name}_hex'] = content.hex()
 
 
 def argument_of(fields: Fields) -> Argument:
@@ -451,8 +369,7 @@ def shown_argument(fields: Fields) -> str:
 
 
 def _quoted(fields: Fields, name: str = 'argument') -> str:
-    more = f' .. {fields[f"{name}_more"]} bytes more' if f'{name}_more' in fields else ''
-    return f"'{content_of(fields, name).decode('latin-1').translate(_ESCAPES)}{more}'"
+    return f"'{content_of(fields, name).decode('latin-1').translate(_ESCAPES)}'"
 
 
 def printed(fields: Fields) -> List[str]:
@@ -481,50 +398,9 @@ def shown_code(code: str) -> str:
     return code if '!' <= code <= '~' else f'\\x{ord(code):02x}'
 
 
-_MOST_EXACT = 1 << 53
-_LONGEST_ESCAPE = len('\\uXXXX') + 1
 _CODES = {name: bytes((opcode.code,)) for name, opcode in BY_NAME.items()}
-_CODE_OF = {name.encode('ascii'): code for name, code in _CODES.items()}
 _SHOWN_CODES = {name: shown_code(opcode.letter) for name, opcode in BY_NAME.items()}
 _ESCAPES = {**{code: f'\\x{code:02x}' for code in range(256) if not 32 <= code <= 126}, ord("'"): "\\'", ord('\\'): '\\\\'}
-
-
-# --- Long texts ---
-
-def cut(line: bytes, most: int) -> bytes:
-    """The line of an opcode, whose texts have at most so many bytes. How many there are more is in a field that the program does not write.
-
-    >>> cut(b'{"opcode":"BINUNICODE","argument":"abcdefgh","marks":0}', 5)
-    b'{"opcode":"BINUNICODE","marks":0,"argument":"abcde","argument_more":3}'
-    """
-    if len(line) <= most:
-        return line
-    fields = fields_of(line)
-    for name in ('argument', 'module', 'name'):
-        content = content_of(fields, name) if isinstance(fields.get(name), str) or f'{name}_hex' in fields else b''
-        if len(content) > most:
-            fields.pop(name, None), fields.pop(f'{name}_hex', None)
-            _put(fields, name, content[:most])
-            fields[f'{name}_more'] = fields.get(f'{name}_more', 0) + len(content) - most
-    return json.dumps(fields, separators=(',', ':')).encode('ascii')
-
-
-def joined(begins: bytes, left_out: int, ends: bytes) -> bytes:
-    """The line of an opcode with one text, out of whose midst so many letters were left.
-
-    >>> joined(b'{"opcode":"BINUNICODE","argument":"ab\\\\u00', 20, b'fgh","marks":0}')
-    b'{"opcode":"BINUNICODE","argument":"ab","marks":0,"argument_more":20}'
-    """
-    ends = ends[ends.rindex(b'","marks":'):]
-    for less in range(_LONGEST_ESCAPE):
-        try:
-            fields = fields_of(begins[:len(begins) - less] + ends)
-        except ValueError:
-            continue
-        if '\ud800' <= fields.get('argument', '')[-1:] <= '\udbff':  # (the first half of a sign)
-            fields['argument'] = fields['argument'][:-1]
-        return json.dumps({**fields, 'argument_more': left_out}, separators=(',', ':')).encode('ascii')
-    raise ProgramError(_NO_END)
 
 
 class Listed:
@@ -537,7 +413,12 @@ class Listed:
         """Starts a listing, or has that of a small input in this process; `words` say how the input is read."""
         content = given.small_content(library.MOST_BYTES) if timeout is None else None
         lines = None if content is None else library.answer(['list', '--json', *words], content, memory)
-        self._blocks: Iterable[bytes] = [lines] if lines is not None else Process(['list', '--json', given.path, *words], given.files, memory).blocks(timeout)
+        self._blocks: Iterable[bytes]
+        if lines is not None:
+            self._blocks = [lines]
+        else:
+            from .program import Process
+            self._blocks = Process(['list', '--json', given.path, *words], given.files, memory).blocks(timeout)
         self._end: Fields = {}
         self.refused_at: Optional[int] = None
 

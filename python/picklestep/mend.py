@@ -4,15 +4,15 @@ from __future__ import annotations
 
 import argparse
 import sys
-from typing import List, Optional
+from typing import List
 
-from .addresses import Opened, given, is_in
+from .addresses import check_out, given, saved
 from .errors import PicklestepError, reason
 from .mending import mended
 from .printing import print_text
 from .saving import is_same_file
 from .session import Session
-from .wording import shown
+from .waiting import Waiting
 
 __all__ = ['main']
 
@@ -21,9 +21,9 @@ def main(arguments: List[str]) -> int:
     """Writes a line for each edit, and saves the result. The status is 0 where the pickle was whole, 1 where it was mended or is followed by what
     was not read, 2 where there is no result."""
     parser = argparse.ArgumentParser(
-        prog='picklestep mend', description='Makes a pickle that reads to its STOP from one that was cut off or damaged. Nothing of it is run.',
+        prog='picklestep mend', description='Makes a whole pickle from one that was cut off or damaged. Nothing of it is run.',
         epilog='Status: 0 if the pickle was whole; 1 if it was mended, or if bytes after it were not read; 2 if there is no result.')
-    parser.add_argument('file', metavar='FILE', help='the pickle, or its address, which stays as it is')
+    parser.add_argument('file', metavar='FILE', help='the pickle, or its address; it stays as it is')
     parser.add_argument('out', metavar='OUT', nargs='?', help='write the result to this file, which cannot be FILE')
     parser.add_argument('--many', action='store_true', help='FILE has several pickles that follow one another')
     parser.add_argument('--save', metavar='OUT', help='the same as OUT')
@@ -36,21 +36,17 @@ def main(arguments: List[str]) -> int:
         return 2
     try:
         pickle, found = given(options.file)
-        _check_out(out, found)
-        answer = mended(pickle, options.many)
+        if out is not None:
+            check_out(out, '' if found is None else found.path)
+        with Waiting():
+            answer = mended(pickle, options.many)
         kept = (f'{answer.kept} bytes after STOP are not read (try --many)',) if answer.kept else ()
         print_text(''.join(f'{step}\n' for step in (*answer.steps, *kept)) or 'it is whole\n')
         if out is not None:
             with Session(answer.content, many=options.many) as session:
                 session.save(out)
-            print_text(f'saved {ascii(out)[1:-1]}\n')
+            print_text(saved(out, found))
     except (OSError, PicklestepError) as error:
         print(f'picklestep: {reason(error)}', file=sys.stderr)
         return 2
     return 1 if answer.steps or answer.kept else 0
-
-
-def _check_out(out: Optional[str], found: Optional[Opened]) -> None:
-    """Raises PicklestepError where the result would be written into a container, or in its place."""
-    if out is not None and is_in(out, '' if found is None else found.path):
-        raise PicklestepError(f'cannot write {shown(out)}: nothing is written into a container')

@@ -13,17 +13,19 @@ from dataclasses import dataclass
 from itertools import islice
 from typing import Dict, List, Optional, Set, Tuple
 
-from .addresses import opened_in
-from .answers import Heap
+from .addresses import content_in
 from .errors import PicklestepError, Refused
 from .hints import OF_FRAMES
 from .listed import FRAME_SIZE
+from .listing_records import Object
 from .opcodes import BY_NAME
 from .program import run_program
-from .records import End, Mark, Object
+from .records import End
 from .replies import opcode_refused_in, ran_of, refused_in
 from .session import Session
-from .sources import Input, OwnFile, Source, content_of
+from .session_answers import Heap
+from .session_records import Mark
+from .sources import Input, OwnFile, Source
 from .tasks import modes
 from .texts import refused
 
@@ -75,8 +77,7 @@ def mended(source: Source, many: bool = False) -> Mended:
     9: STOP added
     9: APPENDS added: 2 objects into list #0
     """
-    opened = opened_in(source)
-    content = content_of(source) if opened is None else opened.content
+    content = content_in(source)
     steps: List[str] = []
     is_cut = False
     for _ in range(_MOST_ROUNDS):

@@ -6,7 +6,7 @@ This imports only what an interpreter has loaded when it starts, since the entra
 
 import os
 
-__all__ = ['BEGINS', 'BETWEEN', 'ENOUGH', 'SERVERS', 'begins_like_one', 'has_zip_behind', 'holds_others', 'is_archive', 'is_at_server', 'is_taken_apart', 'may_have_arrays', 'split']
+__all__ = ['BEGINS', 'BETWEEN', 'ENOUGH', 'SERVERS', 'begins_gated', 'begins_like_one', 'has_index', 'has_zip_behind', 'holds_others', 'is_archive', 'is_at_server', 'is_gated_whole', 'is_taken_apart', 'may_have_arrays', 'split']
 
 # What stands between the names of an address.
 BETWEEN = ' > '
@@ -16,14 +16,17 @@ SERVERS = tuple(f'{scheme}://' for scheme in ('redis', 'rediss', 'memcached', 'm
 # asks the same.)
 BEGINS = (
     *((0, b'PK' + sign) for sign in (b'\x03\x04', b'\x05\x06', b'\x06\x06', b'\x01\x02', b'\x07\x08')),
-    (0, b'\x1f\x8b\x08'), (0, b'BZh'), (0, b'\xfd7zXZ\0'), (0, b'\x5d\0\0'), (0, b'\x28\xb5\x2f\xfd'), (0, b'ZF0x'),
+    (0, b'\x1f\x8b\x08'), (0, b'BZh'), (0, b'\xfd7zXZ\0'), (0, b'\x5d\0\0'), (0, b'\x28\xb5\x2f\xfd'), (0, b'\x04\x22\x4d\x18'), (0, b'ZF0x'),
     *((0, b'x' + level) for level in (b'\x01', b'\x5e', b'\x9c', b'\xda')),
     (0, b'\x93NUMPY'), (257, b'ustar'), (0, b'SQLite format 3\0'), (0, b'\x89HDF\r\n\x1a\n'),
     *((0, b'\x13\x57\x9a' + bytes([last])) for last in range(0xcd, 0xd2)), *((0, bytes([first]) + b'\x9a\x57\x13') for first in range(0xcd, 0xd2)),
     (12, b'\x61\x15\x06\0'), (12, b'\0\x06\x15\x61'),
 )
-# How those of them begin that `gate` looks at itself.
+_AT_FIRST = tuple(magic for offset, magic in BEGINS if not offset)
+_BEHIND = tuple((offset, magic) for offset, magic in BEGINS if offset)
+# How zip archives begin, and the others that `gate` looks at itself: gzip, zlib and arrays of numpy.
 _ARCHIVES = (b'PK\x03\x04', b'PK\x05\x06')
+_GATED = (*_ARCHIVES, b'\x1f\x8b', b'x\x01', b'x\x5e', b'x\x9c', b'x\xda', b'\x93NUMPY')
 # So many bytes show that.
 ENOUGH = max(offset + len(magic) for offset, magic in BEGINS)
 # The record that closes a zip archive has so many bytes, and then a comment, whose length its last two bytes say.
@@ -61,18 +64,47 @@ def holds_others(path: str) -> bool:
     """
     if path.startswith(('/dev/', '/proc/')) or not os.path.isfile(path):
         return False
-    if path.endswith('.dat') and os.path.isfile(path[:-4] + '.dir'):
-        return True
-    return begins_like_one(_head(path))
+    return has_index(path) or begins_like_one(_head(path))
+
+
+def has_index(path: str) -> bool:
+    """Whether a file has the values of `dbm.dumb`: its index is beside it.
+
+    >>> has_index('no file.dat')
+    False
+    """
+    return path.endswith('.dat') and os.path.isfile(path[:-4] + '.dir')
 
 
 def is_archive(path: str) -> bool:
-    """Whether a file begins as a zip archive does, so that `gate` judges its members.
+    """Whether a file begins as a zip archive does.
 
     >>> is_archive('no file')
     False
     """
-    return os.path.isfile(path) and not path.startswith(('/dev/', '/proc/')) and _head(path).startswith(_ARCHIVES)
+    return _begins_with(path, _ARCHIVES)
+
+
+def is_gated_whole(path: str) -> bool:
+    """Whether a file begins as what `gate` looks at itself: a zip archive, whose members it judges, a file of gzip or zlib, or an array of numpy.
+
+    >>> is_gated_whole('no file')
+    False
+    """
+    return _begins_with(path, _GATED)
+
+
+def begins_gated(head: bytes) -> bool:
+    """Whether bytes begin as what `gate` looks at itself.
+
+    >>> begins_gated(b'PK\\x03\\x04'), begins_gated(b'BZh9')
+    (True, False)
+    """
+    return head.startswith(_GATED)
+
+
+def _begins_with(path: str, begins: 'tuple[bytes, ...]') -> bool:
+    return os.path.isfile(path) and not path.startswith(('/dev/', '/proc/')) and _head(path).startswith(begins)
 
 
 def _head(path: str) -> bytes:
@@ -89,7 +121,7 @@ def begins_like_one(head: bytes) -> bool:
     >>> begins_like_one(b'PK\\x03\\x04'), begins_like_one(b'N.')
     (True, False)
     """
-    return any(head.startswith(magic, offset) for offset, magic in BEGINS)
+    return head.startswith(_AT_FIRST) or any(head.startswith(magic, offset) for offset, magic in _BEHIND)
 
 
 def is_at_server(word: str) -> bool:

@@ -8,22 +8,25 @@ from __future__ import annotations
 
 import argparse
 import sys
+from bisect import bisect_left
+from itertools import accumulate, chain, islice
 from pathlib import Path
 from typing import Any, Dict, Iterable, Iterator, List, NamedTuple, Sequence, Set, Tuple
 
-from .addresses import given, is_in
+from .addresses import check_out, content_in, given, saved
 from .arguments import encoded
+from .collector import without_collector
 from .errors import NotConverted, PicklestepError, reason
+from .listing_records import Opcode
 from .opcodes import BY_NAME
 from .printing import print_text
-from .records import Opcode
 from .saving import naming, written_whole
 from .session import Session
 from .sources import Source, content_of
 from .tasks import listing, objects
-from .wording import shown
+from .waiting import Waiting
 
-__all__ = ['SPELLINGS', 'framed', 'frames_around', 'main', 'optimize']
+__all__ = ['SPELLINGS', 'framed', 'frames_around', 'in_frames', 'main', 'optimize']
 
 _PUTS = ('PUT', 'BINPUT', 'LONG_BINPUT', 'MEMOIZE')
 _GETS = ('GET', 'BINGET', 'LONG_BINGET')
@@ -46,15 +49,17 @@ class _Edit(NamedTuple):
     value: Any = None
 
 
+@without_collector()
 def optimize(source: Source) -> bytes:
-    """A pickle that makes the same objects, and is as small as edits of single opcodes make it; never larger than the source.
+    """A pickle that makes the same objects, and is as small as edits of single opcodes make it; never larger than the source. Of an address or the path
+    of a container it is the pickle alone that is opened there.
 
     Raises NotConverted where it does not read to its end, or is followed by other bytes.
 
     >>> optimize(b'\\x80\\x02]q\\x00J\\x05\\x00\\x00\\x00a.')
     b'\\x80\\x02]K\\x05a.'
     """
-    content = content_of(source)
+    content = content_in(source)
     answer = listing(content, many=True)
     if not answer.end.is_stopped:
         raise NotConverted([f'reading ends early: {answer.end.text}'])
@@ -63,12 +68,10 @@ def optimize(source: Source) -> bytes:
         raise NotConverted(['several pickles follow one another: optimize each by itself'])
     protocol = opcodes[0].argument if opcodes[0].name == 'PROTO' else answer.protocol or 0
     assert isinstance(protocol, int)
-    with Session(content) as session:
-        _edit(session, [*_memo_edits(opcodes, protocol), *_respelled(opcodes, protocol)], opcodes)
-        if any(opcode.name == 'FRAME' for opcode in opcodes):
-            _frame(session)
-        made = session.bytes()
-    if objects(content).text != objects(made).text:
+    parts = list(_edited(content, opcodes, [*_memo_edits(opcodes, protocol), *_respelled(opcodes, protocol)]))
+    made = in_frames(parts) if any(opcode.name == 'FRAME' for opcode in opcodes) else b''.join(parts)
+    del opcodes, parts  # (what is compared takes its own memory)
+    if objects(content).json != objects(made).json:
         raise NotConverted(['it would not make the same objects'])
     return made if len(made) < len(content) else content
 
@@ -124,77 +127,88 @@ def _shortest(name: str, value: Any, protocol: int) -> Tuple[str, Any]:
     return name, value
 
 
-def _edit(session: Session, edits: Sequence[_Edit], opcodes: Sequence[Opcode]) -> None:
-    """Makes edits, and takes the FRAMEs away: from the last place to the first, so that no edit moves what is edited next."""
+def _edited(content: bytes, opcodes: Sequence[Opcode], edits: Iterable[_Edit]) -> Iterator[bytes]:
+    """The bytes of the opcodes that are left after edits, without FRAMEs."""
     by_place = {edit.place: edit for edit in edits}
-    for place in range(len(opcodes) - 1, -1, -1):
+    ends = chain((opcode.offset for opcode in islice(opcodes, 1, None)), (len(content),))
+    for place, (opcode, end) in enumerate(zip(opcodes, ends)):
         edit = by_place.get(place)
-        if opcodes[place].name == 'FRAME':
-            session.unframe(place)
-        elif edit is not None and not edit.name:
-            session.delete(place)
-        elif edit is not None and (edit.name, edit.value) != (opcodes[place].name, opcodes[place].argument):
-            session.replace(place, edit.name, *([] if edit.value is None else [edit.value]))
+        if edit is None:
+            if opcode.name != 'FRAME':
+                yield content[opcode.offset:end]
+        elif (edit.name, edit.value) == (opcode.name, opcode.argument):
+            yield content[opcode.offset:end]
+        elif edit.name:
+            yield bytes((BY_NAME[edit.name].code,)) + encoded(edit.name, [] if edit.value is None else [edit.value])
+
+
+def in_frames(parts: Sequence[bytes]) -> bytes:
+    """Opcodes in frames as pickle makes them; PROTO is in none.
+
+    >>> in_frames([b'\\x80\\x04', b'K\\x01', b'K\\x02', b'\\x86', b'.'])
+    b'\\x80\\x04\\x95\\x06\\x00\\x00\\x00\\x00\\x00\\x00\\x00K\\x01K\\x02\\x86.'
+    """
+    first = int(parts[0][0] == BY_NAME['PROTO'].code)
+    made, at = list(parts[:first]), first
+    for place, count in frames_around(map(len, islice(parts, first, None))):
+        made += parts[at:first + place]
+        at = first + place + count
+        inner = b''.join(parts[first + place:at])
+        made += bytes((BY_NAME['FRAME'].code,)), len(inner).to_bytes(8, 'little'), inner
+    return b''.join((*made, *parts[at:]))
 
 
 def framed(content: bytes) -> bytes:
-    """A pickle without frames in frames as pickle makes them.
+    """A pickle without frames in frames as pickle makes them; it may have faults.
 
     >>> framed(b'\\x80\\x04K\\x01K\\x02\\x86.')
     b'\\x80\\x04\\x95\\x06\\x00\\x00\\x00\\x00\\x00\\x00\\x00K\\x01K\\x02\\x86.'
     """
     with Session(content) as session:
-        _frame(session)
+        opcodes = list(session.listing())
+        ends = [opcode.offset for opcode in opcodes[1:]] + [len(session.bytes())]
+        first = int(opcodes[0].name == 'PROTO')
+        sizes = [end - opcode.offset for opcode, end in zip(opcodes[first:], ends[first:])]
+        for place, count in reversed(list(frames_around(sizes))):
+            session.frame(first + place, count)
         return session.bytes()
-
-
-def _frame(session: Session) -> None:
-    """Puts frames around the opcodes behind PROTO, as pickle does."""
-    opcodes = list(session.listing())
-    ends = [opcode.offset for opcode in opcodes[1:]] + [len(session.bytes())]
-    first = int(opcodes[0].name == 'PROTO')
-    sizes = [end - opcode.offset for opcode, end in zip(opcodes[first:], ends[first:])]
-    for place, count in reversed(list(frames_around(sizes))):
-        session.frame(first + place, count)
 
 
 def frames_around(sizes: Iterable[int]) -> Iterator[Tuple[int, int]]:
     """The frames that pickle puts around opcodes of these sizes: the place of the first one in each, and how many there are.
 
-    >>> list(frames_around([70_000, 1, 2, 1]))
-    [(1, 3)]
+    >>> list(frames_around([70_000, 1, 2, 1])), list(frames_around([60_000, 6_000, 1, 70_000, 9]))
+    ([(1, 3)], [(0, 2), (4, 1)])
     """
-    first, size, place = 0, 0, -1
-    for place, own in enumerate(sizes):
-        if size >= _LARGEST or own > _LARGEST:
-            if size >= _LEAST:
-                yield first, place - first
-            first, size = place, 0
-        if own > _LARGEST:
-            first = place + 1
-        else:
-            size += own
-    if size >= _LEAST:
-        yield first, place + 1 - first
+    sizes = list(sizes)
+    sums = list(accumulate(sizes, initial=0))
+    first = 0
+    for large in [*(place for place, own in enumerate(sizes) if own > _LARGEST), len(sizes)]:  # (which are in no frame)
+        while first < large:
+            end = min(bisect_left(sums, sums[first] + _LARGEST, first), large)
+            if sums[end] - sums[first] >= _LEAST:
+                yield first, end - first
+            first = end
+        first = large + 1
 
 
 def main(arguments: List[str]) -> int:
     """Writes the pickle to OUT. The status is 1 where it cannot be made smaller so, 2 where it cannot be read or written."""
     parser = argparse.ArgumentParser(
         prog='picklestep optimize', description='Makes a smaller pickle that makes the same objects. Nothing of it is run.',
-        epilog='Status: 0 if the result is saved, also if it is not smaller; 1 if nothing is written, and why is said; 2 if it cannot be read or written.')
+        epilog='Status: 0 if the result is saved, also if it is not smaller; 1 if nothing is written, for a reason that is printed; 2 if it cannot be read or written.')
     parser.add_argument('file', metavar='FILE', help='the pickle, or its address')
     parser.add_argument('--save', metavar='OUT', required=True, help='write the result to this file')
     options = parser.parse_args(arguments)
     try:
         pickle, found = given(options.file)
-        if is_in(options.save, '' if found is None else found.path):
-            raise PicklestepError(f'cannot write {shown(options.save)}: nothing is written into a container')
+        check_out(options.save, '' if found is None else found.path)
         before = content_of(pickle)
-        made = optimize(before)
+        with Waiting():
+            made = optimize(before)
         with naming(options.save), written_whole(Path(options.save)) as file:
             file.write(made)
-        print_text(f'{len(before)} bytes -> {len(made)} bytes\nsaved {ascii(options.save)[1:-1]}\n')
+        print_text(f'{len(before)} bytes -> {len(made)} bytes\n{saved(options.save, found)}')
     except NotConverted as error:
         print_text(''.join(f'{line}\n' for line in (*error.lines, 'nothing is written')))
         return 1

@@ -25,7 +25,7 @@ from typing import IO, Dict, Generator, Iterable, Iterator, List, NoReturn, Opti
 
 from .errors import OutOfMemory, ProgramError, TimedOut, TooLarge
 from .place import NOT_FOR_NODE, find_program, is_module, program_words
-from .replies import complaint_of
+from .took import count_seconds
 
 try:
     import fcntl
@@ -36,8 +36,7 @@ try:
 except ImportError:  # (nor this)
     resource = None  # type: ignore[assignment]
 
-__all__ = ['MOST_SECONDS', 'Process', 'check_timeout', 'count_ended', 'count_seconds', 'find_program', 'run_program', 'seconds_of_programs',
-           'time_to_wait']
+__all__ = ['MOST_SECONDS', 'Process', 'check_timeout', 'find_program', 'run_program', 'time_to_wait']
 
 # A program is waited for at most so long: poll counts milliseconds in 31 bits.
 MOST_SECONDS = (2**31 - 1) // 1000
@@ -126,6 +125,11 @@ class Process:
     def stdout(self) -> int:
         """Where the program's answers come from."""
         return _pipe(self._popen.stdout)
+
+    @property
+    def status(self) -> Optional[int]:
+        """The status with which the program ended."""
+        return self._popen.returncode
 
     def limit_seconds(self, seconds: float) -> None:
         """Lets the program take this much processor time, rounded up, from its start on. The system then ends it, where it can (`time_to_wait`)."""
@@ -224,23 +228,6 @@ class Process:
             _close(self._lifeline)
 
 
-class _Counted:
-    """The seconds of other processes that the system does not count."""
-
-    seconds = 0.0
-
-
-def count_seconds(seconds: float) -> None:
-    """Counts processor time of a process that goes on. (The system counts it after its end.)"""
-    _Counted.seconds += seconds
-
-
-def count_ended(seconds: float) -> None:
-    """Counts it no more, where the system counts it now."""
-    if resource is not None:
-        _Counted.seconds -= seconds
-
-
 @contextlib.contextmanager
 def _counted_by_the_clock() -> Iterator[None]:
     """Within it a program is waited for. Where the system does not count what it took (Windows), the time by the clock is taken for that."""
@@ -267,14 +254,6 @@ def time_to_wait(seconds: float) -> float:
     """How long a program is waited for that may take so many seconds of processor time: the clock may run longer, where other processes have the
     processor. Where the system does not end a program after that time, it ends by the clock, which also runs while it starts."""
     return min(MOST_SECONDS, max(0.5, seconds) * _WAITING if _HAS_LIMITS else max(0.0, seconds) + _STARTING)
-
-
-def seconds_of_programs() -> float:
-    """The processor time of all programs that this process waited for, and of Node as it goes on."""
-    if resource is None:
-        return _Counted.seconds
-    children = resource.getrusage(resource.RUSAGE_CHILDREN)
-    return children.ru_utime + children.ru_stime + _Counted.seconds
 
 
 def _close(file: int) -> None:
@@ -304,6 +283,7 @@ def _widen(pipe: int) -> None:
 
 def _raise_failure(status: int, errors: bytes, is_limited: bool) -> NoReturn:
     """Raises why a run failed, by its status and by what it wrote on standard error. Where its memory is limited, its stack may not grow either."""
+    from .replies import complaint_of
     words = complaint_of(errors.decode('utf-8', 'replace'))
     if status == -signal.SIGSEGV and is_limited:
         raise OutOfMemory(_WORDS, signal=-status)

@@ -7,6 +7,8 @@ import struct
 from functools import lru_cache
 from typing import List, NamedTuple, Optional, Sequence, Tuple
 
+from .patterns import pattern
+
 __all__ = ['FUNCTIONS', 'Question', 'granted', 'question', 'question_of_gate', 'question_of_reach', 'reading']
 
 _TASKS = ('list', 'objects', 'calls')
@@ -15,18 +17,21 @@ FUNCTIONS = {
     'picklestep_form': (0, 1),
     'picklestep_form_json': (0, 1),
     'picklestep_gate': (0, 2),
+    'picklestep_gate_json': (0, 2),
     'picklestep_reach': (1, 1),
     'picklestep_reach_json': (1, 1),
     'picklestep_members': (0, 1),
+    'picklestep_assemble': (0, 1),
     **{f'picklestep_{task}_with': (1, 2 if task == 'calls' else 1) for task in _TASKS},
     'picklestep_list_json': (1, 1),
+    'picklestep_objects_json': (1, 1),
     'picklestep_calls_json': (1, 2),
 }
 _MANY, _UNFRAMED = 1, 2
 # What a loader was given besides the bytes, for `reach`.
 _GRANTED = {'--extensions': 1, '--persistent-ids': 2, '--buffers': 4}
 _OPTIONS = {'--many': _MANY, '--unframed': _UNFRAMED, '--first': 4, '--memo': 8, '--full': 16}
-_HOLE = re.compile(r'(\d+):(\d+)', re.ASCII)
+_HOLE = pattern(r'(\d+):(\d+)', re.ASCII)
 _BYTE, _SIZE_OF_HOLE = 1, 16
 
 
@@ -61,7 +66,7 @@ def _asked_by(words: Tuple[str, ...]) -> Optional[Question]:
     is_json = '--json' in rest
     if is_json:
         rest.remove('--json')
-    if not rest and (task == 'form' or task == 'members' and not is_json):
+    if not rest and (task == 'form' or task in ('members', 'assemble') and not is_json):
         return Question('picklestep_form_json' if is_json else f'picklestep_{task}', (), ())
     if task == 'reach' and len({*rest}) == len(rest) and {*rest} <= {*_GRANTED}:
         return Question('picklestep_reach_json' if is_json else 'picklestep_reach', (granted(rest),), ())
@@ -82,9 +87,9 @@ def reading(many: bool, unframed: bool) -> int:
     return _MANY * many | _UNFRAMED * unframed
 
 
-def question_of_gate(entries: bytes, content: bytes) -> Question:
-    """Whether a list, as the program reads it, allows all that a pickle has."""
-    return Question('picklestep_gate', (), ((entries, _BYTE), (content, _BYTE)))
+def question_of_gate(entries: bytes, content: bytes, is_json: bool = True) -> Question:
+    """Whether a list, as the program reads it, allows all that a pickle has, as JSON or as text."""
+    return Question('picklestep_gate_json' if is_json else 'picklestep_gate', (), ((entries, _BYTE), (content, _BYTE)))
 
 
 def granted(words: Sequence[str]) -> int:

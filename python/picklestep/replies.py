@@ -1,39 +1,30 @@
-"""The program's short answers, read: those to lines of `debug`, those of `gate`, and what it complains of."""
+"""The program's short answers, read: those to lines of `debug`, those of `members`, and what it complains of."""
 
 from __future__ import annotations
 
 import os
 import re
-from dataclasses import replace
 from typing import Dict, Iterator, List, Optional, Tuple, Union
 
-from .records import GateAnswer, Mark, Member, Ran, Ref, Where
+from .patterns import pattern
+from .records import Ref
+from .session_records import Mark, Ran, Where
+from .short_records import Member
 from .texts import LinesError, end_of, unquoted
 
-__all__ = ['NOT_IN_FORM', 'WHERE_BEGINS', 'complaint_of', 'edit_in', 'entry_of', 'gate_answer', 'is_mark', 'last_words', 'line_refused', 'members_of', 'memo_of', 'number_in_word',
+__all__ = ['NO_MEMBERS', 'WHERE_BEGINS', 'complaint_of', 'edit_in', 'entry_of', 'is_mark', 'last_words', 'members_of', 'memo_of', 'number_in_word',
            'opcode_refused_in', 'place_in', 'ran_of', 'refused_in', 'stack_of', 'stored_under', 'where_of', 'words_of']
 
 _REFUSED = 'refused: '
-_EDITED = re.compile(r'(edited|undone|redone) ([0-9]+)')
-_RAN = re.compile(r'at ([0-9]+): (([a-z]+).*)')
+_EDITED = pattern(r'(edited|undone|redone) ([0-9]+)')
+_RAN = pattern(r'at ([0-9]+): (([a-z]+).*)')
 # What a step says of an opcode that is refused, and what a run says of it.
-_OPCODE_REFUSED = re.compile(r'(?:C3 item [0-9]+: |refused, )(.*)')
+_OPCODE_REFUSED = pattern(r'(?:C3 item [0-9]+: |refused, )(.*)')
 # How the answer of `where` begins, and no line of another answer of several lines.
 WHERE_BEGINS = b'at '
-_WHERE = re.compile(r'at ([0-9]+) of ([0-9]+), offset ([0-9]+), buffers ([0-9]+), result (none|#[0-9]+(?: #[0-9]+)*), end (.*)')
-# What `gate` says of another form: of a pickle the opcode, and of a zip archive the place.
-_OTHER_FORM = re.compile(r'not in form: (?:item [0-9]+ at )?([0-9]+): (.*)')
-NOT_IN_FORM = 'not in form: '
-# What `gate` answers where the pickle passes, and what of something that no list allows.
-_PASSES = 'passes'
-_NOT_ALLOWED = re.compile(r'([0-9]+): not allowed: (.*)')
-_NO_LIST = re.compile(rb'not a list: line ([0-9]+) is no entry\n')
-# What it answers of a zip archive: of bytes that are none, of one that is not looked at, and of a member, whose name is in front.
-_MEMBER = re.compile(r"('(?:[^'\\]|\\.)*'): (.*\n)")
-_UNSEEN = re.compile(r'(?:(an archive) itself|(two names .*|it unpacks .*)): (it is not looked at)')
-_BROKEN = re.compile(r'not deflated: (?:([0-9]+): )?(.*)|(another checksum than is told)')
-_BEHIND = 'behind its header: '
-_ENDED = re.compile(r'(?:refused|fault|unsure|kept): (.*?(?: at ([0-9]+))?)')
+_WHERE = pattern(r'at ([0-9]+) of ([0-9]+), offset ([0-9]+), buffers ([0-9]+), result (none|#[0-9]+(?: #[0-9]+)*), end (.*)')
+# What `members` answers of a file that has none, or that unpacks to too much.
+NO_MEMBERS = ('not in form: ', 'it unpacks to more ')
 _COMPLAINT = 'picklestep: '
 
 
@@ -174,55 +165,8 @@ def stored_under(answer: str, key: int) -> Optional[int]:
 
 # --- Other answers ---
 
-def line_refused(text: bytes) -> Optional[int]:
-    """The line of a list, from 1, that is no entry of one, where `gate` answers that.
-
-    >>> line_refused(b'not a list: line 3 is no entry\\n'), line_refused(b'passes\\n')
-    (3, None)
-    """
-    match = _NO_LIST.fullmatch(text)
-    return None if match is None else int(match[1])
-
-
-def gate_answer(text: str) -> GateAnswer:
-    """What the answer of `gate` says.
-
-    >>> gate_answer("0: not allowed: import 'posix' 'system' as #0\\n").reason
-    "import 'posix' 'system' as #0"
-    >>> gate_answer('refused: S2 stack underflow\\n').kind
-    'ended'
-    >>> answer = gate_answer("'data.pkl': 0: not allowed: import 'posix' 'system' as #0\\n")
-    >>> answer.member, answer.kind, answer.offset
-    ('data.pkl', 'not allowed', 0)
-    """
-    of_member = _MEMBER.fullmatch(text)
-    if of_member is not None:
-        is_behind = of_member[2].startswith(_BEHIND)
-        said = gate_answer(of_member[2][len(_BEHIND) if is_behind else 0:])
-        return replace(said, line=text[:-1], member=os.fsdecode(unquoted(of_member[1])), is_behind_header=is_behind)
-    line = text[:-1]
-    unseen = _UNSEEN.fullmatch(line)
-    if unseen is not None:
-        return GateAnswer(False, line, unseen[1] or 'not looked at', unseen[2] or unseen[3])
-    broken = _BROKEN.fullmatch(line)
-    if broken is not None:
-        return GateAnswer(False, line, 'broken', broken[2] or broken[3], None if broken[1] is None else int(broken[1]))
-    if line == _PASSES and text.endswith('\n'):
-        return GateAnswer(True, line, 'passes')
-    other = _OTHER_FORM.fullmatch(line)
-    if other is not None:
-        return GateAnswer(False, line, 'other form', other[2], int(other[1]))
-    match = _NOT_ALLOWED.fullmatch(line)
-    if match is not None:
-        return GateAnswer(False, line, 'not allowed', match[2], int(match[1]))
-    match = _ENDED.fullmatch(line)
-    if match is None:
-        raise LinesError('no answer of gate')
-    return GateAnswer(False, line, 'ended', match[1], None if match[2] is None else int(match[2]))
-
-
 def members_of(text: str) -> Iterator[Member]:
-    """What the answer of `members` says of an archive in form.
+    """What the answer of `members` says of an archive in form, or of a packed file.
 
     >>> [(each.name, each.size, each.deflated) for each in members_of("35: 2 stored 'a.pkl'\\n74: 3 deflated to 5 'b.pkl'\\n")]
     [('a.pkl', 2, None), ('b.pkl', 3, 5)]

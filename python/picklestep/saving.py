@@ -5,8 +5,7 @@ from __future__ import annotations
 import contextlib
 import errno
 import os
-import secrets
-import shutil
+import stat
 from pathlib import Path
 from typing import IO, Any, Iterator, Optional, Union
 
@@ -75,19 +74,20 @@ def written_whole(path: Path, encoding: Optional[str] = None) -> Iterator[IO[Any
     """
     kind = 'b' if encoding is None else ''
     target = Path(os.path.realpath(path))
-    if path.exists() and not _is_file_at(path, target):
+    is_there = path.exists()
+    if is_there and not _is_file_at(path, target):
         with open(path, f'w{kind}', encoding=encoding) as file:
             yield file
         return
     path = target
-    if path.exists():
+    if is_there:
         # (one that may not be written is not replaced)
-        open(path, 'r+b').close()
-    beside = path.with_name(f'picklestep-save-{secrets.token_hex(4)}.unfinished')
-    file = open(beside, f'x{kind}', encoding=encoding, opener=_private if path.exists() else None)
+        os.close(os.open(path, os.O_RDWR))
+    beside = path.with_name(f'picklestep-save-{os.urandom(4).hex()}.unfinished')
+    file = open(beside, f'x{kind}', encoding=encoding, opener=_private if is_there else None)
     try:
         with file:
-            if path.exists():
+            if is_there:
                 _take_after(path, beside)
             yield file
             file.flush()
@@ -127,4 +127,4 @@ def _take_after(path: Path, beside: Path) -> None:
         for owner, group in ((-1, before.st_gid), (before.st_uid, -1)):
             with contextlib.suppress(OSError):
                 os.chown(beside, owner, group)
-    shutil.copymode(path, beside)
+    os.chmod(beside, stat.S_IMODE(before.st_mode))

@@ -14,16 +14,17 @@ from pathlib import Path
 from typing import ContextManager, Dict, Iterator, List, Optional, Sequence, Tuple, Union, overload
 
 from . import library, replies
-from .addresses import is_in, opened_in
-from .answers import Calls, Heap, Items, Listing, ShownObjects
+from .addresses import check_out, opened_in
+from .answers import Calls, Listing
 from .arguments import ArgumentValue, encoded
-from .errors import PicklestepError, ProgramError, Refused, TimedOut
+from .errors import ProgramError, Refused, TimedOut
 from .program import Process, check_timeout, run_program
-from .records import Mark, Ran, Ref, Where
+from .records import Ref
 from .saving import written_whole
+from .session_answers import Heap, Items, ShownObjects
+from .session_records import Mark, Ran, Where
 from .sources import Input, OwnFile, Source, is_opened, is_word, small_content
 from .tasks import AskedOfSession, calls_of, frames_of, listing_of, modes
-from .wording import shown
 
 __all__ = ['SHIFTS', 'Session']
 
@@ -72,6 +73,11 @@ class _Talk(abc.ABC):
         """The lines of the edits that are not undone. Other threads may go on with the session."""
         with self._lock:
             return list(self._edits)
+
+    def undone(self) -> List[bytes]:
+        """The lines of the edits that are undone, the one that is made again first at the end."""
+        with self._lock:
+            return list(self._undone)
 
     def _note(self, line: bytes, answer: str) -> None:
         """Keeps the edits that are not undone, each with the place that it was made at."""
@@ -511,7 +517,12 @@ class Session(ContextManager['Session']):
         (0, b'K\\x05.')
         """
         content = self._talk.content()
-        return self._bytes_after(self._talk.edits()) if content is None else content
+        if content is not None:
+            return content
+        edits = self._talk.edits()
+        if edits or not self._finalizer.alive:
+            return self._bytes_after(edits)
+        return b''.join(self._given().blocks(0))
 
     def listing(self) -> Listing:
         """The opcodes of the pickle with the edits that are not undone, as `picklestep.listing` shows them.
@@ -552,8 +563,7 @@ class Session(ContextManager['Session']):
         (0, None, b'K\\x05.')
         """
         name = os.path.join(os.getcwd(), os.fsdecode(path))
-        if self._container and is_in(os.fsdecode(path), self._container):
-            raise PicklestepError(f'cannot write {shown(os.fsdecode(path))}: nothing is written into a container')
+        check_out(os.fsdecode(path), self._container)
         content = self._talk.content()  # (edits that are made again may come in another order, if a signal's handler edits)
         if content is None and is_word(name) and not is_opened(name, to_write=True):
             self._save(name, [], self._talk.edits())

@@ -4,16 +4,15 @@ from __future__ import annotations
 
 import io
 import os
-import re
 import stat
-import tempfile
 from typing import Any, Iterator, Optional, Protocol, Sequence, Union
 
 from .errors import ProgramError
+from .patterns import pattern
 from .place import find_program, is_module
 
 __all__ = ['LIMIT', 'Input', 'OwnFile', 'Source', 'content_of', 'is_fifo', 'is_opened', 'is_read_once', 'is_word',
-           'opened_descriptor', 'opens_descriptors', 'rereadable', 'small_content']
+           'opened_descriptor', 'opens_descriptors', 'rereadable', 'size_of', 'small_content']
 
 class Readable(Protocol):
     """A binary file object, as far as it is needed."""
@@ -32,7 +31,7 @@ LIMIT = 1 << 30
 _BLOCK = 1 << 20
 
 _STREAMS = {'/dev/stdin': 0, '/dev/stdout': 1, '/dev/stderr': 2}
-_OPENED = re.compile(r'(?:/dev|/proc/(?:self|thread-self|([0-9]+)(?:/task/[0-9]+)?))/fd/([0-9]+)')
+_OPENED = pattern(r'(?:/dev|/proc/(?:self|thread-self|([0-9]+)(?:/task/[0-9]+)?))/fd/([0-9]+)')
 _MOST_LINKS = 40  # as Linux follows
 
 
@@ -93,6 +92,13 @@ class Input:
             return b''
         with open(self.path, 'rb', buffering=0) as file:
             return file.read(most)
+
+    def blocks(self, begin: int) -> Iterator[bytes]:
+        """Its bytes from an offset on, some at a time."""
+        with open(self.path, 'rb', buffering=0) as file:
+            file.seek(begin)
+            while block := file.read(_BLOCK):
+                yield block
 
     def size(self) -> int:
         """How many bytes it has; of what is no file, how many it may have."""
@@ -164,8 +170,8 @@ def opened_descriptor(path: str, to_write: bool = False) -> Optional[int]:
         if stream is not None:
             return stream if to_write or stream == 0 else None
         folder, name = os.path.split(path)
-        # (a link may lead to the folder of them)
-        opened = _OPENED.fullmatch(path) or _OPENED.fullmatch(os.path.join(os.path.realpath(folder), name))
+        # (a link may lead to the folder of them, which have numbers for names)
+        opened = name.isdigit() and (_OPENED.fullmatch(path) or _OPENED.fullmatch(os.path.join(os.path.realpath(folder), name)))
         if opened and opened[1] in (None, str(os.getpid())):
             return int(opened[2])
         if not os.path.islink(path):
@@ -198,6 +204,18 @@ def rereadable(source: Source) -> Source:
     (b'N.', 'a.pickle')
     """
     return content_of(source) if is_read_once(source) else source
+
+
+def size_of(source: Source) -> int:
+    """How many bytes a source has that can be read again. Raises what `stat` raises.
+
+    >>> size_of(b'N.')
+    2
+    """
+    if isinstance(source, (str, os.PathLike)):
+        return os.stat(source).st_size
+    content: Any = source
+    return memoryview(content).nbytes
 
 
 def _open_to_read(path: str) -> io.FileIO:
@@ -242,6 +260,7 @@ class OwnFile:
             self.descriptor = _nameless_file()
             self.path, self.files = f'/dev/fd/{self.descriptor}', [self.descriptor]
         else:
+            import tempfile  # (Linux has no use for it)
             self.descriptor, self._name = tempfile.mkstemp(prefix='picklestep-')
             self.path, self.files = self._name, []
             if is_saved_to:
@@ -289,6 +308,7 @@ def _nameless_file() -> int:
     """An open file without a name, which is gone when it is closed."""
     if hasattr(os, 'memfd_create'):
         return os.memfd_create('picklestep', os.MFD_CLOEXEC)
+    import tempfile
     with tempfile.TemporaryFile() as file:
         return os.dup(file.fileno())
 

@@ -1,28 +1,31 @@
-"""The questions about a whole input: its listing, its objects, its imports and calls."""
+"""The questions about a whole input: its listing, its objects, its imports and calls.
+
+The library answers about a small one. What starts the program, and what opens containers, is imported where that is needed: it takes longer than such
+an answer.
+"""
 
 from __future__ import annotations
 
 import operator
 import os
-import tempfile
 import time
 from contextlib import contextmanager
 from dataclasses import replace
-from typing import Callable, Generator, Iterable, Iterator, List, Optional, Tuple
+from typing import TYPE_CHECKING, Callable, Generator, Iterable, Iterator, List, Optional, Tuple
 
 from . import library
-from .addresses import bytes_at, holes_of, opened_in
 from .answers import Calls, Listing, Objects
 from .errors import NotOpened, ProgramError
-from .opens import BETWEEN, split
 from .listed import check_whole, frames_in, last_opcode
-from .program import Process, check_timeout, run_program
+from .opens import BETWEEN, is_taken_apart, may_have_arrays, split
 from .reaches import check_texts
-from .records import Member, OtherForm, ReachAnswer
-from .replies import NOT_IN_FORM, members_of
 from .sources import Input, Source, is_read_once, small_content
-from .verdicts import other_form, reach_answer
 from .wording import shown
+
+if TYPE_CHECKING:
+    from .addresses import Opened
+    from .program import Process
+    from .short_records import Member, OtherForm, ReachAnswer
 
 __all__ = ['Asked', 'AskedOfSession', 'calls', 'calls_of', 'form', 'frames', 'frames_of', 'left_out', 'listing', 'listing_of', 'members', 'modes', 'objects', 'reach']
 
@@ -61,9 +64,12 @@ def objects(source: Source, *, many: bool = False, unframed: bool = False, timeo
     ('tuple', (0, 1), (2,))
     """
     with Asked(source, timeout, memory) as asked:
-        answer = Objects(asked.answer(['objects', *modes(many, unframed)]))
+        words = modes(many, unframed)
+        answer = Objects(asked.lines(['objects', '--json', *words]))
         # (it counts opcodes and not bytes: a listing says at which offset one was refused)
-        return answer if answer.end.how != 'refused' else Objects(answer.text, asked.refused_at(modes(many, unframed)))
+        answer = answer if answer.end.how != 'refused' else Objects(answer.json, asked.refused_at(words))
+        answer.said = asked.said
+        return answer
 
 
 def calls(source: Source, *, first: bool = False, memo_kept: bool = False, full: bool = False, many: bool = True,
@@ -96,6 +102,7 @@ def form(source: Source, *, timeout: Optional[float] = None, memory: Optional[in
     >>> form(b'J\\x01\\x00\\x00\\x00.').reason
     'a number that has a shorter form'
     """
+    from .verdicts import other_form
     with Asked(source, timeout, memory) as asked:
         return other_form(asked.lines(['form', '--json']))
 
@@ -113,14 +120,16 @@ def reach(source: Source, *, extensions: bool = False, persistent_ids: bool = Fa
     >>> [bool(reach(b'P1\n.', persistent_ids=given)) for given in (False, True)]
     [False, True]
     """
+    from .verdicts import reach_answer
     words = [word for word, given in (('--extensions', extensions), ('--persistent-ids', persistent_ids), ('--buffers', buffers)) if given]
     with Asked(source, timeout, memory) as asked:
         return reach_answer(asked.lines(['reach', '--json', *words]))
 
 
 def members(source: Source, *, timeout: Optional[float] = None, memory: Optional[int] = None) -> Tuple[Member, ...]:
-    """The members of a zip archive in the form in which zipfile, numpy, torch and Info-ZIP write: all readers find exactly these. Nothing is unpacked.
-    Raises NotOpened where it is in another form. `source` may also be the address of an archive in another container.
+    """The members of a zip archive in the form in which zipfile, numpy, torch and Info-ZIP write: all readers find exactly these, and nothing is
+    unpacked; or what a file opens to that gzip or zlib packed. Raises NotOpened where it is in another form. `source` may also be the address of an
+    archive in another container.
 
     >>> import zipfile
     >>> with zipfile.ZipFile('a.zip', 'w') as archive:
@@ -128,14 +137,19 @@ def members(source: Source, *, timeout: Optional[float] = None, memory: Optional
     >>> members('a.zip')
     (Member(name='a.pkl', offset=35, size=2, deflated=None, address='a.zip > a.pkl'),)
     """
+    from .replies import NO_MEMBERS, members_of
     path = os.fsdecode(source) if isinstance(source, (str, os.PathLike)) else ''
-    is_address = split(path) is not None
-    with Asked(bytes_at(path) if is_address else source, timeout, memory, is_opened=False) as asked:
+    with Asked(source if split(path) is None else _bytes_at(path), timeout, memory, is_opened=False) as asked:
         text = asked.answer(['members'])
-    if text.startswith(NOT_IN_FORM):
+    if text.startswith(NO_MEMBERS):
         raise NotOpened(text.rstrip('\n'))
     found = members_of(text)
     return tuple(replace(each, address=f'{path}{BETWEEN}{shown(each.name)}') for each in found) if path else tuple(found)
+
+
+def _bytes_at(address: str) -> bytes:
+    from .addresses import bytes_at
+    return bytes_at(address)
 
 
 def frames(source: Source, many: bool = False) -> List[Tuple[int, int]]:
@@ -156,7 +170,9 @@ def frames_of(asked: Asked, many: bool) -> List[Tuple[int, int]]:
 
 def listing_of(asked: Asked, many: bool, unframed: bool = False) -> Listing:
     """The opcodes of what is asked about."""
-    return Listing(asked.lines(['list', '--json', *modes(many, unframed)]))
+    answer = Listing(asked.lines(['list', '--json', *modes(many, unframed)]))
+    answer.said = asked.said
+    return answer
 
 
 def calls_of(asked: Asked, first: bool, memo_kept: bool, full: bool, skip: Iterable[Tuple[int, int]] = ()) -> Calls:
@@ -172,7 +188,7 @@ def calls_of(asked: Asked, first: bool, memo_kept: bool, full: bool, skip: Itera
     answer = Calls(lines)
     if _REFUSED in lines and answer.end.item is not None and not (memo_kept or skipped):
         answer = Calls(lines, asked.refused_at(modes(not first)))
-    answer.skipped = skipped
+    answer.skipped, answer.said = skipped, asked.said
     return answer
 
 
@@ -186,6 +202,7 @@ def left_out(skip: Iterable[Tuple[int, int]]) -> Iterator[List[str]]:
     if len(texts) <= _MOST_HOLES:
         yield [word for text in texts for word in ('--skip', text)]
         return
+    import tempfile
     with tempfile.TemporaryDirectory() as folder:
         path = os.path.join(folder, 'holes')
         with open(path, 'w', encoding='ascii') as file:
@@ -203,8 +220,10 @@ class Asked:
 
     def __init__(self, source: Source, timeout: Optional[float], memory: Optional[int], is_opened: bool = True) -> None:
         """With `is_opened` what is in a container is asked about, and else the container."""
-        check_timeout(timeout)
-        self._opened = opened_in(source) if is_opened else None
+        if timeout is not None:
+            from .program import check_timeout
+            check_timeout(timeout)
+        self._opened = _opened_in(source) if is_opened else None
         self._file = os.fsdecode(source) if self._opened is None and isinstance(source, (str, os.PathLike)) else ''
         source = source if self._opened is None else self._opened.content
         self._memory = memory
@@ -214,11 +233,19 @@ class Asked:
         self._source = source if self._content is None else self._content
         self._input: Optional[Input] = None
 
+    @property
+    def said(self) -> Tuple[str, ...]:
+        """What is said of what was opened."""
+        return () if self._opened is None else self._opened.said
+
     def holes(self) -> Tuple[Tuple[int, int], ...]:
         """The bytes of a path that are no opcodes: the numbers of arrays. Raises OSError."""
         if self._opened is not None:
             return self._opened.skip
-        return holes_of(self._file) if self._file else ()
+        if not self._file or not may_have_arrays(self._file):
+            return ()
+        from .addresses import arrays_of
+        return arrays_of(self._file)[0]
 
     def answer(self, words: List[str]) -> str:
         """The text that the program writes about it with these words."""
@@ -228,6 +255,7 @@ class Asked:
         """The same as bytes."""
         answer = self.in_process(words)
         if answer is None:
+            from .program import run_program
             given = self._given()
             self._begun = time.monotonic()
             answer = run_program([words[0], given.path, *words[1:]], given.files, timeout=self._timeout, memory=self._memory)
@@ -258,6 +286,7 @@ class Asked:
         return None if self._timeout is None else max(0.0, self._timeout - (time.monotonic() - self._begun))
 
     def _process(self, words: List[str]) -> Process:
+        from .program import Process
         given = self._given()
         return Process([words[0], given.path, *words[1:]], given.files, self._memory)
 
@@ -279,6 +308,14 @@ class Asked:
     def __exit__(self, *error: object) -> None:
         if self._input is not None:
             self._input.close()
+
+
+def _opened_in(source: Source) -> Optional[Opened]:
+    """The pickle in a container, or at an address. None where the source is read as it is."""
+    if not isinstance(source, (str, os.PathLike)) or not is_taken_apart(os.fsdecode(source)):
+        return None
+    from .addresses import opened
+    return opened(os.fsdecode(source))
 
 
 class AskedOfSession(Asked):

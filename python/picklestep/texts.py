@@ -8,56 +8,51 @@ from __future__ import annotations
 import re
 import struct
 from dataclasses import dataclass, replace
-from typing import Callable, Dict, Generic, Iterator, List, NamedTuple, Optional, Pattern, Sequence, Set, Tuple, TypeVar, Union
+from heapq import merge
+from typing import Callable, Generic, Iterable, Iterator, NamedTuple, Optional, Pattern, Sequence, Set, Tuple, TypeVar, Union
 
-from .records import Argument, Change, End, Item, Object, Opcode, Shown
+from .listing_records import Change, Object, Opcode
+from .patterns import pattern
+from .records import Argument, End
+from .session_records import Item, Shown
 
-__all__ = ['Closing', 'FRAME_SIZE', 'HELD', 'HeldObject', 'ITEMS', 'ITEM_IN_BYTES', 'Line', 'LineReader', 'LinesError', 'MARK', 'MOST_OFFSET',
-           'NAMED_BY_TEXTS', 'NUMBER', 'OBJECTS', 'OPCODES', 'QUOTED', 'SHOWN', 'TAIL', 'as_made', 'begins_with_offset',
-           'behind_word', 'broken_places', 'closing_in', 'closing_of', 'code_of', 'count_held', 'end_of', 'end_of_line', 'end_of_texts',
-           'frame_length', 'frames_in', 'has_key', 'held_in', 'holding', 'is_object_at', 'key_in', 'kind_in', 'left_in', 'line_of', 'moved_line', 'number_of', 'object_of', 'offset_at', 'opcode_of',
-           'readonly_count', 'refused', 'renumbered', 'results_in', 'unquoted', 'with_offset', 'without_left', 'without_number']
+__all__ = ['FRAME_SIZE', 'HeldObject', 'ITEMS', 'ITEM_IN_BYTES', 'Line', 'LineReader', 'LinesError', 'MOST_OFFSET', 'NUMBER', 'OBJECTS', 'QUOTED',
+           'SHOWN', 'as_made', 'begins_with_offset', 'behind_word', 'broken_places', 'code_of', 'count_held', 'end_of', 'end_of_line', 'end_of_texts',
+           'frame_length', 'frames_in', 'has_key', 'held_at', 'held_in', 'is_no_name', 'is_object_at', 'key_in', 'kind_in', 'line_of', 'mark_in', 'moved_line',
+           'named_by_texts', 'number_of', 'object_of', 'offset_at', 'opcode_of', 'readonly_count', 'refused', 'renumbered', 'unquoted', 'with_mark',
+           'with_offset', 'without_left', 'without_number']
 
 Record = TypeVar('Record')
 
 # A text in quotes, and a number, as the program writes them.
 QUOTED = r"'[^'\\]*(?:\\.[^'\\]*)*'"
 NUMBER = r'-?[0-9]+|le:[0-9a-f]*|f8:[0-9a-f]{16}'
-_ATOM = re.compile(f'({QUOTED})|({NUMBER})')
+_ATOM = pattern(f'({QUOTED})|({NUMBER})')
 # A text in quotes, or the number of an object.
-_QUOTED_OR_NUMBER = re.compile(rf'{QUOTED}|#([0-9]+)')
-_OBJECT = re.compile(r'#([0-9]+) ([a-z-]+)')
-_PARTS = re.compile(r' \((#[^)]*)\)')
-_CHANGE = re.compile(r' (?:([+&!])#([0-9]+)|\[#([0-9]+)\]=#([0-9]+))')
+_QUOTED_OR_NUMBER = pattern(rf'{QUOTED}|#([0-9]+)')
+_OBJECT = pattern(r'#([0-9]+) ([a-z-]+)')
+_PARTS = pattern(r' \((#[^)]*)\)')
+_CHANGE = pattern(r' (?:([+&!])#([0-9]+)|\[#([0-9]+)\]=#([0-9]+))')
 _CHANGES = {'+': 'append', '&': 'add', '!': 'state'}
-# More bytes than all closing lines have, the results apart.
-TAIL = 1000
-# A line with an offset, and its text.
-_WITH_OFFSET = re.compile(r'^ *([0-9]+): (.*)$', re.MULTILINE)
 # The most bytes of the beginning of an opcode's line, the code of FRAME behind it, and how many bytes that opcode has.
 MOST_OFFSET = 20
 _FRAME = b': \\x95 '
 FRAME_SIZE = 9
 # Lines of `objects`, `items` and `show`, and closing lines of which there may be several.
-_OBJECT_LINE = re.compile(r'^#.*$', re.MULTILINE)
-_ITEM = re.compile(r'^([> ])([* ]) *([0-9]+) +([0-9]+): ([A-Z][A-Z0-9_]*)(?: (.*))?$', re.MULTILINE)
+_OBJECT_LINE = pattern(r'^#.*$', re.MULTILINE)
+_ITEM = pattern(r'^([> ])([* ]) *([0-9]+) +([0-9]+): ([A-Z][A-Z0-9_]*)(?: (.*))?$', re.MULTILINE)
 # The offset, the name, and the argument behind its blank.
-ITEM_IN_BYTES = re.compile(rb'^[> ][* ] *[0-9]+ +([0-9]+): ([A-Z][A-Z0-9_]*)((?: .*)?)$', re.MULTILINE)
-_SHOWN = re.compile(r'^([0-9]+) (#[0-9]+)( .*)?$', re.MULTILINE)
+ITEM_IN_BYTES = pattern(rb'^[> ][* ] *[0-9]+ +([0-9]+): ([A-Z][A-Z0-9_]*)((?: .*)?)$', re.MULTILINE)
+_SHOWN = pattern(r'^([0-9]+) (#[0-9]+)( .*)?$', re.MULTILINE)
 _LEFT_BEGINS = b'left: '
-_LEFT = re.compile(r'^left: ([0-9]+) objects, ([0-9]+) marks$', re.MULTILINE)
-_RESULT = re.compile(r'^result #([0-9]+)$', re.MULTILINE)
-# The place of an item that has a breakpoint.
-_BROKEN = re.compile(r'^[> ]\* *([0-9]+) ', re.MULTILINE)
-# In lines of `objects`, as bytes: what an object holds (in parentheses what it was made of, then what was put in), the beginning of a view,
-# and an import by two texts. (In a text what was put in is all that is behind its beginning.)
-HELD = re.compile(rb'([ (+&!=]|\[)#([0-9]+)')
-_PUT_IN = re.compile(r' (?:[+&!]#|\[#).*')
-_HOW = {b'+': 'append', b'&': 'add', b'!': 'state', b'[': 'key', b'=': 'value'}
-_READONLY = re.compile(rb'^#[0-9]+ readonly ', re.MULTILINE)
-NAMED_BY_TEXTS = re.compile(rb'^#([0-9]+) stack-global \(#([0-9]+) #([0-9]+)\)', re.MULTILINE)
-_CLOSING = re.compile(r'(?:it (?=ends: ))?(refused|fault|unsure|left|kept|ends|warning): (.*)|(highest protocol among opcodes) = (.*)|result #.*|'
-                      r'[0-9]+ imports, .*|begins like .*')
+# In lines of `objects`, as bytes: the signs before an object that another holds (a parenthesis or a blank where it was made of that), what may stand
+# behind the number, and the beginnings of a view and of what an import by two texts holds.
+_HOW = {b'+': 'append', b'&': 'add', b'!': 'state', b'[': 'key', b'=': 'value', b'(': '', b' ': ''}
+_BEHIND = b' ', b')', b']', b'\n'
+_READONLY, _NAMED = b'readonly ', b' stack-global (#'
+_AROUND = b' ()[]=+&!'
+# How what was put in begins.
+_PUT_IN = ' +#', ' &#', ' !#', ' [#'
 
 
 class LinesError(ValueError):
@@ -158,10 +153,9 @@ def line_of(line: str) -> Line:
 
 # The codes as a listing shows them.
 _CODES = {**{f'\\x{code:02x}': bytes((code,)) for code in range(256)}, **{chr(code): bytes((code,)) for code in range(33, 127)}}
-# In the line of an opcode: the offset of the mark that it cuts.
-MARK = re.compile(r'\(MARK at ([0-9]+)\)$')
-_DIGITS = re.compile('[0-9]+')
-_OPCODE = re.compile(r'^ *([0-9]+): (\S+) +([A-Z][A-Z0-9_]*)(?: +(-?[0-9]+)$| +(.*))?$', re.MULTILINE)
+# In the line of an opcode: what stands before the offset of the mark that it cuts.
+_MARK = '(MARK at '
+_OPCODE = pattern(r'^ *([0-9]+): (\S+) +([A-Z][A-Z0-9_]*)(?: +(-?[0-9]+)$| +(.*))?$', re.MULTILINE)
 
 
 def key_in(line: str) -> str:
@@ -170,8 +164,26 @@ def key_in(line: str) -> str:
     >>> key_in('    2: q    BINPUT     17'), key_in('    2: \\\\x94 MEMOIZE    (as 0)')
     ('17', '0')
     """
-    keys: List[str] = _DIGITS.findall(line)
-    return keys[-1]
+    return line.rstrip(')').rpartition(' ')[2]
+
+
+def mark_in(line: str) -> Optional[int]:
+    """The offset of the mark that an opcode cuts, in its line; None where it cuts none.
+
+    >>> mark_in('    7: t    TUPLE      (MARK at 3)'), mark_in('    7: N    NONE')
+    (3, None)
+    """
+    offset = line.rpartition(_MARK)[2][:-1]
+    return int(offset) if line.endswith(f'{_MARK}{offset})') and offset.isdigit() else None
+
+
+def with_mark(line: str, offset: int) -> str:
+    """The line of an opcode that cuts a mark, where that is at another offset.
+
+    >>> with_mark('    7: t    TUPLE      (MARK at 3)', 12)
+    '    7: t    TUPLE      (MARK at 12)'
+    """
+    return f'{line[:line.rindex(_MARK)]}{_MARK}{offset})'
 
 
 def has_key(line: Line, key: str) -> bool:
@@ -318,67 +330,17 @@ def refused(words: str, offset: Optional[int], item: Optional[int]) -> End:
 
 
 def with_offset(end: End, offset: int) -> End:
-    """An end of reading with another offset, also in its text."""
-    return replace(end, offset=offset, text=re.sub(rf'(?<= at ){end.offset}$', str(offset), end.text))
+    """An end of reading with another offset, also in its text.
+
+    >>> with_offset(end_of('F1 ended at 3'), 12)
+    End(how='fault', code='F1', text='F1 ended at 12', offset=12, item=None)
+    """
+    place = f' at {end.offset}'
+    return replace(end, offset=offset, text=f'{end.text[:-len(place)]} at {offset}' if end.text.endswith(place) else end.text)
 
 
 # Codes that stand with an offset, by their letter.
 _AT = {'F': 'fault', 'U': 'unsure'}
-
-
-def end_of_item(text: str, offset: Optional[int] = None) -> End:
-    """The end that a closing line shows which names the item that was refused, or bytes to leave out that are not there.
-
-    >>> end_of_item('item 2: S2 stack underflow')
-    End(how='refused', code='S2', text='S2 stack underflow', offset=None, item=2)
-    >>> end_of_item('hole 3:2 ends behind the last of 4 bytes')
-    End(how='refused', code=None, text='hole 3:2 ends behind the last of 4 bytes', offset=None, item=None)
-    """
-    place, separator, words = text.partition(': ')
-    if not separator:
-        return End('refused', text=text)
-    return refused(words, offset, int(place.rpartition(' ')[2]))
-
-
-@dataclass(frozen=True)
-class Closing:
-    """The lines at the end of an answer, by their words."""
-
-    lines: Dict[str, str]
-
-    @property
-    def is_refused(self) -> bool:
-        """Whether the last opcode was refused."""
-        return 'refused' in self.lines
-
-    def end(self, refused_at: Optional[int]) -> End:
-        """How reading ended."""
-        return end_of_item(self.lines['refused'], refused_at) if self.is_refused else end_of(self.lines.get('fault', 'stopped'))
-
-
-def closing_of(lines: Sequence[str]) -> Dict[str, str]:
-    """The closing lines at the end of lines, by their words.
-
-    >>> closing_of(['    0: N    NONE', 'kept: 3 bytes after STOP'])
-    {'kept': '3 bytes after STOP'}
-    """
-    closing: Dict[str, str] = {}
-    for line in reversed(lines):
-        match = _CLOSING.fullmatch(line)
-        if match is None:
-            break
-        closing[match[1] or match[3] or ''] = match[2] or match[4] or ''
-    return closing
-
-
-def closing_in(text: str, start: int, end: int) -> Closing:
-    """The closing lines of a part of a text.
-
-    >>> closing_in('0 imports, 0 calls\\nfault: F1 ended at 1\\n', 0, 40).end(None).code
-    'F1'
-    """
-    lines = text[max(start, end - TAIL):end].split('\n')
-    return Closing(closing_of(lines[1 if end - start > TAIL else 0:-1]))
 
 
 def behind_word(lines: Sequence[str], word: str) -> Optional[str]:
@@ -404,7 +366,6 @@ def _shown_at(match: 're.Match[str]') -> Shown:
     return Shown(int(match[1]), int(match[2][1:]), object_of(match[2] + match[3]) if match[3] else None)
 
 
-OPCODES = LineReader(_OPCODE, _opcode_at)
 OBJECTS = LineReader(_OBJECT_LINE, lambda match: object_of(match[0]))
 ITEMS = LineReader(_ITEM, _item_at)
 SHOWN = LineReader(_SHOWN, _shown_at)
@@ -425,16 +386,6 @@ def frames_in(listing: Union[bytes, bytearray]) -> Iterator[Tuple[int, int]]:
         at = listing.find(_FRAME, at + 1)
 
 
-def left_in(text: str) -> List[Tuple[int, int]]:
-    """How many objects and marks each STOP left, of those that left any."""
-    return [(int(match[1]), int(match[2])) for match in _LEFT.finditer(text)]
-
-
-def results_in(text: str, start: int) -> Tuple[int, ...]:
-    """The numbers of the objects that STOP took, from a place of the text on."""
-    return tuple(int(match[1]) for match in _RESULT.finditer(text, start))
-
-
 def without_left(listing: Union[bytes, bytearray]) -> Optional[bytes]:
     """The lines of a listing but those of what a STOP left; None where it has none of these.
 
@@ -447,13 +398,18 @@ def without_left(listing: Union[bytes, bytearray]) -> Optional[bytes]:
 
 
 def broken_places(text: str) -> Set[int]:
-    """The places of items that have a breakpoint."""
-    return {int(match[1]) for match in _BROKEN.finditer(text)}
+    """The places of items that have a breakpoint.
+
+    >>> broken_places('>     0     0: NONE\\n *    1     1: STOP\\n')
+    {1}
+    """
+    return {int(line[2:].split(None, 1)[0]) for line in text.split('\n') if line[1:2] == '*'}
 
 
 def begins_with_offset(line: str) -> bool:
     """Whether a line begins with an offset, as that of an opcode does."""
-    return _WITH_OFFSET.match(line) is not None
+    offset, colon, _ = line.partition(': ')
+    return bool(colon) and offset.lstrip(' ').isdigit()
 
 
 # --- Lines of `objects`, as bytes ---
@@ -471,7 +427,13 @@ def held_in(heap: Union[bytes, bytearray], start: int, end: int) -> Iterator[Hel
     >>> [tuple(held) for held in held_in(b'#3 list (#1) +#4', 0, 16)]
     [('', 1), ('append', 4)]
     """
-    return (HeldObject(_HOW.get(match[1][-1:], ''), int(match[2])) for match in HELD.finditer(heap, start, end))
+    at = heap.find(b'#', start, end)
+    while at >= 0:
+        behind = heap.find(b'#', at + 1, end)
+        how = _HOW.get(bytes(heap[at - 1:at]))
+        if how is not None:
+            yield HeldObject(how, int(heap[at + 1:end if behind < 0 else behind].rstrip(_AROUND)))
+        at = behind
 
 
 def count_held(heap: Union[bytes, bytearray], start: int, end: int, in_pairs: bool) -> int:
@@ -499,14 +461,57 @@ def end_of_texts(heap: Union[bytes, bytearray], start: int, end: int) -> int:
     return max(heap.rfind(b"'", start, end), start)
 
 
-def holding(number: int) -> 're.Pattern[bytes]':
-    """Where lines name this object, which others hold."""
-    return re.compile(rb'[ (+&![=]#%d(?![0-9])' % number)
+def held_at(heap: Union[bytes, bytearray], number: int) -> Iterator[int]:
+    """Where lines name this object since others hold it, from the first on. (A text may look so, too.)
+
+    >>> list(held_at(b'#0 list (#1) +#10 +#1\\n#1 none\\n', 1))
+    [9, 19]
+    """
+    return iter(merge(*(_held_at(heap, b'#%d%b' % (number, behind)) for behind in _BEHIND)))
 
 
-def readonly_count(heap: Union[bytes, bytearray]) -> int:
-    """How many of the objects are views that can only be read."""
-    return len(_READONLY.findall(heap))
+def _held_at(heap: Union[bytes, bytearray], name: bytes) -> Iterator[int]:
+    at = heap.find(name)
+    while at >= 0:
+        if bytes(heap[at - 1:at]) in _HOW:
+            yield at
+        at = heap.find(name, at + 1)
+
+
+def is_no_name(heap: Union[bytes, bytearray], at: int) -> bool:
+    """Whether a place where a line seems to name an object is in no text of the line, and the object not the name of an import by two texts.
+
+    >>> heap = b'#2 stack-global (#0 #1) +#3\\n'
+    >>> is_no_name(heap, 17), is_no_name(heap, 25)
+    (False, True)
+    """
+    start = heap.rfind(b'\n', 0, at) + 1
+    is_import = heap.startswith(_NAMED, heap.index(b' ', start))
+    return at > end_of_texts(heap, start, heap.index(b'\n', at)) and not (is_import and heap.find(b')', start, at) < 0)
+
+
+def named_by_texts(heap: Union[bytes, bytearray]) -> Iterator[Tuple[int, int, int]]:
+    """The imports by two texts: the number of each, and those of its module and its name.
+
+    >>> list(named_by_texts(b'#2 stack-global (#0 #1) +#3\\n'))
+    [(2, 0, 1)]
+    """
+    at = heap.find(_NAMED)
+    while at >= 0:
+        number = bytes(heap[heap.rfind(b'\n', 0, at) + 1:at])
+        if number[1:].isdigit():  # (else it stands in a text)
+            module, _, name = bytes(heap[at + len(_NAMED):heap.index(b')', at)]).partition(b' #')
+            yield int(number[1:]), int(module), int(name)
+        at = heap.find(_NAMED, at + 1)
+
+
+def readonly_count(lines: Iterable[bytes]) -> int:
+    """How many of the objects are views that can only be read.
+
+    >>> readonly_count([b'#0 buffer 0', b'#1 readonly (#0)'])
+    1
+    """
+    return sum(line.startswith(_READONLY, line.index(b' ') + 1) for line in lines)
 
 
 def as_made(text: str) -> str:
@@ -516,4 +521,4 @@ def as_made(text: str) -> str:
     "inst 'a' 'b' (#1)"
     """
     at = text.rfind("'") + 1
-    return text[:at] + _PUT_IN.sub('', text[at:])
+    return text[:min((found for found in (text.find(sign, at) for sign in _PUT_IN) if found >= 0), default=len(text))]

@@ -5,17 +5,20 @@ from __future__ import annotations
 import sys
 from collections import Counter
 from dataclasses import dataclass, field
-from typing import Any, Dict, List, Optional, Sequence, Tuple, Union
+from typing import Any, Callable, Dict, Iterable, Iterator, List, NamedTuple, Optional, Sequence, Tuple, Union
 
 from _compat_pickle import IMPORT_MAPPING, NAME_MAPPING
 
+from . import made as lines
 from .addresses import opened_in
 from .answers import Objects
 from .changes import changed
 from .errors import NoResult
+from .held import fields_of_tails, flat
 from .hints import OF_FRAMES
+from .listing_records import Object
 from .program import check_timeout
-from .records import Extension, Global, Name, Object, Ref
+from .records import Extension, Global, Name, Ref
 from .sources import Source, is_fifo, rereadable
 from .tasks import calls, frames, objects
 from .values import PLAIN_KINDS, Argument, Unread, kind_value
@@ -48,23 +51,48 @@ class Call:
     states: List[Any] = field(default_factory=list)
 
 
+class Plain(NamedTuple):
+    """A plain value that nothing changes. Many objects are the same one."""
+
+    value: Any
+
+
+class Filled(NamedTuple):
+    """A list, a set or a dictionary by the numbers of what it holds; in a dictionary keys and values take turns."""
+
+    kind: str
+    held: Sequence[int]
+
+
+# An object as it is made into a value.
+Made = Union[Plain, Filled, Object]
+
+
 class Values:
     """The values of objects, the parts of each before the object."""
 
-    def __init__(self, heap: List[Object], names: Dict[int, Name]) -> None:
-        """`names` has what is imported for names of Python 2, by the numbers of their objects."""
-        self._names = names
+    def __init__(self, heap: Sequence[Made], names: Callable[[], Dict[int, Name]] = dict) -> None:
+        """`names` answers what is imported for names of Python 2, by the numbers of their objects, where there may be some."""
+        self._ask_names = names
+        self._names: Optional[Dict[int, Name]] = None
         self._values: List[Any] = []
-        self._depths: List[int] = []
-        self._sizes: List[int] = []
+        # Of tuples and frozen sets; of all else a depth is 0, and a size 1.
+        self._depths: Dict[int, int] = {}
+        self._sizes: Dict[int, int] = {}
         self._members: Dict[int, List[int]] = {}  # of sets, by their identity
-        for made in heap:
-            is_key = made.kind in ('tuple', 'frozenset')
-            self._depths.append(1 + max([self._depths[part] for part in made.parts], default=0) if is_key else 0)
-            self._sizes.append(min(_MOST_SIZE, sum([self._sizes[part] for part in made.parts])) + 1 if is_key else 1)
-            self._values.append(self._made(made))
-        for made in heap:
-            self._fill(self._values[made.number], made)
+        for number, made in enumerate(heap):
+            if isinstance(made, Plain):
+                self._values.append(made.value)
+                continue
+            if isinstance(made, Object) and made.kind in ('tuple', 'frozenset'):
+                self._depths[number] = 1 + max([self._depths.get(part, 0) for part in made.parts], default=0)
+                self._sizes[number] = min(_MOST_SIZE, sum([self._sizes.get(part, 1) for part in made.parts])) + 1
+            self._values.append(_FILLED[made.kind]() if isinstance(made, Filled) else self._made(made))
+        for number, made in enumerate(heap):
+            if isinstance(made, Filled):
+                self._hold(self._values[number], made.kind, made.held)
+            elif not isinstance(made, Plain):
+                self._fill(self._values[number], made)
 
     def __len__(self) -> int:
         return len(self._values)
@@ -84,8 +112,7 @@ class Values:
     def _made(self, made: Object) -> Any:
         """An object as it was made. What goes into a list, a set or a dictionary comes later, as does what was done to an object."""
         if made.kind in PLAIN_KINDS:
-            value = kind_value(made.kind, made.text)
-            return Unread(value, made.kind) if isinstance(value, bytes) and made.kind != 'bytes' else value
+            return _plain(made.kind, made.text)
         if made.kind in _FILLED:
             return _FILLED[made.kind]()
         parts = [self._values[part] for part in made.parts]
@@ -99,13 +126,14 @@ class Values:
         return self._called(made, parts)
 
     def _imported(self, made: Object) -> Name:
-        if made.number in self._names:
-            return self._names[made.number]
         if isinstance(made.text, int):
             return Extension(made.text)
-        if isinstance(made.text, tuple):
-            return Global(*made.text)
-        module, name = map(self._name, made.parts)
+        module, name = made.text if isinstance(made.text, tuple) else map(self._name, made.parts)
+        if module in _RENAMED:  # (it depends on the protocol there)
+            if self._names is None:
+                self._names = self._ask_names()
+            if made.number in self._names:
+                return self._names[made.number]
         return Global(module, name)
 
     def _name(self, number: int) -> Union[bytes, Ref]:
@@ -131,7 +159,7 @@ class Values:
     def _key(self, number: int) -> Any:
         """An object as a key or a member. Where Python could not hash it, it is its number."""
         value = self._values[number]
-        if self._depths[number] > _MOST_DEPTH or self._sizes[number] > _MOST_SIZE:
+        if self._depths.get(number, 0) > _MOST_DEPTH or self._sizes.get(number, 1) > _MOST_SIZE:
             return Ref(number)
         try:
             hash(value)
@@ -162,14 +190,17 @@ class Values:
         elif made.kind == 'frozenset':
             self._members[id(value)] = list(made.parts)
         elif made.kind in _FILLED:
-            held = changed(list(made.parts), made, self.at)
-            if made.kind == 'list':
-                value += map(self.at, held)
-            elif made.kind == 'dict':
-                value.update(zip(self._keys(held[::2]), map(self.at, held[1::2])))
-            else:
-                value.update(self._keys(held))
-                self._members[id(value)] = held
+            self._hold(value, made.kind, changed(list(made.parts), made, self.at))
+
+    def _hold(self, value: Any, kind: str, held: Sequence[int]) -> None:
+        """Puts into a list, a set or a dictionary what it holds."""
+        if kind == 'list':
+            value += map(self._values.__getitem__, held)
+        elif kind == 'dict':
+            value.update(zip(self._keys(held[::2]), map(self.at, held[1::2])))
+        else:
+            value.update(self._keys(held))
+            self._members[id(value)] = list(held)
 
 
 _FILLED: Dict[str, Any] = {'list': list, 'dict': dict, 'set': set}
@@ -213,12 +244,11 @@ def values(pickle: Source, many: bool, unframed: bool, timeout: Optional[float],
     if timeout is None or not is_fifo(pickle):  # (with a timeout it is the program that waits for the writer of a FIFO)
         pickle = rereadable(pickle)
     answer = objects_to_stop(pickle, many, unframed, timeout, memory)
-    heap = list(answer)
-    names: Dict[int, Name] = {}
-    if any(_is_renamed(made, heap) for made in heap):  # (it depends on the protocol there)
+
+    def names() -> Dict[int, Name]:
         reaches = calls(pickle, first=not many, skip=frames(pickle, many) if unframed else (), timeout=timeout, memory=memory)
-        names = {reach.number: reach.name for reach in reaches if reach.said and reach.name and reach.number is not None}
-    made = Values(heap, names)
+        return {reach.number: reach.name for reach in reaches if reach.said and reach.name and reach.number is not None}
+    made = Values(list(_heap_of(answer)), names)
     results = [made.at(number) for number in answer.results]
     return made, results if many else results[0]
 
@@ -226,7 +256,38 @@ def values(pickle: Source, many: bool, unframed: bool, timeout: Optional[float],
 _RENAMED = frozenset(module.encode('ascii') for module in (*IMPORT_MAPPING, *(module for module, _ in NAME_MAPPING)))
 
 
-def _is_renamed(made: Object, heap: List[Object]) -> bool:
-    """Whether an object is imported from a module some names of which Python 3 has elsewhere."""
-    module = made.text[0] if isinstance(made.text, tuple) else heap[made.parts[0]].text if made.kind == 'stack-global' else None
-    return module in _RENAMED
+def _plain(kind: str, text: Argument) -> Any:
+    """The value of a plain object. Bytes that no loader makes a text of know what they were to be."""
+    value = kind_value(kind, text)
+    return Unread(value, kind) if isinstance(value, bytes) and kind != 'bytes' else value
+
+
+# So many plain values are kept at most behind some lines, and none behind lines of so many bytes.
+_MOST_KNOWN, _MOST_OF_LINES = 100_000, 4 << 20
+
+
+def _heap_of(answer: Objects) -> Iterator[Made]:
+    """The objects of an answer. A line that says the same of another object is read once."""
+    known: Dict[str, Plain] = {}
+    number = 0
+    for tails in answer.tails():
+        new = [tail for tail in dict.fromkeys(tails) if tail not in known]
+        others: Dict[str, lines.Fields] = {}
+        for tail, fields in zip(new, fields_of_tails(list(map(flat, new)))):
+            if fields['is'] in PLAIN_KINDS and fields['is'] != 'bytearray' and 'changes' not in fields:
+                known[tail] = Plain(_plain(fields['is'], lines.given(fields)))
+            else:
+                others[tail] = fields
+        for number, tail in enumerate(tails, number):
+            plain = known.get(tail)
+            yield _made_of(number, others[tail]) if plain is None else plain
+        number += len(tails) > 0
+        if len(known) > _MOST_KNOWN or sum(map(len, new)) > _MOST_OF_LINES:
+            known.clear()
+
+
+def _made_of(number: int, fields: lines.Fields) -> Made:
+    """An object that is no plain value, of its fields."""
+    if fields['is'] in _FILLED and 'changes' not in fields:
+        return Filled(fields['is'], [*fields.get('parts', ()), *fields.get('put', ())])
+    return lines.object_of({**fields, 'object': number})

@@ -11,6 +11,8 @@ from __future__ import annotations
 import re
 from typing import TYPE_CHECKING, Dict, Optional
 
+from .patterns import pattern
+
 if TYPE_CHECKING:
     from .scan.blobs import Blob
 
@@ -171,7 +173,7 @@ _ENDS: Dict[str, bytes] = {
     'dmg': rb'koly\0\0\0\x04.{504}\Z',
     'VHD': rb'conectix.{504}\Z',
 }
-_LATE = ((32_768, 'ISO 9660', re.compile(rb'[\0-\xff]CD001', re.DOTALL)), (65_600, 'btrfs', re.compile(rb'_BHRfS_M')))
+_LATE = ((32_768, 'ISO 9660', pattern(rb'[\0-\xff]CD001', re.DOTALL)), (65_600, 'btrfs', pattern(rb'_BHRfS_M')))
 _FIRST_LATE = min(at for at, _, _ in _LATE)
 # So many bytes show how it ends.
 _SIZES_OF_ENDS = (512, 8)
@@ -180,12 +182,12 @@ TAIL = max(_SIZES_OF_ENDS)
 
 def _one_of(*tables: Dict[str, bytes]) -> 're.Pattern[bytes]':
     """A pattern of all kinds of some tables. It has no groups, and so most bytes are known at once to be none."""
-    return re.compile(b'|'.join(pattern for table in tables for pattern in table.values()), re.DOTALL)
+    return pattern(b'|'.join(sign for table in tables for sign in table.values()), re.DOTALL)
 
 
 def _first_of(kinds: Dict[str, bytes], content: bytes, at: int = 0) -> Optional[str]:
     """The first kind whose pattern fits, of those of a table."""
-    return next((kind for kind, pattern in kinds.items() if re.compile(pattern, re.DOTALL).match(content, at) is not None), None)
+    return next((kind for kind, sign in kinds.items() if re.compile(sign, re.DOTALL).match(content, at) is not None), None)
 
 
 SURE = b'|'.join(_SURE.values())

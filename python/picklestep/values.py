@@ -12,6 +12,7 @@ import re
 from typing import Any, Callable, Dict, Optional, Tuple, Union
 
 from .opcodes import BY_NAME
+from .patterns import pattern
 
 __all__ = ['Argument', 'PLAIN_KINDS', 'PlainValue', 'Unread', 'Unreadable', 'argument_value', 'kind_value', 'read_form', 'unescaped']
 
@@ -60,7 +61,7 @@ def _quoted(data: bytes) -> str:
 
 
 # What C's `strtol` takes for a number: one that begins with 0 is octal.
-_C_NUMBER = re.compile(rb'[ \t\v\f\r]*([+-]?)(0[xX][0-9a-fA-F]+|0[0-7]*|[1-9][0-9]*)')
+_C_NUMBER = pattern(rb'[ \t\v\f\r]*([+-]?)(0[xX][0-9a-fA-F]+|0[0-7]*|[1-9][0-9]*)')
 
 
 def _up_to_nul(data: bytes) -> bytes:
@@ -94,7 +95,7 @@ def _long(data: bytes) -> int:
 
 
 # What C's `PyOS_string_to_double` takes: no blanks, no underscores, and nothing that is too large.
-_C_FLOAT = re.compile(rb'[+-]?(?:([0-9]+\.?[0-9]*|\.[0-9]+)(?:e[+-]?[0-9]+)?|inf(?:inity)?|nan)', re.IGNORECASE)
+_C_FLOAT = pattern(rb'[+-]?(?:([0-9]+\.?[0-9]*|\.[0-9]+)(?:e[+-]?[0-9]+)?|inf(?:inity)?|nan)', re.IGNORECASE)
 
 
 def _float(data: bytes) -> float:

@@ -1,16 +1,25 @@
-"""The lines of `form --json` and `reach --json`, read. docs/reference/json.md has their fields."""
+"""The lines of `form --json`, `reach --json` and `gate --json`, read. docs/reference/json.md has their fields."""
 
 from __future__ import annotations
 
-from typing import Optional
+import os
+from typing import TYPE_CHECKING, Callable, Optional
 
-from .listed import Fields, argument_of, check_whole, fields_of, shown_argument
-from .records import OtherForm, ReachAnswer
+from .errors import ProgramError
+from .listed import Fields, argument_of, check_whole, content_of, fields_of, shown_argument, words_of
+from .sources import LIMIT
 
-__all__ = ['IN_FORM', 'other_form', 'reach_answer']
+if TYPE_CHECKING:
+    from .short_records import GateAnswer, OtherForm, ReachAnswer
+
+__all__ = ['IN_FORM', 'gate_answer', 'line_refused', 'other_form', 'reach_answer']
 
 # What is said of a pickle that is in the form.
 IN_FORM = b'{"kind":"end","how":"in_form"}\n'
+# What `gate` says, by the field `how` of its line; of what is not looked at with the reason.
+_KINDS = {'passes': 'passes', 'not_allowed': 'not allowed', 'other_form': 'other form', 'not_in_form': 'other form', 'broken': 'broken'}
+_UNSEEN = {'archive': ('an archive', 'it is not looked at'), 'container': ('a container', 'it is not looked at'),
+           'same_names': ('not looked at', 'two names that differ in case alone'), 'too_large': ('not looked at', f'it unpacks to more than {LIMIT} bytes')}
 
 
 def other_form(line: bytes) -> Optional[OtherForm]:
@@ -21,6 +30,7 @@ def other_form(line: bytes) -> Optional[OtherForm]:
     """
     if line == IN_FORM:
         return None
+    from .short_records import OtherForm  # (most pickles are in the form)
     fields = fields_of(check_whole(line))
     return OtherForm(int(fields['item']), int(fields['offset']), fields['words'], fields['reason'])
 
@@ -33,6 +43,7 @@ def reach_answer(line: bytes) -> ReachAnswer:
     >>> reach_answer(b'{"kind":"end","how":"too_many_ways"}\\n').reached
     True
     """
+    from .short_records import ReachAnswer
     fields = fields_of(check_whole(line))
     how = fields['how']
     if how == 'reached':
@@ -44,8 +55,49 @@ def reach_answer(line: bytes) -> ReachAnswer:
 
 
 def _reached(fields: Fields) -> ReachAnswer:
+    from .short_records import ReachAnswer
     offset, argument = int(fields['offset']), shown_argument(fields)
     line = f'{fields["opcode"]} {argument}' if argument else fields['opcode']
     names = argument_of(fields)
     return ReachAnswer(True, f'reached at {offset}: {line}', offset, line, what=fields['reach'], names=names if isinstance(names, tuple) else None,
                        frames=fields['frames'], in_buffer=int(fields['in_buffer']))
+
+
+def line_refused(line: bytes) -> Optional[int]:
+    """The line of a list, from 1, that is no entry of one, where `gate --json` says that. Raises ProgramError where its line is not whole.
+
+    >>> line_refused(b'{"kind":"verdict","how":"not_a_list","line":3}\\n'), line_refused(b'{"kind":"verdict","how":"passes"}\\n')
+    (3, None)
+    """
+    fields = _verdict(line)
+    return int(fields['line']) if fields['how'] == 'not_a_list' else None
+
+
+def _verdict(line: bytes) -> Fields:
+    if not (line.startswith(b'{"kind":"verdict"') and line.endswith(b'}\n')):
+        raise ProgramError('the program gave no whole answer')
+    return fields_of(line)
+
+
+def gate_answer(line: bytes, text: Callable[[], str]) -> GateAnswer:
+    """What the line of `gate --json` says of a file. `text` gives the line for people, where that is too long for the line of JSON. Raises
+    ProgramError where a line of the list is no entry, and where the line of JSON is not whole.
+
+    >>> line = b'{"kind":"verdict","member":"data.pkl","how":"not_allowed","offset":0,"words":"import a","text":"..."}\\n'
+    >>> answer = gate_answer(line, str)
+    >>> answer.passes, answer.member, answer.kind, answer.offset, answer.reason
+    (False, 'data.pkl', 'not allowed', 0, 'import a')
+    """
+    from .short_records import GateAnswer
+    fields = _verdict(line)
+    how = fields['how']
+    if how == 'not_a_list':
+        raise ProgramError(f'not a list: line {fields["line"]} is no entry')
+    kind, reason = _UNSEEN.get(how) or (_KINDS.get(how, 'ended'), fields.get('words', ''))
+    if 'words_hex' in fields:
+        reason = content_of(fields, 'words').decode('utf-8', 'backslashreplace')
+    if kind == 'ended':
+        reason = words_of(fields) if 'code' in fields else how
+    member = os.fsdecode(content_of(fields, 'member')) if 'member' in fields or 'member_hex' in fields else None
+    offset = int(fields['offset']) if 'offset' in fields else None
+    return GateAnswer(how == 'passes', fields['text'] if 'text' in fields else text(), kind, reason, offset, member, 'behind_header' in fields)

@@ -4,10 +4,11 @@ from __future__ import annotations
 
 from typing import Iterator, List, Optional, Sequence, Set
 
+from ..collector import without_collector
 from ..errors import NotConverted
+from ..listing_records import Opcode
 from ..opcodes import BY_NAME
-from ..optimizing import framed
-from ..records import Opcode
+from ..optimizing import in_frames
 from ..tasks import calls, listing, objects
 from .checking import Checked, names_in
 from .higher import Names, raised
@@ -21,6 +22,7 @@ PROTOCOLS = range(6)
 _OF_PROTO, _OF_FRAMES, _OF_DOTS = 2, 4, 4
 
 
+@without_collector()
 def in_protocol(content: bytes, protocol: int, many: bool = False) -> bytes:
     """The pickle in the opcodes of a protocol, or with `many` all pickles that follow one another, each as `pickle.load` loads it. Raises NotConverted."""
     old_calls = calls(content)
@@ -46,6 +48,7 @@ def in_protocol(content: bytes, protocol: int, many: bool = False) -> bytes:
         made.append(_assembled(result, protocol))
         stands += _made_by(result)
     whole = b''.join(made)
+    del pickles, opcodes, ops, result  # (what is compared takes its own memory)
     new, new_calls = objects(whole, many=True), calls(whole)
     for end in (new.end, new_calls.end):
         if not end.is_stopped:
@@ -85,5 +88,6 @@ def _assembled(ops: Sequence[Op], protocol: int) -> bytes:
     parts, problems = spelled(ops, protocol)
     if problems:
         raise NotConverted(problems)
-    content = (bytes([BY_NAME['PROTO'].code, protocol]) if protocol >= _OF_PROTO else b'') + b''.join(parts)
-    return framed(content) if protocol >= _OF_FRAMES else content
+    if protocol >= _OF_PROTO:
+        parts.insert(0, bytes([BY_NAME['PROTO'].code, protocol]))
+    return in_frames(parts) if protocol >= _OF_FRAMES else b''.join(parts)

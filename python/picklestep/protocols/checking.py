@@ -8,7 +8,8 @@ from typing import Dict, Iterator, List, Optional, Sequence, Set, Tuple
 
 from ..answers import Calls, Objects
 from ..errors import NotConverted
-from ..records import Change, Global, Object
+from ..listing_records import Change, Object
+from ..records import Global
 from ..values import PLAIN_KINDS, kind_value, unescaped
 from .higher import Names
 

@@ -19,7 +19,8 @@ def lowered(ops: Sequence[Op], protocol: int) -> Tuple[List[Op], List[str]]:
     """The opcodes with none that only a later protocol has, but for spellings; and lines about what cannot be said."""
     result = list(ops)
     for below, rules in _STEPS:
-        if protocol <= below:
+        # (What is stored is noted for the other rules alone.)
+        if protocol <= below and not {op.name for op in result}.isdisjoint(rules.keys() - {'PUT'}):
             work = Rewriting(result)
             step = _Step(work, protocol)
             obey(step, rules, result)

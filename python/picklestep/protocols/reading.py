@@ -3,13 +3,13 @@ comes from."""
 
 from __future__ import annotations
 
-import re
 import struct
 from typing import Callable, Dict, Iterator, List, Mapping, NamedTuple, Optional, Sequence, Set, Tuple, TypeVar, Union
 
 from ..answers import Objects
-from ..opcodes import BY_NAME
-from ..records import Opcode
+from ..listing_records import Opcode
+from ..opcodes import BY_NAME, OpcodeInfo
+from ..patterns import pattern
 from ..values import read_form
 
 __all__ = ['GETS', 'PUTS', 'Op', 'Rewriting', 'Slot', 'Taken', 'read', 'walk']
@@ -21,8 +21,8 @@ _SAME = (('BININT', 'BININT1', 'BININT2'), ('LONG1', 'LONG4'), ('BINUNICODE', 'S
          ('BINBYTES', 'SHORT_BINBYTES', 'BINBYTES8'), ('PUT', 'BINPUT', 'LONG_BINPUT', 'MEMOIZE'), ('GET', 'BINGET', 'LONG_BINGET'))
 _MEANS: Dict[str, str] = {name: names[0] for names in _SAME for name in names}
 # A line that all loaders read alike, by its opcode: other lines stay as they are.
-_PLAIN_LINES = {'INT': re.compile(rb'-?(?:0|[1-9][0-9]{0,18})'), 'LONG': re.compile(rb'-?(?:0|[1-9][0-9]{0,4000})L?'),
-                'FLOAT': re.compile(rb'-?(?:[0-9]+(?:\.[0-9]+)?(?:e[+-]?[0-9]+)?|inf|nan)')}
+_PLAIN_LINES = {'INT': pattern(rb'-?(?:0|[1-9][0-9]{0,18})'), 'LONG': pattern(rb'-?(?:0|[1-9][0-9]{0,4000})L?'),
+                'FLOAT': pattern(rb'-?(?:[0-9]+(?:\.[0-9]+)?(?:e[+-]?[0-9]+)?|inf|nan)')}
 _TRUTHS = {b'00': 'NEWFALSE', b'01': 'NEWTRUE'}
 
 _Value = Union[None, int, float, str, bytes, Tuple[str, str], Tuple[bytes, bytes]]
@@ -119,6 +119,8 @@ Step = TypeVar('Step')
 
 def obey(step: Step, rules: Mapping[str, Callable[[Step, int, Op, Taken], object]], ops: Sequence[Op]) -> None:
     """Does at each opcode what its rule says, if it has one."""
+    if rules.keys().isdisjoint({op.name for op in ops}):
+        return
     for place, op, taken in walk(ops):
         rule = rules.get(op.name)
         if rule is not None:
@@ -129,39 +131,48 @@ def walk(ops: Sequence[Op]) -> Iterator[Tuple[int, Op, Taken]]:
     """Each opcode with its place and what it takes. (Only of a pickle that the program has read to its STOP.)"""
     stack: List[Slot] = []
     for place, op in enumerate(ops):
-        info = BY_NAME[op.name]
-        taken = _take(stack, op.name, place)
+        name = op.name
+        count, takes_mark, leaves, makes = _SHAPES[name]
+        taken = _take(stack, count, takes_mark, place) if count or takes_mark else _NOTHING
         yield place, op, taken
-        leaves = len(info.leaves.split(', ')) if info.leaves else 0
-        lowest = taken.named[0] if taken.named else taken.mark
         if not leaves:
             continue
-        if lowest is not None and not info.makes:  # (it is the same object, changed or kept)
-            lowest.places.append(place)
-            stack.append(lowest)
+        lowest = taken.named[0] if taken.named else taken.mark
+        if lowest is not None:
+            if makes:
+                stack.append(Slot(lowest.begin, place))
+            else:  # (it is the same object, changed or kept)
+                lowest.places.append(place)
+                stack.append(lowest)
             leaves -= 1
-        elif lowest is not None:
-            stack.append(Slot(lowest.begin, place))
-            leaves -= 1
-        stack += [Slot(place, place, op.name == 'MARK') for _ in range(leaves)]
+        for _ in range(leaves):
+            stack.append(Slot(place, place, name == 'MARK'))
 
 
-def _take(stack: List[Slot], name: str, place: int) -> Taken:
-    """Takes from the stack what an opcode takes."""
-    info = BY_NAME[name]
+def _shape(info: OpcodeInfo) -> Tuple[int, bool, int, bool]:
+    """How many objects an opcode takes below the mark or from the top, whether it takes a mark, how many it leaves, and whether it makes one."""
     words = info.takes.split(', ') if info.takes else []
+    count = words.index('mark') if info.takes_mark else len(words)
+    return count, info.takes_mark, len(info.leaves.split(', ')) if info.leaves else 0, info.makes
+
+
+_SHAPES = {name: _shape(info) for name, info in BY_NAME.items()}
+_NOTHING = Taken([])
+
+
+def _take(stack: List[Slot], count: int, takes_mark: bool, place: int) -> Taken:
+    """Takes so many objects from the stack, and a mark with what is above it where it does."""
     items: List[Slot] = []
     mark = None
     end = place
-    if info.takes_mark:
-        words = words[:words.index('mark')]
+    if takes_mark:
         while not stack[-1].is_mark:
             items.append(stack.pop())
             items[-1].end, end = end, items[-1].begin
         mark = stack.pop()
         mark.end, end = end, mark.begin
-    named = stack[len(stack) - len(words):] if words else []
-    del stack[len(stack) - len(words):]
+    named = stack[len(stack) - count:] if count else []
+    del stack[len(stack) - count:]
     for slot in reversed(named):
         slot.end, end = end, slot.begin
     return Taken(named, mark, items[::-1])

@@ -14,8 +14,8 @@ from typing import Any, Callable, Dict, List, Optional, Sequence, Set, Tuple, Un
 
 from ..hints import is_array_wrapper
 from ..listed import Batch, Fields, key_of, names_of, offset_in
+from ..literals import Failing, of_bytes, of_floats, of_line, of_number, of_numbers, of_text
 from ..opcodes import TABLE, OpcodeInfo
-from .literals import Failing, of_bytes, of_floats, of_line, of_number, of_numbers, of_text
 from .names import Names, python3_name
 from .nodes import Arguments, Called, Entry, Event, Filled, Formed, Insides, Needed, Node, Paired, Statement, is_dict, is_pure, is_tuple
 from .shapes import ALIKE, GETS, RUNS, RUNS_WITHOUT_UNITS, Part, Said, Shape, codes_of, shape_of

@@ -3,12 +3,12 @@
 from __future__ import annotations
 
 import contextlib
-import gc
 import os
 from typing import Iterator, List, Optional
 
 from ..addresses import opened_in, zip_behind
 from ..answers import Answer
+from ..collector import without_collector
 from ..hints import OF_FRAMES, OLD_TORCH, of_array, of_frame
 from ..listed import Batch, Listed
 from ..opens import ENOUGH, begins_like_one
@@ -93,14 +93,16 @@ def source(pickle: Source, *, full: bool = True, many: bool = False, unframed: b
     opened = opened_in(pickle)
     unread = zip_behind(os.fsdecode(pickle)) if opened is None and isinstance(pickle, (str, os.PathLike)) else []
     is_file = isinstance(pickle, (str, os.PathLike)) or hasattr(pickle, 'read')
-    with _without_collector(), Input(pickle if opened is None else opened.content) as given:
+    with without_collector(), Input(pickle if opened is None else opened.content) as given:
         # (Who gives bytes says that they are a pickle, and the page writes the same of them.)
         head = given.beginning(ENOUGH)
         if opened is None and is_file and begins_like_one(head):
             unread.append(CONTAINER)
         if is_file and OLD_TORCH in head[:_BEGIN_OF_TORCH]:
             unread.append(TORCH)
-        return _source(given, full, modes(many, unframed), timeout, memory, unread, first)
+        answer = _source(given, full, modes(many, unframed), timeout, memory, unread, first)
+        answer.said = () if opened is None else opened.said
+        return answer
 
 
 def _source(given: Input, full: bool, words: List[str], timeout: Optional[float], memory: Optional[int], unread: List[str],
@@ -153,15 +155,3 @@ def _written_first(builder: Builder, full: bool) -> PythonSource:
     writer.write(left)
     helpers = ''.join(text for need, text in HELPERS.items() if need in builder.needs)
     return PythonSource((HEAD_OF_CUT_PART if writer.is_cut else HEAD_OF_PART) + helpers + '\n'.join(writer.lines) + '\n', end, 0)
-
-
-@contextlib.contextmanager
-def _without_collector() -> Iterator[None]:
-    """Many objects are made and none is garbage: the collector would look at all of them again and again."""
-    was_on = gc.isenabled()
-    gc.disable()
-    try:
-        yield
-    finally:
-        if was_on:
-            gc.enable()

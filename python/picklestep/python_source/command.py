@@ -23,13 +23,13 @@ def _count(text: str) -> int:
 
 def _parser() -> argparse.ArgumentParser:
     parser = argparse.ArgumentParser(
-        prog='picklestep source', description='Prints a pickle as Python source, to be read. Nothing of it is run.',
-        epilog='Status: 0 if the pickle was read to its STOP, or as far as --first says; 1 if reading ended before; 2 if there is no source.')
+        prog='picklestep source', description='Prints a pickle as Python source. Read it, and do not run it: running it does what loading the pickle does.',
+        epilog='Status: 0 if the pickle was read to its STOP, or as far as --first says; 1 if reading ended early; 2 if there is no source.')
     parser.add_argument('file', metavar='FILE', help='the pickle, or its address')
     parser.add_argument('--many', action='store_true', help='FILE has several pickles that follow one another')
     parser.add_argument('--unframed', action='store_true', help='ignore the lengths of frames, so that a pickle that was cut off is read to the cut')
-    parser.add_argument('--first', metavar='N', type=_count, help='read the first N opcodes alone, and print what they leave on the stack')
-    parser.add_argument('--full', action='store_true', help='print whole texts, lists and the like, which are cut without it')
+    parser.add_argument('--first', metavar='N', type=_count, help='read only the first N opcodes, and print the stack after them')
+    parser.add_argument('--full', action='store_true', help='print long texts, lists and dictionaries whole')
     return parser
 
 

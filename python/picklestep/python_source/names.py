@@ -8,12 +8,14 @@ from typing import Dict, List, Set, Tuple
 
 from _compat_pickle import IMPORT_MAPPING, NAME_MAPPING
 
+from ..patterns import pattern
+
 __all__ = ['Names', 'TAKEN', 'is_identifier', 'python3_name']
 
-_IDENTIFIER = re.compile(r'[A-Za-z_][A-Za-z0-9_]*', re.ASCII)
+_IDENTIFIER = pattern(r'[A-Za-z_][A-Za-z0-9_]*', re.ASCII)
 # The most letters of a name that stands wherever it is used.
 _MOST_NAME = 1000
-_OWN = re.compile(r'(result)?_[0-9]+')
+_OWN = pattern(r'(result)?_[0-9]+')
 
 # What Python 3.9 to 3.14 have without an import. One list, so that a source is the same whichever of them writes it.
 _BUILTINS = '''

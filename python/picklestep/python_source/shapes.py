@@ -7,14 +7,14 @@ units column by column, and each unit is written by the form of its shape.
 from __future__ import annotations
 
 import contextlib
-import re
 from functools import lru_cache, partial
 from operator import itemgetter
 from typing import Callable, Dict, Iterable, List, NamedTuple, Optional, Sequence, Union
 
 from ..listed import Fields, fields_of_tails, name_in
+from ..literals import of_bytes, of_floats, of_line, of_number, of_numbers, of_text
 from ..opcodes import TABLE
-from .literals import of_bytes, of_floats, of_line, of_number, of_numbers, of_text
+from ..patterns import pattern
 
 __all__ = ['ALIKE', 'BRACKETS', 'GETS', 'Part', 'RUNS', 'RUNS_WITHOUT_UNITS', 'Said', 'Shape', 'codes_of', 'shape_of']
 
@@ -47,8 +47,8 @@ _SMALL = f'{_PLAIN}(?:\x85|{_PLAIN}(?:\x86|{_PLAIN}\x87)){_STORE}'
 # Runs of opcodes that are read at once: numbers, floats, texts that are stored as they come, and units of one shape. (A tuple that a call takes is
 # none: its items are needed.)
 _SAME_KIND = '(?P<numbers>K{16,})|(?P<floats>G{16,})|(?P<texts>(?:[X\x8c\x8d]\x94){8,})'
-RUNS = re.compile(f'{_SAME_KIND}|(?P<units>(?P<unit>(?:{_UNIT}|{_SMALL})(?![R\x81]))(?P=unit)*)')
-RUNS_WITHOUT_UNITS = re.compile(_SAME_KIND)
+RUNS = pattern(f'{_SAME_KIND}|(?P<units>(?P<unit>(?:{_UNIT}|{_SMALL})(?![R\x81]))(?P=unit)*)')
+RUNS_WITHOUT_UNITS = pattern(_SAME_KIND)
 
 
 class Part:

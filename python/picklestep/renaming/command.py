@@ -9,10 +9,12 @@ from contextlib import closing
 from itertools import chain
 from typing import Dict, Generator, List, Optional, Sequence, Tuple
 
+from .. import library
 from ..errors import PicklestepError, reason
 from ..place import find_program
 from ..printing import print_text
 from ..shell.edits import EditError
+from ..waiting import counted, with_progress
 from ..wording import count_of, shown
 from .files import Done, Renames, Sought, find, targets_of
 from .pairs import Pairs, pairs_in, pairs_of
@@ -57,7 +59,7 @@ def _parser() -> argparse.ArgumentParser:
         epilog='Status: 0 if all was done; 1 if something was left as it was; 2 if it could not begin; 130 after Ctrl-C.')
     parser.add_argument('words', metavar='OLD NEW FILE', nargs='*', help='the old name, the new one, and files or folders')
     parser.add_argument('--pairs', metavar='PAIRS', help='take pairs from the file PAIRS: OLD NEW, a line each. The first that fits an import counts')
-    parser.add_argument('--in-place', action='store_true', help='write each file over')
+    parser.add_argument('--in-place', action='store_true', help='replace each file')
     parser.add_argument('--save', metavar='DIR', help='write the files that get other names into the folder DIR')
     parser.add_argument('--dry-run', action='store_true', help='only say what would be done')
     parser.add_argument('--jobs', metavar='N', type=_positive, default=1, help='work at N files at once')
@@ -107,10 +109,10 @@ def _rename(sought: Sought, work: Renames, options: argparse.Namespace, words: S
 def _all_done(sought: Sought, work: Renames, jobs: int) -> Generator[Done, None, None]:
     """What was done with the files, in their order."""
     if jobs == 1 or len(sought.paths) == 1:
-        yield from map(work.do, sought.paths)
+        yield from counted(map(work.do, sought.paths), len(sought.paths))
         return
-    from ..scan.pool import do_all  # (one process alone needs nothing of it)
-    from ..scan.progress import with_progress
+    from ..pool import do_all  # (one process alone needs nothing of it)
+    library.load()  # (the copies of this process have it then)
     waiting: Dict[str, Done] = {}
     left = deque(sought.paths)
     with closing(do_all(sought.paths, work, jobs)) as results, closing(with_progress(results, len(sought.paths))) as shown_results:

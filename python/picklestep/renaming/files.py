@@ -11,7 +11,7 @@ from typing import IO, Callable, Dict, FrozenSet, Iterable, List, Optional, Set,
 
 from ..addresses import opened
 from ..errors import NotOpened, NotRenamed, PicklestepError
-from ..opens import is_archive, is_at_server, split
+from ..opens import ENOUGH, begins_like_one, has_index, is_archive, is_at_server, split
 from ..saving import naming, written_whole
 from ..sources import LIMIT, is_opened
 from .one import RenamedImport, renamed
@@ -126,13 +126,13 @@ class Renames:
                 return Done(path, left=_OF_CONTAINER)
             if is_opened(path) or not stat.S_ISREG(os.stat(path).st_mode):
                 return Done(path, left='no file that can be replaced')
-            if is_archive(path):
-                return self._archive(path)
-            if opened(path) is not None:
-                return Done(path, left=_OF_CONTAINER)
-            with open(path, 'rb', buffering=0) as file:
-                state = os.fstat(file.fileno())
-                content = file.read(LIMIT + 1)
+            content, state = _read(path)
+            if _may_hold_others(path, content):
+                if is_archive(path):
+                    return self._archive(path)
+                if opened(path) is not None:
+                    return Done(path, left=_OF_CONTAINER)
+                content, state = _read(path, is_whole=True)
             made = renamed(content, self.pairs)
             if made.imports:
                 self._write(path, lambda file: file.write(made.content), state)
@@ -173,6 +173,21 @@ class Renames:
                 fill(file)
                 if not _is_as_it_was(path, state):
                     raise NotRenamed('it was changed meanwhile')
+
+
+def _may_hold_others(path: str, head: bytes) -> bool:
+    """Whether a file that begins so may be a container."""
+    return begins_like_one(head) or has_index(path)
+
+
+def _read(path: str, is_whole: bool = False) -> Tuple[bytes, os.stat_result]:
+    """The bytes of a file, and its state. Of one that may be a container it is the first bytes, unless all are wanted."""
+    with open(path, 'rb', buffering=0) as file:
+        state = os.fstat(file.fileno())
+        content = file.read(ENOUGH)
+        if is_whole or not _may_hold_others(path, content):
+            content += file.read(LIMIT + 1 - len(content))
+    return content, state
 
 
 def _is_as_it_was(path: str, state: os.stat_result) -> bool:

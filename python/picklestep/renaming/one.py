@@ -3,35 +3,43 @@
 from __future__ import annotations
 
 import contextlib
+import os
 from bisect import bisect_right
 from dataclasses import dataclass
-from itertools import zip_longest
-from typing import TYPE_CHECKING, Any, Iterable, Iterator, NamedTuple, Optional, Sequence, Set, Tuple, Union
+from itertools import chain, islice, zip_longest
+from typing import TYPE_CHECKING, Any, Generator, Iterable, Iterator, List, NamedTuple, Optional, Sequence, Set, Tuple, Union
 
 from ..addresses import opened_in
 from ..answers import Calls
 from ..errors import NotRenamed
+from ..held import Holder, fields_of_tails, holders_of, is_holder, short_tails
+from ..lines import read_calls
+from ..listed import starts_in
 from ..opcodes import BY_CODE
-from ..reaches import IMPORTS, reach_of, said_in
+from ..opens import split
+from ..reaches import IMPORTS, fields_of, reach_of, said_in
 from ..records import Reach
 from ..session import Session
 from ..shell.edits import Edit
-from ..shell.renames import named_at, renamed_of, renaming_of
+from ..shell.renames import renamed_of, renaming_of
 from ..sources import Source, content_of
 from ..tasks import Asked
-from ..texts import as_made, end_of_texts, held_in, renumbered
-from ..view.lines import read_calls, read_objects
 from .pairs import Given, Names, Pairs, encoded_names, names_of, pairs_of
-from .small import Small, object_lines
+from .small import Small, tails_in_small
 
 if TYPE_CHECKING:
-    from ..view.document import Document
+    from ..document import Document
+    from ..listed import Fields
 
 __all__ = ['Renamed', 'RenamedImport', 'rename', 'renamed']
 
+# How the lines of imports begin.
+_IMPORTS = tuple(b'{"kind":"%b"' % kind.encode('ascii') for kind in IMPORTS)
 # The fields that are numbers of objects, and how those begin that are not the same for all names.
 _NUMBERS = ('object', 'callee', 'of')
 _OF_NAMES = ('module', 'name', 'for_', 'offset', 'text')
+# Some objects: the second parts of their lines, and those that hold others.
+_Some = Tuple[List[str], Iterable[Holder]]
 # The opcodes whose argument has the names.
 _WITH_NAMES = ('GLOBAL', 'INST')
 
@@ -70,7 +78,8 @@ def rename(source: Source, pairs: Given) -> Renamed:
 
     `pairs` has old names, each with the new one: a module (with all below it), `module.*` (what is below it alone), `module:name` (one name), `module:*`
     (all names in it) or `module:name.*` (names below that name). Of several the first that fits an import counts. Raises ValueError where one is no
-    pair, and NotRenamed where the pickle does not read to its end, where it is in a container, or where not only these names would be others.
+    pair, and NotRenamed where the pickle does not read to its end, where not only these names would be others, or for the path of a container: give the
+    address of a pickle in it, whose bytes alone you get. (The word `rename` writes archives.)
 
     >>> made = rename(b'\\x80\\x02coldapp.tasks\\nsend\\n.', {'oldapp': 'newapp'})
     >>> made.content
@@ -79,20 +88,20 @@ def rename(source: Source, pairs: Given) -> Renamed:
     (RenamedImport(offset=2, old='oldapp.tasks:send', new='newapp.tasks:send'),)
     """
     wanted = pairs_of(pairs)
-    opened = opened_in(source)
-    if opened is not None:
-        raise NotRenamed(f'{opened.address} is in a container: nothing is written into one')
-    return renamed(content_of(source), wanted)
+    found = opened_in(source)
+    if found is not None and isinstance(source, (str, os.PathLike)) and split(os.fsdecode(source)) is None:
+        raise NotRenamed(f'it is a container, and nothing is written into one: the pickle in it has the address {found.address}')
+    return renamed(content_of(source) if found is None else found.content, wanted)
 
 
 def renamed(content: bytes, pairs: Pairs) -> Renamed:
     """The same of bytes. Raises NotRenamed."""
     before = _calls_of(content)
-    found = [_Import(reach, *renamed_of(reach, pairs)) for reach in _imports_in(before)]
-    changed = [each for each in found if each.wanted != each.names]
     why = _why_not(before)
     if why:
         raise NotRenamed(why)
+    found = [_Import(reach, *renamed_of(reach, pairs)) for reach in _imports_in(before)]
+    changed = [each for each in found if each.wanted != each.names]
     if not changed:
         return Renamed(content, ())
     try:
@@ -125,7 +134,10 @@ def _calls_of(content: bytes) -> Calls:
 
 
 def _imports_in(calls: Calls) -> Iterator[Reach]:
-    return (reach_of(fields) for fields in calls.fields() if fields['kind'] in IMPORTS)
+    """The imports among the lines of pickles that read to their ends. No other line is read."""
+    lines = calls.json
+    for at in sorted(chain.from_iterable(starts_in(lines, begins) for begins in _IMPORTS)):
+        yield reach_of(fields_of(lines[at:lines.index(b'\n', at)]))
 
 
 def _why_not(calls: Calls) -> str:
@@ -150,7 +162,7 @@ def _edited(content: bytes, pairs: Pairs, changed: Sequence[_Import]) -> bytes:
 
 def _large(content: bytes) -> 'Document':
     """A large pickle. (Most are small, and need nothing of what makes this.)"""
-    from ..view.document import Document
+    from ..document import Document
     document = Document(content, '', many=True)
     if document.reaches.is_part:
         document.close()
@@ -169,11 +181,25 @@ def _by_texts(content: bytes, pairs: Pairs, imports: Sequence[_Import]) -> bytes
             put(edit.place, edit.name, *edit.values)
         made = document.session.bytes()
         if isinstance(document, Small):
-            changed.compare(document.final.all(), object_lines(made))
+            changed.compare([(document.tails, document.holders)], [tails_in_small(made)])
         else:
-            with Asked(made, None, None) as asked:
-                changed.compare(document.final.all(), read_objects(asked.blocks(['objects', '--many'])).all())
+            with contextlib.closing(_objects_of(made)) as after, contextlib.closing(_objects_of(content)) as before:
+                changed.compare(_with_holders(before), after)
     return made
+
+
+def _objects_of(content: bytes) -> Generator[List[str], None, None]:
+    """The second parts of the lines of all objects, some at a time, with the beginnings of long arguments alone."""
+    with Asked(content, None, None) as asked, contextlib.closing(asked.blocks(['objects', '--json', '--many'])) as blocks:
+        yield from short_tails(blocks)
+
+
+def _with_holders(objects: Iterable[List[str]]) -> Iterator[_Some]:
+    """The same with what they hold."""
+    first = 0
+    for tails in objects:
+        yield tails, holders_of(first, tails)
+        first += len(tails)
 
 
 # --- What is to be the same ---
@@ -183,21 +209,29 @@ def _compare(before: Calls, after: Calls, wanted: Sequence[Optional[Names]]) -> 
     if _why_not(after) or [names_of(reach.said or reach.name) for reach in _imports_in(after)] != wanted:
         raise NotRenamed('not only these imports would have other names')
     for old, new in zip_longest(before.fields(), after.fields()):
-        if old is None or new is None or old['text'] != new['text'] and _unnamed(old) != _unnamed(new):
+        if old is None or new is None or old['text'] != new['text'] and not _are_alike(old, new):
             raise NotRenamed(f'another line than that of an import would be another one: {said_in(old or new):.100}')
 
 
-def _unnamed(fields: Any) -> Any:
-    """A line without the names of imports, the numbers of objects, and its offset.
+def _are_alike(old: Any, new: Any) -> bool:
+    """Whether two lines are the same but for the names of imports, the numbers of objects, and the offset; or what stands in them.
 
-    >>> _unnamed({'kind': 'call', 'offset': 9, 'module': 'a', 'name': 'b', 'args': [{'kind': 'text', 'value': 'c'}], 'object': 3})
-    {'kind': 'call', 'args': [{'kind': 'text', 'value': 'c'}], 'object': True}
+    >>> line = {'kind': 'call', 'offset': 9, 'module': 'a', 'name': 'b', 'args': [{'kind': 'text', 'value': 'c'}], 'object': 3}
+    >>> _are_alike(line, {**line, 'offset': 7, 'module': 'new', 'object': 4}), _are_alike(line, {**line, 'args': []}), _are_alike(line, {**line, 'more': 1})
+    (True, False, False)
     """
-    if isinstance(fields, list):
-        return [_unnamed(each) for each in fields]
-    if not isinstance(fields, dict):
-        return fields
-    return {key: key in _NUMBERS or _unnamed(each) for key, each in fields.items() if not key.startswith(_OF_NAMES)}
+    if isinstance(old, list) and isinstance(new, list):
+        return len(old) == len(new) and all(map(_are_alike, old, new))
+    if not isinstance(old, dict) or not isinstance(new, dict):
+        return bool(old == new)
+    if old.keys() != new.keys() and set(_compared(old)) != set(_compared(new)):
+        return False
+    others = [key for key, value in old.items() if key not in new or value != new[key]]
+    return all(key in _NUMBERS or _are_alike(old[key], new[key]) for key in _compared(others))
+
+
+def _compared(fields: Iterable[str]) -> Iterator[str]:
+    return (key for key in fields if not key.startswith(_OF_NAMES))
 
 
 class _Changed:
@@ -211,27 +245,40 @@ class _Changed:
         # How many objects were made before each that is new.
         self._new = sorted(document.numbers_before(edit.place) for edit, number in zip(edits, made) if number is None and edit.name != 'POP')
 
-    def compare(self, before: Iterable[bytes], after: Iterable[bytes]) -> None:
-        """Raises NotRenamed where other objects are not as they were, but for their numbers."""
+    def compare(self, before: Iterable[_Some], after: Iterable[List[str]]) -> None:
+        """Raises NotRenamed where other objects are not as they were, but for their numbers. They come some at a time."""
         new = {number + at for at, number in enumerate(self._new)}
-        left = (line for number, line in enumerate(after) if number not in new) if new else after
-        lines = list(before)
-        heap = b'\n'.join(lines) + b'\n'
-        may_hold = {heap.count(b'\n', 0, at) for number in self._texts for at in named_at(heap, b'#%d' % number)}
-        for number, (line, other) in enumerate(zip_longest(lines, left)):
-            if line == other and number not in may_hold:
-                continue
-            if line is None or other is None or self._holds_text(number, line) or (
-                    line != other and not self._is_same(number, line.decode('ascii'), other.decode('ascii'))):
-                raise NotRenamed(f'object #{number} would be another one')
+        left: Iterator[str] = chain.from_iterable(after)
+        if new:
+            left = (tail for number, tail in enumerate(left) if number not in new)
+        first = 0
+        for tails, holders in before:
+            others = list(islice(left, len(tails)))
+            found = [at for at, (tail, other) in enumerate(zip(tails, others)) if tail != other or new and is_holder(tail)]
+            wrong = {first + at for at in found if not self._is_same(first + at, tails[at], others[at])}.union(self._holding(holders))
+            if len(others) < len(tails):
+                wrong.add(first + len(others))
+            if wrong:
+                raise NotRenamed(f'object #{min(wrong)} would be another one')
+            first += len(tails)
+        if next(left, None) is not None:
+            raise NotRenamed(f'object #{first} would be another one')
 
-    def _holds_text(self, number: int, line: bytes) -> bool:
-        """Whether an object that is no import holds one of the texts."""
-        if number in self._imports or b'#' not in line[1:]:
-            return False
-        return any(each.number in self._texts for each in held_in(line, end_of_texts(line, 0, len(line)) + 1, len(line)))
+    def _holding(self, holders: Iterable[Holder]) -> Set[int]:
+        """Which objects that are no imports hold one of the texts."""
+        return set() if not self._texts else {
+            number for number, _, parts, _, put in holders
+            if number not in self._imports and not (self._texts.isdisjoint(parts) and self._texts.isdisjoint(put))}
 
-    def _is_same(self, number: int, line: str, other: str) -> bool:
+    def _is_same(self, number: int, tail: str, other: str) -> bool:
         """Whether a line is that of the same object; of an import or its text, whether the same was done to it."""
-        line = renumbered(line, lambda each: each + bisect_right(self._new, each))
-        return line == other or (number in self._imports or number in self._texts) and line[len(as_made(line)):] == other[len(as_made(other)):]
+        both: List[Fields] = [{'parts': [], 'changes': [], **each} for each in fields_of_tails([tail, other])]
+        fields, others = both
+        parts = [*map(self._moved, fields['parts'])]
+        changes = [{name: value if name == 'kind' else self._moved(value) for name, value in change.items()} for change in fields['changes']]
+        is_renamed = number in self._imports or number in self._texts
+        return changes == others['changes'] and (is_renamed or {**fields, 'parts': parts, 'changes': changes} == others)
+
+    def _moved(self, number: int) -> int:
+        """The number that an object has after the edits."""
+        return number + bisect_right(self._new, number)

@@ -3,21 +3,23 @@ large ones `view` has a document, which reads some lines at a time.)"""
 
 from __future__ import annotations
 
-import re
 from bisect import bisect_left
-from typing import Iterator, List, NamedTuple, Optional, Set
+from operator import itemgetter
+from typing import Dict, List, NamedTuple, Optional, Set, Tuple
 
+from ..held import holders_of, tails_of
+from ..made import results_in
 from ..opcodes import BY_CODE, BY_NAME
 from ..session import Session
 from ..tasks import Asked
 
-__all__ = ['MOST', 'Small', 'object_lines']
+__all__ = ['MOST', 'Small', 'tails_in_small']
 
 # Pickles of so many bytes are small.
 MOST = 1 << 18
 
-_CLOSING = re.compile(rb'\n[^#]')
-_RESULT = re.compile(rb'result #([0-9]+)\n')
+# How wide the column of offsets is, unless they are greater.
+_COLUMN = 5
 _MAKES = frozenset(info.code for info in BY_NAME.values() if info.makes)
 _READONLY = BY_NAME['READONLY_BUFFER'].code
 
@@ -54,19 +56,9 @@ def _offsets_in(listing: bytes) -> List[int]:
     lines = listing.split(b'\n')
     while lines and not lines[-1].partition(b':')[0].strip().isdigit():
         lines.pop()
-    return [int(line[:line.index(b':')]) for line in lines]
-
-
-class _Objects:
-    """The lines of all objects."""
-
-    def __init__(self, text: bytes) -> None:
-        end = _CLOSING.search(text)
-        self.text = text if end is None else text[:end.start() + 1]
-
-    def all(self) -> Iterator[bytes]:
-        """The lines, one after another."""
-        return iter(self.text.split(b'\n')[:-1])
+    if lines and lines[-1].index(b':') > _COLUMN:
+        return [int(line[:line.index(b':')]) for line in lines]
+    return [*map(int, map(itemgetter(slice(_COLUMN)), lines))]  # (each has the same width)
 
 
 class Small:
@@ -79,11 +71,13 @@ class Small:
             return None
         with Asked(content, None, None) as asked:
             lines = _Opcodes(content, asked.lines(['list', '--many']))
-            return None if _READONLY in lines.codes else cls(content, lines, asked.lines(['objects', '--many']))
+            return None if _READONLY in lines.codes else cls(content, lines, asked.lines(['objects', '--json', '--many']))
 
-    def __init__(self, content: bytes, lines: _Opcodes, text: bytes) -> None:
-        self.final = _Objects(text)
-        self._results = {int(number) for number in _RESULT.findall(text, len(self.final.text))}
+    def __init__(self, content: bytes, lines: _Opcodes, objects: bytes) -> None:
+        # The second parts of the lines of objects, and what they hold.
+        self.tails = tails_of(objects)
+        self.holders = list(holders_of(0, self.tails))
+        self._results = set(results_in(objects))
         self.lines = lines
         self._makers = [place for place, code in enumerate(lines.codes) if code in _MAKES]
         self.session = Session(content, many=True)
@@ -95,6 +89,19 @@ class Small:
     def left(self) -> Optional[Set[int]]:
         """The results."""
         return self._results
+
+    def names_of_imports(self) -> Dict[int, Tuple[int, int]]:
+        """The objects that STACK_GLOBAL takes for names, by the numbers of what it imports."""
+        return {number: (parts[0], parts[1]) for number, kind, parts, _, _ in self.holders if kind == 'stack-global'}
+
+    def held_as_data(self, numbers: Set[int]) -> Set[int]:
+        """Which of these others hold, and not only as the names of imports."""
+        found: Set[int] = set()
+        for _, kind, parts, _, put in self.holders:
+            found.update(numbers.intersection(put))
+            if kind != 'stack-global':
+                found.update(numbers.intersection(parts))
+        return found
 
     def makes(self, place: int) -> Optional[int]:
         """The number of the object that the opcode at a place makes, if it makes one."""
@@ -110,7 +117,7 @@ class Small:
         return self._makers[number] if 0 <= number < len(self._makers) else None
 
 
-def object_lines(content: bytes) -> Iterator[bytes]:
-    """The lines of the objects of a small pickle."""
+def tails_in_small(content: bytes) -> List[str]:
+    """The second parts of the lines of the objects of a small pickle."""
     with Asked(content, None, None) as asked:
-        return _Objects(asked.lines(['objects', '--many'])).all()
+        return tails_of(asked.lines(['objects', '--json', '--many']))

@@ -1,18 +1,46 @@
 """Many files: what the pickles in them import and call. The command `picklestep scan`.
 
     picklestep scan models/ --allow torch --jobs 4
+
+What is public is imported when it is first used, as in `picklestep`.
 """
 
 from .. import check_python
 
 check_python()
 
-from .blobs import Limits
-from .command import main
-from .folder import Found, Scan, folder, to_dataframe
-from .looking import Options, look, look_at_bytes
-from .looks import Judge, Look
-from .results import Call, Import, Note, Pickle, Result, from_json, to_json
-
 __all__ = ['Call', 'Found', 'Import', 'Judge', 'Limits', 'Look', 'Note', 'Options', 'Pickle', 'Result', 'Scan', 'folder', 'from_json', 'look',
            'look_at_bytes', 'main', 'to_dataframe', 'to_json']
+
+TYPE_CHECKING = False
+if TYPE_CHECKING:
+    from .blobs import Limits
+    from .command import main
+    from .folders import Found, Scan, folder, to_dataframe
+    from .looking import Options, look, look_at_bytes
+    from .looks import Judge, Look
+    from .results import Call, Import, Note, Pickle, Result, from_json, to_json
+
+# Which module has which public names. No public name is that of a module.
+_MODULES = {
+    'blobs': ('Limits',),
+    'command': ('main',),
+    'folders': ('Found', 'Scan', 'folder', 'to_dataframe'),
+    'looking': ('Options', 'look', 'look_at_bytes'),
+    'looks': ('Judge', 'Look'),
+    'results': ('Call', 'Import', 'Note', 'Pickle', 'Result', 'from_json', 'to_json'),
+}
+
+
+def __getattr__(name: str) -> object:
+    """What is public, from the module that has it."""
+    from importlib import import_module
+    for module, names in _MODULES.items():
+        if name in names:
+            globals()[name] = getattr(import_module(f'{__name__}.{module}'), name)
+            return globals()[name]
+    raise AttributeError(f'module {__name__!r} has no attribute {name!r}')
+
+
+def __dir__() -> 'list[str]':
+    return sorted({*globals(), *__all__})

@@ -5,28 +5,28 @@ from __future__ import annotations
 import errno
 import io
 import os
-import re
-from dataclasses import dataclass
 from functools import lru_cache
-from pathlib import Path
-from typing import Dict, Iterable, Iterator, List, Optional, Sequence, Set, Tuple
+from typing import TYPE_CHECKING, Dict, Iterable, Iterator, List, NamedTuple, Optional, Sequence, Set, Tuple
 
+from ..patterns import pattern
 from .names import Line, Names, NoList, nearest, read_all
 from .wording import shown
 
+if TYPE_CHECKING:
+    from pathlib import Path
+
 __all__ = ['SETS', 'lines_of', 'names_of', 'placed_lines', 'read_lines', 'read_names', 'sets_with']
 
-_CARRIAGE_RETURN = re.compile(r'\r(?!\n)')
-_FOLDER = Path(__file__).resolve().parent / 'allow'
+_CARRIAGE_RETURN = pattern(r'\r(?!\n)')
+_FOLDER = os.path.join(os.path.dirname(os.path.realpath(__file__)), 'allow')
 
 # How large a list may be that another list includes.
 _MOST_BYTES = 1 << 24
 # The sets that come with the package.
-SETS = tuple(sorted(path.stem for path in _FOLDER.glob('*.txt')))
+SETS = tuple(sorted(name[:-4] for name in os.listdir(_FOLDER) if name.endswith('.txt')))
 
 
-@dataclass(frozen=True)
-class _Wanted:
+class _Wanted(NamedTuple):
     """A list that is wanted, by the name of a set or a file. One that another list includes has the file of that, and the place there."""
 
     word: str
@@ -40,8 +40,9 @@ class _Wanted:
     @property
     def path(self) -> Path:
         """Its file. That of an included list is looked for beside the one that includes it."""
+        from pathlib import Path  # (most runs have no lists)
         if self.is_set:
-            return _FOLDER / f'{self.word}.txt'
+            return Path(_FOLDER, f'{self.word}.txt')
         return Path(self.word) if self.by is None else self.by.parent / self.word
 
     def content(self) -> bytes:

@@ -3,9 +3,9 @@
 from __future__ import annotations
 
 import ast
-import re
 from typing import Any, Tuple
 
+from ..patterns import pattern
 from .begins import HEAD
 from .blobs import Blob
 
@@ -13,7 +13,7 @@ __all__ = ['array_header']
 
 # Items of arrays that are no objects, as numpy writes them. It takes many other spellings ('1O', 'i4,O', 'object'), so all else counts as
 # objects.
-_PLAIN_ITEM = re.compile(r'[<>=|]?([?]|[biufc][0-9]{1,2}|[SUVa][0-9]+|[mM]8(\[[0-9A-Za-z/]+\])?)')
+_PLAIN_ITEM = pattern(r'[<>=|]?([?]|[biufc][0-9]{1,2}|[SUVa][0-9]+|[mM]8(\[[0-9A-Za-z/]+\])?)')
 
 
 def array_header(blob: Blob) -> Tuple[int, bool]:

@@ -4,15 +4,17 @@ from __future__ import annotations
 
 import re
 
+from ..patterns import pattern
+
 __all__ = ['HEAD', 'NAMES_WITHOUT_TAR', 'is_pickle_name', 'is_storage_name']
 
 # The first bytes of a member, which show what it is.
 HEAD = 16_384
 
-_PICKLE_NAME = re.compile(r'.*\.(pkl|pickle|pck|pcl|pk|p|joblib|pt|pth|ckpt|dill)', re.IGNORECASE | re.DOTALL)
+_PICKLE_NAME = pattern(r'.*\.(pkl|pickle|pck|pcl|pk|p|joblib|pt|pth|ckpt|dill)', re.IGNORECASE | re.DOTALL)
 # Names of pickles that only Python's, joblib's and dill's loaders are given. (torch.load opens a tar archive.)
-NAMES_WITHOUT_TAR = re.compile(r'.*\.(pkl|pickle|pck|pcl|joblib|dill)', re.IGNORECASE | re.DOTALL)
-_STORAGE_NAME = re.compile(r'(.*/)?(data|constants)/[0-9]+', re.DOTALL)
+NAMES_WITHOUT_TAR = pattern(r'.*\.(pkl|pickle|pck|pcl|joblib|dill)', re.IGNORECASE | re.DOTALL)
+_STORAGE_NAME = pattern(r'(.*/)?(data|constants)/[0-9]+', re.DOTALL)
 
 
 def is_pickle_name(name: str) -> bool:

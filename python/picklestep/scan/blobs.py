@@ -4,7 +4,6 @@ from __future__ import annotations
 
 import mmap
 import os
-import tempfile
 import threading
 import time
 from bisect import bisect_right
@@ -14,11 +13,11 @@ from dataclasses import dataclass
 from functools import lru_cache
 from typing import BinaryIO, Iterable, Iterator, List, Optional, Sequence, Tuple, cast
 
-from ..program import seconds_of_programs
 from ..sources import opens_descriptors
+from ..took import seconds_of_programs
 
 __all__ = ['CHUNK', 'Blob', 'Budget', 'BytesBlob', 'FileBlob', 'JoinedBlob', 'LimitMet', 'Limits', 'OpenedBlob', 'Part',
-           'PartMet', 'STEPS', 'STEPS_OF_A_MEMBER', 'Spooled', 'spooled']
+           'PartMet', 'STEPS', 'STEPS_OF_A_MEMBER', 'Spooled', 'WORDS_OF_LIMITS', 'spooled']
 
 CHUNK = 1 << 18
 
@@ -37,6 +36,10 @@ class Limits:
     seconds: float = 60
     memory: int = 1 << 30
     lines: int = 10_000_000
+
+
+# The names of limits on the command line and in a policy, and which these are.
+WORDS_OF_LIMITS = {'bytes': 'unpacked', 'members': 'members', 'depth': 'depth', 'seconds': 'seconds', 'memory': 'memory', 'lines': 'lines'}
 
 
 class LimitMet(Exception):
@@ -406,9 +409,11 @@ def nameless_file() -> BinaryIO:
     """A file without a name: in memory where the system has such, else in the folder for temporary files. Where the program opens only files
     with a name it has one there, as long as it is open."""
     if not opens_descriptors():
+        import tempfile
         return cast(BinaryIO, tempfile.NamedTemporaryFile(prefix='picklestep-scan-', buffering=0))
     if hasattr(os, 'memfd_create'):
         return cast(BinaryIO, os.fdopen(os.memfd_create('picklestep-scan', os.MFD_CLOEXEC), 'w+b', buffering=0))
+    import tempfile
     return cast(BinaryIO, tempfile.TemporaryFile(buffering=0))
 
 

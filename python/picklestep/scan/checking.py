@@ -6,7 +6,9 @@ import os
 from dataclasses import replace
 from typing import Iterable, Iterator, List, Optional
 
+from ..addresses import bytes_at
 from ..errors import NotAllowed
+from ..opens import split
 from ..sources import Readable, Source
 from .allow import names_of
 from .begins import HEAD, is_pickle_name
@@ -24,15 +26,16 @@ __all__ = ['check']
 _OF_OTHER_LOADERS = ('persistent:', 'buffer:')
 
 
-def check(source: Source, *, allow: Iterable[str] = (), names: Iterable[str] = (), loader: Optional[str] = None,
+def check(source: Source, *, allow: Optional[Iterable[str]] = None, names: Optional[Iterable[str]] = None, loader: Optional[str] = None,
           options: Options = Options()) -> bytes:
-    """The bytes of a source, where nothing in them is marked. Who wants to load it loads these bytes: a file may change.
+    """The bytes of a source, where nothing in them is marked. Who wants to load it loads these bytes: a file may change. Of an address they are the bytes
+    that are there, and nothing else in the container is looked at.
 
     `loader` says what loads them: 'pickle', 'torch', 'joblib', 'numpy' or 'pandas'. A container that it does not open is refused, so that for
     'pickle' all are. Without it they are to be fit for each: what opens a container, and what takes its bytes themselves for a pickle.
 
-    `allow` has sets and files as `scan --allow` takes them, `names` names and patterns; without both only names that are known to run what
-    they are given are refused. `options` has the limits. Raises NotAllowed with a line for each look; OSError where a file cannot be read,
+    `allow` has sets and files as `scan --allow` takes them, `names` names and patterns. An empty list of these allows no name. Without both only
+    what is marked without a list is refused, such as names that are known to run what they are given. `options` has the limits. Raises NotAllowed with a line for each look; OSError where a file cannot be read,
     NoList where a line of a list has no meaning, and ValueError for another loader.
 
     Where there is a list, each pickle has to pass `gate`, which says what is proved; one of joblib without the numbers of its arrays. Of several
@@ -45,9 +48,8 @@ def check(source: Source, *, allow: Iterable[str] = (), names: Iterable[str] = (
     if loader is not None and loader not in LOADERS:
         raise ValueError(f'{loader!r} is no loader: there are {", ".join(LOADERS)}')
     content, name = _content(source)
-    words, lines_given = ([given] if isinstance(given, str) else list(given) for given in (allow, names))
-    # (a list without a name allows none)
-    allowed = names_of(words, lines_given) if words or lines_given else None
+    words, lines_given = ([given] if isinstance(given, str) else list(given or ()) for given in (allow, names))
+    allowed = None if allow is None and names is None else names_of(words, lines_given)
     judge = Judge(allowed)
     options = replace(options, lists=judge.lists(), left=() if loader == LOADERS[0] else _OF_OTHER_LOADERS)
     kinds = list(kinds_of(BytesBlob(content), content[:HEAD]))
@@ -84,8 +86,11 @@ def _in_containers(content: bytes, kinds: List[Container], loader: Optional[str]
 def _content(source: Source) -> 'tuple[bytes, str]':
     """All bytes of a source, and what it is called."""
     if isinstance(source, (str, os.PathLike)):
+        name = os.fsdecode(source)
+        if split(name) is not None:
+            return bytes_at(name), name
         with open(source, 'rb') as file:
-            return file.read(), os.fsdecode(source)
+            return file.read(), name
     if isinstance(source, (bytes, bytearray, memoryview)):
         return bytes(source), 'pickle'
     return _read_all(source), 'pickle'

@@ -7,12 +7,15 @@ package, the program, and the files under the same paths (a shared folder, or UR
 from __future__ import annotations
 
 from contextlib import suppress
-from typing import Any, Generator, Iterable, Iterator, List, Union
+from typing import TYPE_CHECKING, Any, Generator, Iterable, Iterator, List, Union
 
+from ..errors import PicklestepError
 from ..wording import shown
-from .looking import Options
+from .looking import Options, work_on
 from .results import Result
-from .stores.server import Task, work_on
+
+if TYPE_CHECKING:
+    from .stores.server import Task
 
 __all__ = ['NoCluster', 'look_on_cluster']
 
@@ -20,7 +23,7 @@ __all__ = ['NoCluster', 'look_on_cluster']
 AHEAD = 2_000
 
 
-class NoCluster(Exception):
+class NoCluster(PicklestepError):
     """Dask is not installed, the address is none, or no cluster answers there."""
 
 

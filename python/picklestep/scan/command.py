@@ -10,24 +10,23 @@ import re
 import sys
 from contextlib import closing, suppress
 from itertools import chain
-from typing import Dict, Generator, Iterable, List, Optional, TextIO, Union
+from typing import TYPE_CHECKING, Dict, Generator, Iterable, Iterator, List, Optional, TextIO, Tuple, Union
 
 from ..errors import PicklestepError
-from ..opens import split
-from ..program import find_program
+from ..opens import is_at_server, split
+from ..place import find_program
+from ..waiting import with_progress
 from ..wording import shown
 from .allow import SETS
-from .cluster import NoCluster, look_on_cluster
 from .files import NoNames, find_files
-from .looking import Options, is_unchanged, is_url, look
-from .pool import look_at_all
+from .looking import Options, is_unchanged, is_url, look, work_on
 from .outputs import Output, leave
-from .progress import with_progress
 from .results import Result, from_json
 from .settings import Settings
 from .severity import FAILING
-from .stores.address import Address, is_server
-from .stores.server import NoServer, Task, Wanted, tasks, total_of
+
+if TYPE_CHECKING:
+    from .stores.server import Task
 
 __all__ = ['Work', 'escape_names', 'main', 'scan_words']
 
@@ -64,7 +63,7 @@ def _parser(fewest: str = '+') -> argparse.ArgumentParser:
         prog='picklestep scan', description='Prints what the pickles in files import and call, with ! before what to look at first. Nothing of them is run '
                                            'or loaded.',
         epilog='Status: 0 if nothing is marked; 1 if something is found; 3 if nothing is found, and something could not be looked at; 2 if it '
-               'could not begin, or not write; 130 after Ctrl-C; 141 if whoever read the output has left. Good files have marks too, and a file '
+               'could not begin, or could not write; 130 after Ctrl-C; 141 if whoever read the output has left. Good files have marks too, and a file '
                'without a mark may still do harm.')
     parser.add_argument('paths', metavar='PATH', nargs=fewest,
                         help='a file, a folder, a server (redis://, memcached://, postgresql://, mysql://), a URL for fsspec, an address that '
@@ -75,13 +74,13 @@ def _parser(fewest: str = '+') -> argparse.ArgumentParser:
     parser.add_argument('--report', metavar='FILE', action='append',
                         help='also write a report for people to FILE, whose name ends in .html or .md. It may be given again, for another FILE')
     parser.add_argument('--sarif', metavar='FILE', help='also write what is marked to FILE, as SARIF 2.1.0')
-    parser.add_argument('--junit', metavar='FILE', help='also write a test for each file to FILE, as JUnit does')
-    parser.add_argument('--code-quality', metavar='FILE', help="also write what is marked to FILE, as GitLab's code quality has it")
+    parser.add_argument('--junit', metavar='FILE', help='also write a test for each file to FILE, as JUnit writes it')
+    parser.add_argument('--code-quality', metavar='FILE', help="also write what is marked to FILE, in the form of GitLab's code quality")
     parser.add_argument('--fail-on', metavar='SEVERITY', choices=FAILING,
                         help=f'end with status 1 only for findings of this severity or a worse one: {", ".join(FAILING)}')
     parser.add_argument('--brief', action='store_true', help='print only what is marked, and the summary')
     parser.add_argument('--lines', action='store_true', help="print all lines of the program about each pickle")
-    parser.add_argument('--full', action='store_true', help='print whole arguments: texts are not cut, nor tuples')
+    parser.add_argument('--full', action='store_true', help='print whole arguments: neither texts nor tuples are cut')
     parser.add_argument('--everywhere', action='store_true',
                         help='look for pickles at each offset of a file, in texts that stand for bytes, and inside of the texts and bytes of pickles')
     parser.add_argument('--jobs', metavar='N', type=_positive, default=1, help='look at N files at once')
@@ -107,9 +106,9 @@ def _add_limits(parser: argparse.ArgumentParser) -> None:
 def _add_lists(parser: argparse.ArgumentParser) -> None:
     parser.add_argument('--allow', metavar='FILE', action='append', default=[],
                         help='mark each import that the list FILE does not allow. FILE may also be one of the sets '
-                             f'{", ".join(SETS)}. Several lists allow together what each of them allows')
+                             f'{", ".join(SETS)}. You may give several lists: a name is allowed if one of them allows it')
     parser.add_argument('--deny', metavar='FILE', action='append', default=[], help='mark the names of the list FILE, even if they are allowed')
-    parser.add_argument('--no-known', action='store_true', help='do not mark names for being known to run what they are given')
+    parser.add_argument('--no-known', action='store_true', help='do not mark a name only because it is known to run what it is given')
     parser.add_argument('--write-allow', metavar='FILE',
                         help='write a list for --allow with the names that these files import. If FILE is there, add to it the names that it lacks')
 
@@ -180,34 +179,51 @@ class Work:
         self._words = words
         self._at = [word for word in words.paths if split(word) is not None]
         others = [word for word in words.paths if word not in self._at]
-        self._servers = [Address(word) for word in others if is_server(word)]
-        self._wanted = Wanted(words.match, words.sample)
-        self._found = find_files((word for word in others if not is_server(word)), b'\0' if words.null else b'\n')
+        self._servers = [word for word in others if is_at_server(word)]
+        self._found = find_files((word for word in others if not is_at_server(word)), b'\0' if words.null else b'\n')
         self.paths = self._found.paths
         self.results_without_files = self._found.results
 
     def results(self, settings: Settings, paths: List[str]) -> Generator[Result, None, None]:
         """The results of some of the files, of what is opened and of the keys of servers, as they come. A terminal shows how far it is."""
-        opened, wanted = self._found.opened, self._wanted
+        opened = self._found.opened
         # (Where a server does not answer, the result that says so comes when the others have come.)
         failed: List[Result] = []
-        keys = chain.from_iterable(tasks(server, wanted, failed.append) for server in self._servers)
+        keys, count_of_keys = self._keys(failed) if self._servers else (iter(()), 0)
         first = chain((_look_at(word, settings.options) for word in self._at), (look(path, settings.options) for path in opened))
         results = _in_a_row(first, self._results(settings, paths, keys), failed)
         files = len(paths) + len(opened) + len(self._at)
-        total = files + sum(total_of(server, wanted) for server in self._servers)
+        total = files + count_of_keys
         what = 'files' if not self._servers else 'files and keys' if files else 'keys'
         with closing(with_progress(results, total, what)) as shown, closing(results):
             yield from shown
+
+    def _keys(self, failed: List[Result]) -> Tuple[Iterator[Task], int]:
+        """The keys of the servers, and how many there are. Results of servers that do not answer are added to a list."""
+        from .stores.address import Address
+        from .stores.server import Wanted, tasks, total_of
+        servers, wanted = list(map(Address, self._servers)), Wanted(self._words.match, self._words.sample)
+        count = sum(total_of(server, wanted) for server in servers)
+        return chain.from_iterable(tasks(server, wanted, failed.append) for server in servers), count
 
     def _results(self, settings: Settings, paths: List[str], keys: Iterable[Task]) -> Generator[Result, None, None]:
         """The results of files and keys, of those that are looked at in one way after another. Keys come with the first of them."""
         jobs, cluster = self._words.jobs, self._words.cluster
         for number, (options, group) in enumerate(settings.groups(paths) or [(settings.options, [])]):
             tasks_of: Iterable[Union[str, Task]] = chain(group, keys if number == 0 else ())
-            made = look_at_all(tasks_of, options, jobs) if cluster is None else look_on_cluster(tasks_of, options, cluster)
-            with closing(made) as results:
+            with closing(_looked_at(tasks_of, options, jobs, cluster)) as results:
                 yield from results
+
+
+def _looked_at(tasks: Iterable[Union[str, Task]], options: Options, jobs: int, cluster: Optional[str]) -> Generator[Result, None, None]:
+    """The results of files and keys, as they are ready. (What lets others look at them is imported where there are some.)"""
+    if cluster is not None:
+        from .cluster import look_on_cluster
+        return look_on_cluster(tasks, options, cluster)
+    if jobs > 1:
+        from .pool import look_at_all
+        return look_at_all(tasks, options, jobs)
+    return (work_on(task, options) for task in tasks)
 
 
 def _look_at(address: str, options: Options) -> Result:
@@ -230,14 +246,16 @@ def _output(words: argparse.Namespace, settings: Settings) -> Output:
 
 def _follow(words: argparse.Namespace) -> int:
     """Looks at new values until Ctrl-C, or until its reader has left: other files are written then, since this run has no other end."""
-    if len(words.paths) != 1 or not is_server(words.paths[0]):
-        raise NoServer('--follow wants one server')
+    if len(words.paths) != 1 or not is_at_server(words.paths[0]):
+        raise PicklestepError('--follow wants one server')
     parser = _parser()
     for name in _NOT_FOLLOWED:
         if getattr(words, name) != parser.get_default(name):
-            raise NoServer(f'--follow takes no --{name}')
+            raise PicklestepError(f'--follow takes no --{name}')
     words.json = True
+    from .stores.address import Address
     from .stores.follow import follow  # (with what it asks a server by)
+    from .stores.server import Wanted
     settings = Settings(words)
     output = _output(words, settings)
     with suppress(KeyboardInterrupt):
@@ -251,10 +269,10 @@ def _follow(words: argparse.Namespace) -> int:
 
 def _refuse_useless(words: argparse.Namespace) -> None:
     """Refuses options that would do nothing with these paths."""
-    if not any(map(is_server, words.paths)):
+    if not any(map(is_at_server, words.paths)):
         for name in _OF_SERVERS:
             if getattr(words, name) is not None:
-                raise NoServer(f'--{name} wants a server')
+                raise PicklestepError(f'--{name} wants a server')
     if words.null and '-' not in words.paths:
         raise NoNames('--null wants -, which stands for names on standard input')
 
@@ -308,6 +326,6 @@ def main(words: Optional[List[str]] = None) -> int:
     except OSError as error:
         why = error.strerror or str(error)
         print(f'picklestep: {why if error.filename is None else f"cannot open {shown(str(error.filename))}: {why}"}', file=sys.stderr)
-    except (PicklestepError, NoCluster, NoNames, NoServer, UnicodeDecodeError) as error:
+    except (PicklestepError, UnicodeDecodeError) as error:
         print(f'picklestep: {error}', file=sys.stderr)
     return 2

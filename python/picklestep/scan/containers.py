@@ -18,14 +18,15 @@ from .canonical import streams
 from .canonical.streams import Stream
 from .packed import LZ4_MODULES, ZSTD_MODULES, module_of
 from .results import Place
-from .tars import BLOCK, looks_like_header
+from .tar_headers import BLOCK, looks_like_header
+from ..patterns import pattern
 from ..unread import SURE
 
 if TYPE_CHECKING:
     from .looking import Looker
 
 __all__ = ['CONTAINERS', 'Container', 'HDF5', 'Held', 'LOADERS', 'MAY_BE_KNOWN', 'MAY_BE_PACKED', 'MAY_BE_STORE', 'PACKED', 'STORES', 'ZIP',
-           'ZLIB', 'kind_by_sign', 'kind_of', 'named', 'store_of']
+           'ZIP_TAIL', 'ZLIB', 'kind_by_sign', 'kind_of', 'named', 'store_of']
 
 
 # The loaders that `check` is told of. The first opens no container.
@@ -65,6 +66,7 @@ class Container:
     begun: bytes = b''
     # What looks for it at the end of something else, where readers do.
     opener_at_end: str = ''
+    may_be_at_end: Optional[Callable[[Blob], bool]] = None
     # Whether its values are looked at as pickles where it is a value itself: a loader of pickles reads it.
     is_pickles: bool = False
     # What unpacks it, where that is no part of Python: where none of these modules is installed it is one of those that are noted.
@@ -97,6 +99,8 @@ class Container:
 
     def look_at_end(self, looker: 'Looker', held: 'Held', head: bytes) -> bool:
         """Looks for one at the end of bytes that are something else. False where there is none."""
+        if self.may_be_at_end is not None and not self.may_be_at_end(held.blob):
+            return False
         is_there: bool = _function(self.opener_at_end)(looker, held, head)
         return is_there
 
@@ -128,6 +132,15 @@ _ZLIB_METHOD = 8
 
 def _is_zip(head: bytes) -> bool:
     return head[:4] in (b'PK\x03\x04', b'PK\x05\x06', b'PK\x06\x06', b'PK\x01\x02', b'PK\x07\x08')
+
+
+# How the record begins that closes a zip archive, and in so many bytes at the end readers look for it: zipfile in 65,558, miniz (torch) by steps of 4 kB
+# in up to 69,580.
+_ZIP_END, ZIP_TAIL = b'PK\x05\x06', 22 + 65_536 + 8_192
+
+
+def _may_end_as_zip(blob: Blob) -> bool:
+    return _ZIP_END in blob.read(max(0, blob.size - ZIP_TAIL), ZIP_TAIL)
 
 
 def _is_bz2(head: bytes) -> bool:
@@ -163,7 +176,7 @@ def _is_django_cache(head: bytes) -> bool:
 
 ZIP = Container(
     'zip', 'opening.zips:look_into', 'torch, zipfile, Info-ZIP and 7-Zip write', b'PK', known_by=_is_zip, endings=('zip', 'npz', 'whl', 'keras'),
-    opener_at_end='opening.zips:look_at_end', loaders=('torch', 'numpy', 'pandas'))
+    opener_at_end='opening.zips:look_at_end', may_be_at_end=_may_end_as_zip, loaders=('torch', 'numpy', 'pandas'))
 ZLIB = Container('zlib', 'opening.packed:look_into', 'zlib.compress writes', sign=rb'[\x08\x18(8HXhx]', known_by=_is_zlib,
                  other_endings=('z', 'zlib'), stream=streams.ZLIB, loaders=('joblib',))
 HDF5 = Container('hdf5', 'stores.hdf5:look_into', magic=b'\x89HDF\r\n\x1a\n', sign=rb'(?:.{512}|.{1024}|.{2048}|.{4096}|.{8192})?\x89HDF\r\n\x1a\n')
@@ -208,11 +221,11 @@ PACKED = tuple(each for each in CONTAINERS if each.stream is not None)
 _WITH_SIGN = tuple(each for each in CONTAINERS if each.pattern)
 _WITHOUT_SIGN = tuple(each for each in _WITH_SIGN if each.may_have_no_sign)
 # Containers that are opened, in bytes that are too few for the sum in the header of a tar archive; and with those that are not.
-_MAY_BE_OPENED = re.compile(b'|'.join(each.pattern for each in _WITH_SIGN), re.DOTALL)
-MAY_BE_KNOWN = re.compile(_MAY_BE_OPENED.pattern + b'|' + SURE, re.DOTALL)
+_MAY_BE_OPENED = pattern(b'|'.join(each.pattern for each in _WITH_SIGN), re.DOTALL)
+MAY_BE_KNOWN = pattern(_MAY_BE_OPENED.pattern + b'|' + SURE, re.DOTALL)
 # (all but zlib, which has two first bytes of which the sum is to fit)
-MAY_BE_PACKED = re.compile(b'|'.join(each.pattern for each in _WITH_SIGN if each is not ZLIB) + b'|' + SURE, re.DOTALL)
-MAY_BE_STORE = re.compile(b'|'.join(each.pattern for each in STORES if not each.is_pickles), re.DOTALL)
+MAY_BE_PACKED = pattern(b'|'.join(each.pattern for each in _WITH_SIGN if each is not ZLIB) + b'|' + SURE, re.DOTALL)
+MAY_BE_STORE = pattern(b'|'.join(each.pattern for each in STORES if not each.is_pickles), re.DOTALL)
 # (A pickle and a few bytes: to ask what knows it is faster than its sign.)
 _IN_PICKLES = tuple(each for each in STORES if each.is_pickles)
 

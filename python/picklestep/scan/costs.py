@@ -11,6 +11,7 @@ from __future__ import annotations
 import re
 from typing import Iterable, NamedTuple, Optional
 
+from ..patterns import pattern
 from .blobs import Blob, Budget
 
 __all__ = ['MOST_OF_MADE', 'MOST_OF_TUPLES', 'MOST_STEPS', 'Cost', 'cost_of_tuples', 'many_layers']
@@ -20,7 +21,7 @@ __all__ = ['MOST_OF_MADE', 'MOST_OF_TUPLES', 'MOST_STEPS', 'Cost', 'cost_of_tupl
 MOST_STEPS = 100_000_000
 _GETS = (b'h', b'j', b'g')
 _MOST_GETS = 27
-_PUT = re.compile(rb'[\x85\x86\x87tR\x81\x92o\n](?:\x94|q|r...\0|p[0-9])', re.DOTALL)
+_PUT = pattern(rb'[\x85\x86\x87tR\x81\x92o\n](?:\x94|q|r...\0|p[0-9])', re.DOTALL)
 _OF_PUT = 6
 # CPython hashes 140,000 tuples in one another by as many calls in C, and a thread may have little room for these.
 MOST_OF_TUPLES = 100

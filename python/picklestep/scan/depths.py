@@ -2,9 +2,8 @@
 
 from __future__ import annotations
 
-import re
 from contextlib import closing
-from typing import Iterable, Iterator, List, Optional, Set, Tuple
+from typing import Generator, Iterable, Iterator, List, Optional, Sequence, Set
 
 from .. import library
 from ..errors import PicklestepError
@@ -16,11 +15,10 @@ from .hash_steps import HashSteps
 
 __all__ = ['cost_in_objects', 'layers_in_objects']
 
-# The key of the state of torch's recurrent networks that says how many layers one has. A number behind it that is not small has a second part.
+# The key of the state of torch's recurrent networks that says how many layers one has, as it stands in a line of JSON.
 _MOST_LAYERS = 9_999
-_LAYERS = re.compile(rb"^#([0-9]+) .*'num_layers'", re.MULTILINE)
-_NUMBER = re.compile(rb'^#([0-9]+) (?:int|long)[a-z-]* (?:-.*|[0-9]{1,4}$|(.*))', re.MULTILINE)
-_VALUE = re.compile(rb'\[#([0-9]+)\]=#([0-9]+)')
+_LAYERS = ':"num_layers"'
+_NUMBERS = ('int"', 'int-line"', 'long-line"')
 
 
 def cost_in_objects(blob: Blob, budget: Budget, may_be_nested: bool) -> Optional[Cost]:
@@ -56,28 +54,45 @@ def _cost_of_made(blob: Blob, budget: Budget) -> Optional[Cost]:
 
 def layers_in_objects(blob: Blob, budget: Budget) -> Optional[str]:
     """What is to be said of a pickle that has a network of very many layers."""
-    keys: Set[bytes] = set()
-    large: Set[bytes] = set()
-    pairs: List[Tuple[bytes, bytes]] = []
+    from ..held import KEY, holders_of, short_tails  # (few pickles have such networks)
+    layers: Set[int] = set()
+    large: Set[int] = set()
+    pairs: List[Sequence[int]] = []
+    first = 0
     try:
-        for lines in _objects(blob, budget):
-            keys.update(_LAYERS.findall(lines))
-            large.update(number for number, rest in _NUMBER.findall(lines) if rest)
-            pairs.extend(_VALUE.findall(lines))
+        with closing(_answer(['objects', '--json', '--many'], blob, budget)) as blocks:
+            for tails in short_tails(blocks):
+                layers.update([number for number, tail in enumerate(tails, first) if _LAYERS in tail])
+                large.update([number for number, tail in enumerate(tails, first) if tail.startswith(_NUMBERS) and _is_large(tail)])
+                pairs.extend([put[at:at + 2] for _, _, _, signs, put in holders_of(first, tails) for at, sign in enumerate(signs) if sign == KEY[0]])
+                first += len(tails)
     except PicklestepError:
         return 'how many layers a network in it has is not known'
-    if any(key in keys and value in large for key, value in pairs):
+    if any(key in layers and value in large for key, value in pairs):
         return f'a network in it has more than {_MOST_LAYERS:,} layers: who loads it waits for them'
     return None
 
 
+def _is_large(tail: str) -> bool:
+    """Whether the number in the second part of a line may be too many layers. (One that stands in a line of the pickle is not read.)"""
+    from ..held import fields_of_tails
+    fields = fields_of_tails([tail])[0]
+    number = fields.get('argument', fields.get('argument_digits', ''))
+    return bool(number > _MOST_LAYERS if isinstance(number, int) else fields['is'] != 'int' or not number.startswith('-'))
+
+
 def _objects(blob: Blob, budget: Budget) -> Iterator[bytes]:
-    """What the program says of each object, in pieces of whole lines with one before them."""
-    words = ['objects', '--many']
+    """What the program says of each object, in pieces of whole lines with one before them. (As lines of JSON it takes longer than all else.)"""
+    with closing(_answer(['objects', '--many'], blob, budget)) as pieces:
+        yield from _whole(pieces)
+
+
+def _answer(words: List[str], blob: Blob, budget: Budget) -> Generator[bytes, None, None]:
+    """What the program says with these words, in pieces."""
     content = content_of(blob)
     text = None if content is None else library.answer(words, content, budget.memory())
     if text is not None:
-        yield b'\n' + text
+        yield text
         return
     path = blob.path() if isinstance(blob, FileBlob) else None
     copy = spooled(blob.chunks()) if path is None else None
@@ -85,7 +100,7 @@ def _objects(blob: Blob, budget: Budget) -> Iterator[bytes]:
         process = Process([*words, path or ('' if copy is None else copy.path())], memory=budget.memory())
         process.limit_seconds(budget.seconds)
         with closing(process.blocks(time_to_wait(budget.seconds))) as pieces:
-            yield from _whole(pieces)
+            yield from pieces
     finally:
         if copy is not None:
             copy.file.close()

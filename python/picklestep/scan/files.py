@@ -8,6 +8,7 @@ import sys
 from importlib import import_module
 from typing import BinaryIO, Iterable, Iterator, List
 
+from ..errors import PicklestepError
 from ..sources import is_opened
 from .looking import is_url, left_out
 from .results import Note, Result
@@ -15,7 +16,7 @@ from .results import Note, Result
 __all__ = ['Found', 'NoNames', 'find_files', 'read_names']
 
 
-class NoNames(Exception):
+class NoNames(PicklestepError):
     """Standard input has no names of files, each up to a newline; or it cannot be read, or is not among the paths."""
 
 

@@ -4,13 +4,13 @@ from __future__ import annotations
 
 import hashlib
 import json
-import re
 
+from ..patterns import pattern
 from .looks import Look
 
 __all__ = ['fingerprint']
 
-_NUMBER = re.compile(r'[0-9]+')
+_NUMBER = pattern(r'[0-9]+')
 
 
 def fingerprint(look: Look) -> str:

@@ -3,12 +3,12 @@
 from __future__ import annotations
 
 import os
+from dataclasses import replace
 from typing import Iterable, Optional
 
-from ..addresses import opened_in
-from ..opens import is_archive
+from ..addresses import gated
 from ..program import check_timeout
-from ..records import GateAnswer
+from ..short_records import GateAnswer
 from ..sources import Source, content_of
 from .allow import names_of
 from .entries import asked, text_of
@@ -18,8 +18,10 @@ __all__ = ['gate']
 
 def gate(source: Source, *, allow: Iterable[str] = (), names: Iterable[str] = (), timeout: Optional[float] = None,
          memory: Optional[int] = None) -> GateAnswer:
-    r"""Whether a source is one pickle that does nothing but what lists allow, or a zip archive each member of which is one, or gives nothing to
-    a loader. The answer is true where it passes.
+    r"""Whether a source is one pickle that does nothing but what lists allow; an array of numbers, or of objects with such a pickle; one of these
+    that gzip or zlib packed; or a zip archive each member of which is such a pickle, or gives nothing to a loader. The answer is true where it passes.
+    At an address, and in a container of another kind, a pickle is opened first, by the readers of `scan`, which are tested and not proved: what is said
+    is said of that pickle alone, and `address` of the answer says which it is.
 
     `allow` has sets and files as `scan --allow` takes them, and `names` names and patterns; without both no import is allowed. `timeout` and
     `memory` are as for `calls`. Who loads a file loads the bytes that passed, and not the file again: it may change.
@@ -44,7 +46,7 @@ def gate(source: Source, *, allow: Iterable[str] = (), names: Iterable[str] = ()
     """
     words, lines = ([given] if isinstance(given, str) else list(given) for given in (allow, names))
     entries = text_of(names_of(words, lines).entries())
-    is_whole = isinstance(source, (str, os.PathLike)) and is_archive(os.fsdecode(source))  # (the program looks at an archive itself)
-    opened = None if is_whole else opened_in(source)
     check_timeout(timeout)
-    return asked(entries, content_of(source) if opened is None else opened.content, timeout, memory)
+    found = gated(os.fsdecode(source)) if isinstance(source, (str, os.PathLike)) else None
+    answer = asked(entries, content_of(source) if found is None else found.content, timeout, memory)
+    return answer if found is None else replace(answer, address=found.address)

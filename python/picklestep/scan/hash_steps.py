@@ -6,21 +6,21 @@ in a list, a dictionary or a set among these, and of what is put into it. What a
 
 from __future__ import annotations
 
-import re
 from array import array
 from typing import List, Optional, Set
 
+from ..patterns import pattern
 from .costs import MOST_OF_TUPLES, MOST_STEPS
 
 __all__ = ['HashSteps']
 
 # In lines of objects: what holds others, and what calls are of imports.
-_HOLDER = re.compile(rb'\n#([0-9]+) (tuple|list|dict|set|frozenset|call|new|new-ex|obj|inst) ([^\n]*#[^\n]*)')
-_PART = re.compile(rb'[^#\n]*#([0-9]+)')
-_KEY = re.compile(rb'[\[&]#([0-9]+)')
-_IMPORT = re.compile(rb'\n#([0-9]+) stack-global \(#[0-9]+ #([0-9]+)\)')
+_HOLDER = pattern(rb'\n#([0-9]+) (tuple|list|dict|set|frozenset|call|new|new-ex|obj|inst) ([^\n]*#[^\n]*)')
+_PART = pattern(rb'[^#\n]*#([0-9]+)')
+_KEY = pattern(rb'[\[&]#([0-9]+)')
+_IMPORT = pattern(rb'\n#([0-9]+) stack-global \(#[0-9]+ #([0-9]+)\)')
 # What hashes what it is given: the end of a line that names it, or what stands before the arguments there.
-_HASHER = re.compile(rb"'(?:set|frozenset|dict|OrderedDict|Counter|defaultdict)'(?=\n| \()")
+_HASHER = pattern(rb"'(?:set|frozenset|dict|OrderedDict|Counter|defaultdict)'(?=\n| \()")
 _CONTAINERS = (b'list', b'dict', b'set')
 # A large pickle has as many steps by itself: so many for each of its objects are nothing to mark.
 _STEPS_OF_EACH = 100
@@ -85,7 +85,7 @@ class HashSteps:
 
     def _take_tuple(self, number: int, rest: bytes) -> None:
         steps, depths, starts = self._steps, self._depths, self._starts
-        parts = [int(part) for part in rest[2:-1].split(b' #')]
+        parts = [int(part) for part in rest[2:rest.index(b')')].split(b' #')]
         inner = [part for part in parts if steps[part]]
         count, depth = 1 + len(parts), 1
         if inner:

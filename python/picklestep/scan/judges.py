@@ -2,13 +2,29 @@
 
 from __future__ import annotations
 
-from typing import Iterator, List, Tuple, Union
+from typing import Iterator, List, NamedTuple, Tuple, Union
 
+from .allow import read_names
 from .looks import Judge, Look
 from .names import Names
 from .results import Result
 
-__all__ = ['Judges', 'judges_of']
+__all__ = ['Given', 'Judges', 'judges_of']
+
+
+class Given(NamedTuple):
+    """What the command line says beside the policy: lists that it allows and denies, whether known names are marked, baselines,
+    and the baseline that is to be written."""
+
+    allow: Tuple[str, ...] = ()
+    deny: Tuple[str, ...] = ()
+    with_known: bool = True
+    baselines: Tuple[str, ...] = ()
+    to_write: str = ''
+
+    def judge(self) -> Judge:
+        """The judge without a policy."""
+        return Judge(read_names(self.allow) if self.allow else None, read_names(self.deny, with_needed=False), self.with_known)
 
 
 class Judges:

@@ -2,8 +2,8 @@
 
 from __future__ import annotations
 
+import os
 from functools import lru_cache
-from pathlib import Path
 
 from .names import Names
 
@@ -17,4 +17,5 @@ def known_names() -> Names:
     >>> known_names().note('os.system')
     'runs a shell command'
     """
-    return Names((Path(__file__).resolve().parent / 'known.txt').read_text(encoding='utf-8').splitlines(), is_checked=True)
+    with open(os.path.join(os.path.dirname(os.path.realpath(__file__)), 'known.txt'), encoding='utf-8') as lines:
+        return Names(lines.read().splitlines(), is_checked=True)

@@ -2,10 +2,9 @@
 
 from __future__ import annotations
 
-import re
 
 from .. import library
-from ..program import run_program
+from ..patterns import pattern
 from ..verdicts import reach_answer
 from .blobs import spooled
 from .canonical.standard import STANDARD_MODULES
@@ -13,7 +12,7 @@ from .canonical.standard import STANDARD_MODULES
 __all__ = ['is_begun_alone', 'is_dotted', 'is_text', 'may_be_begun', 'may_be_imported']
 
 # Control characters that are in no text.
-_NOT_IN_TEXTS = re.compile(rb'[\0-\x08\x0e-\x1a\x1c-\x1f\x7f]')
+_NOT_IN_TEXTS = pattern(rb'[\0-\x08\x0e-\x1a\x1c-\x1f\x7f]')
 
 
 def is_dotted(text: bytes) -> bool:
@@ -77,6 +76,7 @@ def may_be_imported(module: bytes, name: bytes) -> bool:
 
 
 def _of_program(content: bytes) -> bytes:
+    from ..program import run_program
     copy = spooled([content])
     with copy.file:
         return run_program(['reach', '--json', copy.path()])

@@ -7,9 +7,7 @@ what opens them in `opening` and `stores`.
 
 from __future__ import annotations
 
-import hashlib
 import os
-import re
 import stat
 import struct
 import zlib
@@ -20,19 +18,20 @@ from functools import reduce
 from importlib import import_module
 from io import FileIO
 from operator import or_
-from typing import Any, BinaryIO, Callable, Iterator, List, Optional, Sequence, Tuple, Union, cast
+from typing import TYPE_CHECKING, Any, BinaryIO, Callable, Iterator, List, Optional, Sequence, Tuple, Union, cast
 
 from ..errors import PicklestepError
-from ..hints import IN_FRAMES
+from ..hints import IN_FRAMES, OLD_TORCH
+from ..patterns import pattern
 from ..sources import LIMIT, is_opened
-from . import stores, zips
+from . import stores
 from .begins import HEAD, is_pickle_name, is_storage_name
 from .blobs import CHUNK, Blob, Budget, BytesBlob, FileBlob, JoinedBlob, LimitMet, Limits, OpenedBlob, PartMet, spooled
-from .canonical import Form, NotCanonical, NotKnown, torch
+from .canonical import Form, NotCanonical, NotKnown
 from .canonical.forms import WRITERS
 from .canonical.kinds import asked_form, begun_form, kinds_of
 from .canonical.layouts import Layout, layout_of
-from .containers import CONTAINERS, Container, Held
+from .containers import CONTAINERS, ZIP_TAIL, Container, Held
 from .costs import cost_of_tuples, many_layers
 from .names import Names
 from .other_forms import ending, forms_of
@@ -45,11 +44,14 @@ from .results import UNKNOWN, Note, Pickle, Place, Result, Verdict
 from ..unread import kind_by_end
 from .zarr import has_pickles
 
-__all__ = ['OF_ARRAYS', 'Looker', 'Options', 'Reads', 'Unpacked', 'is_unchanged', 'look', 'look_at_bytes', 'look_by']
+if TYPE_CHECKING:
+    from .stores.server import Task
 
-_URL = re.compile(r'[A-Za-z][A-Za-z0-9+.-]*(::|://)')
+__all__ = ['OF_ARRAYS', 'Looker', 'Options', 'Reads', 'Unpacked', 'is_unchanged', 'look', 'look_at_bytes', 'look_by', 'work_on']
+
+_URL = pattern(r'[A-Za-z][A-Za-z0-9+.-]*(::|://)')
 # The bytes by which a member is known to be a container: its first ones, and where the record is that closes a zip archive.
-_GLANCE = HEAD + zips.TAIL
+_GLANCE = HEAD + ZIP_TAIL
 # Kinds that readers find at the end of something else.
 _AT_END = tuple(each for each in CONTAINERS if each.opener_at_end)
 # Of a pickle that is too large for the program, this much is looked at.
@@ -276,7 +278,7 @@ class Looker:
             with self.budget.half():
                 layout = reads(blob, self.budget)
         except NotCanonical as reason:
-            kind = 'torch-legacy' if torch.MAGIC in blob.read(0, 32) else 'pickle'
+            kind = 'torch-legacy' if OLD_TORCH in blob.read(0, 32) else 'pickle'
             is_known = not isinstance(reason, NotKnown)
             return None, Note(where, f'not in the form that {WRITERS[kind]}: {reason}', missed=not is_known, odd=is_known)
         except PartMet as limit:
@@ -437,8 +439,8 @@ class Looker:
         """Whether the record that ends a zip archive may be near the end, or it ends as another container."""
         tail = b''.join(begin)
         for piece in pieces:
-            tail = (tail + piece)[-zips.TAIL:]
-        return b'PK\x05\x06' in tail[-zips.TAIL:] or kind_by_end(tail) is not None
+            tail = (tail + piece)[-ZIP_TAIL:]
+        return b'PK\x05\x06' in tail[-ZIP_TAIL:] or kind_by_end(tail) is not None
 
 
 class Unpacked:
@@ -513,6 +515,7 @@ def _look_at_file(looker: Looker, path: str) -> Result:
 
 
 def _digest(file: FileIO) -> str:
+    import hashlib  # (most runs want no digests)
     file.seek(0)
     digest = hashlib.sha256()
     for piece in iter(lambda: file.read(CHUNK), b''):
@@ -522,6 +525,7 @@ def _digest(file: FileIO) -> str:
 
 def _digest_beside(path: str) -> str:
     """The digest of what is beside a file and read with it. It is empty where nothing is."""
+    import hashlib
     digests = []
     for each in stores.paths_beside(path):
         with suppress(OSError), FileIO(os.open(each, _FLAGS), 'rb') as file:
@@ -604,6 +608,11 @@ def _gone_through(looker: Looker, blob: Blob, path: str, modified: int = 0, chan
 def look(path: Union[str, 'os.PathLike[str]'], options: Options = Options()) -> Result:
     """All that is found in a file. Whatever is wrong with it becomes part of the result."""
     return look_by(Looker(options), os.fspath(path))
+
+
+def work_on(task: Union[str, Task], options: Options) -> Result:
+    """What a task answers: the path of a file, or keys of a server."""
+    return look(task, options) if isinstance(task, str) else task.look(options)
 
 
 def look_by(looker: Looker, path: str) -> Result:

@@ -129,6 +129,9 @@ def calls_of(pickle: Pickle, name: str) -> List[Call]:
     return [done for done in pickle.calls if done.name == name]
 
 
+_NONE = Names(())
+
+
 @lru_cache(maxsize=None)
 def _known_anywhere() -> Names:
     """The known names that are reached through whatever stands before them."""
@@ -150,11 +153,18 @@ class Judge:
                  least: 'Optional[Judge]' = None) -> None:
         self.allowed = allowed
         self._denied = denied or Names(())
-        self._known = known_names() if with_known else Names(())
-        self._through = _known_anywhere() if with_known else Names(())
         self._with_known = with_known
         self._least = least
         self._marks: Dict[Tuple[str, str, bool], Optional[Tuple[str, str]]] = {}
+
+    @property
+    def _known(self) -> Names:
+        """The known names, which are read where there is a name to be judged."""
+        return known_names() if self._with_known else _NONE
+
+    @property
+    def _through(self) -> Names:
+        return _known_anywhere() if self._with_known else _NONE
 
     def lists(self) -> Tuple[Names, ...]:
         """The lists by which the gate is to be asked."""

@@ -2,17 +2,17 @@
 
 from __future__ import annotations
 
-import re
 from array import array
 from typing import Dict, List, Set, Tuple
 
+from ..patterns import pattern
 from .blobs import Budget
 
 __all__ = ['Made']
 
 # In lines of objects: what each holds, and which of it is a state.
-_HOLDER = re.compile(rb'\n#([0-9]+) (tuple|list|dict|set|frozenset|call|new|new-ex|obj|inst) ([^\n]*#[^\n]*)')
-_HELD = re.compile(rb'(!?)#([0-9]+)')
+_HOLDER = pattern(rb'\n#([0-9]+) (tuple|list|dict|set|frozenset|call|new|new-ex|obj|inst) ([^\n]*#[^\n]*)')
+_HELD = pattern(rb'(!?)#([0-9]+)')
 _ONLY_HOLD = (b'tuple', b'list', b'dict', b'set', b'frozenset')
 
 

@@ -6,13 +6,12 @@ for in a list where that is not asked: names that are known or denied, and which
 
 from __future__ import annotations
 
-import difflib
-import hashlib
 import re
-from dataclasses import dataclass
-from typing import Dict, FrozenSet, Iterable, List, Optional, Pattern, Sequence, Set, Tuple
+from functools import lru_cache
+from typing import Dict, FrozenSet, Iterable, List, NamedTuple, Optional, Pattern, Sequence, Set, Tuple
 
 from ..errors import PicklestepError
+from ..patterns import pattern
 from ..wording import shown
 from .entries import refused_line
 
@@ -27,8 +26,7 @@ class NoList(PicklestepError, ValueError):
         self.index = index
 
 
-@dataclass(frozen=True)
-class Line:
+class Line(NamedTuple):
     """What a line of a list says: a name or pattern, what may be done with what it imports, and a note; or which list it includes.
 
     The words are those behind the colon, each shape as `()`; without a colon all that say what may be done with an import. `entry` is the line as the
@@ -136,6 +134,7 @@ class Names:
     def digest(self) -> str:
         """What the list is known by in results."""
         if not self._digest:
+            import hashlib
             self._digest = hashlib.sha256('\n'.join(sorted(self.entries())).encode('utf-8', 'surrogatepass')).hexdigest()[:16]
         return self._digest
 
@@ -160,13 +159,13 @@ _CALLS = frozenset(('call', 'call()'))
 # What is no import and has a name of its own in the program's gate.
 _NO_IMPORTS = ('persistent', 'buffer')
 # A word behind a colon, and its shape.
-_WORD = re.compile(r'([^\s()]+)(\([^()]*\))?')
+_WORD = pattern(r'([^\s()]+)(\([^()]*\))?')
 # A name that `scan` shows in two parts, since one of them is no plain word: each is in quotes, or is the number of what gives it.
 _PART = r"""(?:(?:raw )?(?:'(?:[^'\\]|\\.)*'|"(?:[^"\\]|\\.)*")|\#[0-9*]+)"""
-_IN_PARTS = re.compile(f'{_PART} {_PART}')
+_IN_PARTS = pattern(f'{_PART} {_PART}')
 _BEGINS_PART = ("'", '"', "raw '", 'raw "')
 # A shape that takes no object where the pickle has made a range. (The program takes it as `held`.)
-_ALONE = re.compile(r'[ (|]alone[ )|]')
+_ALONE = pattern(r'[ (|]alone[ )|]')
 # Words that a message may name where one is wrong.
 _KNOWN_WORDS = (*_OF_LISTS, 'then', 'made', *(f'made-{word}' for word in sorted(_OF_LISTS)), 'text', 'short', 'fraction', 'bytes', 'number', 'small',
                 'bool', 'none', 'held', 'alone', 'listed', 'class', 'any')
@@ -174,7 +173,7 @@ _KNOWN_WORDS = (*_OF_LISTS, 'then', 'made', *(f'made-{word}' for word in sorted(
 _MOST_SHOWN = 80
 # Of so many names it is kept whether a list has them.
 _MOST_FOUND = 100_000
-_STARS = re.compile(r'(\*+)')
+_STARS = pattern(r'(\*+)')
 
 
 def read_all(lines: Sequence[str], is_checked: bool = False) -> List[Optional[Line]]:
@@ -266,6 +265,7 @@ def _read_parts(text: str, index: int) -> Line:
     return Line(name, _words_in(tail) if has_words else _ALL, note)
 
 
+@lru_cache(maxsize=1 << 10)
 def _words_in(tail: str) -> FrozenSet[str]:
     return frozenset(f'{word}()' if shape else word for word, shape in _WORD.findall(tail))
 
@@ -286,6 +286,7 @@ def nearest(word: str, kind: str, words: Iterable[str]) -> str:
     >>> nearest('Nump', 'set', ['numpy', 'torch']), nearest('x', 'set', ['numpy'])
     ('; the nearest set is numpy', '')
     """
+    import difflib
     found = difflib.get_close_matches(word[:_MOST_SHOWN].lower(), list(words), 1)
     return f'; the nearest {kind} is {found[0]}' if found else ''
 

@@ -13,7 +13,7 @@ from .severity import rank
 from .wording import place_of, shown
 
 if TYPE_CHECKING:
-    from .folder import Found
+    from .folders import Found
 
 __all__ = ['html_of', 'html_of_found']
 
@@ -39,7 +39,7 @@ def html_of(result: Result) -> str:
 def html_of_found(found: 'Found') -> str:
     """The worst mark of a file in a line, and behind it a table of all marks.
 
-    >>> from .folder import Found
+    >>> from .folders import Found
     >>> html_of_found(Found(Result('<b>'), ()))
     '<p>&lt;b&gt;: no mark</p>'
     """

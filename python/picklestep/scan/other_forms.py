@@ -2,13 +2,14 @@
 
 from __future__ import annotations
 
-import re
 from collections import Counter
 from typing import Iterable, Tuple
 
+from ..patterns import pattern
+
 __all__ = ['ending', 'forms_of', 'named_forms']
 
-_ENDING = re.compile(r'\.[A-Za-z0-9_+-]{1,12}$')
+_ENDING = pattern(r'\.[A-Za-z0-9_+-]{1,12}$')
 # So many forms of a file are kept by their names, and so many are named.
 _MOST_KEPT, _MOST_NAMED = 50, 6
 

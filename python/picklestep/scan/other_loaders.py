@@ -4,10 +4,10 @@ arrays. The program's `calls` says what they import, and its `reach` where raw b
 
 from __future__ import annotations
 
-import re
 from typing import Optional, Set, Tuple
 
 from ..hints import AT_FRAMES, PAST_END
+from ..patterns import pattern
 from ..records import End
 from .blobs import Blob, Budget, JoinedBlob
 from .canonical.layouts import Layout
@@ -22,7 +22,7 @@ _OTHER_MODULES = {'__builtin__', 'commands', 'popen2', 'numpy', 'torch', 'pandas
                   'setuptools', 'pip', 'pkg_resources', 'six', 'future', 'past', 'ruamel', 'yaml', 'jinja2', 'sympy'}
 
 # A package, and a name within it.
-_WORDS = re.compile(r'[A-Za-z_][A-Za-z0-9_]{1,39}(\.[A-Za-z_][A-Za-z0-9_]{1,39})*')
+_WORDS = pattern(r'[A-Za-z_][A-Za-z0-9_]{1,39}(\.[A-Za-z_][A-Za-z0-9_]{1,39})*')
 
 # So much of raw bytes is looked at first: mostly all loaders end there.
 _FIRST_RAW = 1 << 14

@@ -11,16 +11,14 @@ from functools import partial
 from typing import TYPE_CHECKING, Callable, Dict, List, Optional, Protocol, Sequence, Tuple
 
 from ..errors import PicklestepError
-from ..saving import check_writable, naming, open_text
 from .looking import Options
 from .judges import Judges
 from .looks import Look
-from .policy.baseline import IN_BASELINE, Marks
 from .report import Report
 from .results import Result
-from .table import Table, wants_table
 
 if TYPE_CHECKING:
+    from .policy.baseline import Marks
     from .written import Used
 
 __all__ = ['WRITES', 'Output', 'leave']
@@ -44,17 +42,8 @@ class Output:
     def __init__(self, words: argparse.Namespace, judges: Judges, options: Options, policy: str = '') -> None:
         """Raises PicklestepError where a file that is wanted cannot be written, or is no list to add names to: at the end the work would be
         lost."""
-        for path in (path for option in WRITES for path in _paths(words, option)):
-            with naming(path):
-                check_writable(path)
-        if words.write_allow is not None:
-            from .written import check_list
-            with naming(words.write_allow):
-                check_list(words.write_allow)
-        if sys.stdout.isatty() and not any(getattr(words, name) for name in _IN_LINES) and wants_table(words.paths):
-            self.report: Report = Table(sys.stdout, judges, words.fail_on, words.brief)
-        else:
-            self.report = Report(sys.stdout, judges, words.json, words.brief, words.fail_on)
+        _check([path for option in WRITES for path in _paths(words, option)], words.write_allow)
+        self.report = _report(words, judges)
         self.summary = sys.stderr if words.json else sys.stdout
         # What keeps results, and what writes each file at the end.
         self._collectors: List[_Collector] = []
@@ -81,6 +70,7 @@ class Output:
             for path, maker in reports:
                 self._write_at_end(path, partial(maker, findings, about))
         if words.write_baseline is not None:
+            from .policy.baseline import Marks
             self._marks = Marks()
             self._write_at_end(words.write_baseline, self._marks.text)
         if words.write_allow is not None:
@@ -108,6 +98,7 @@ class Output:
             collector.add(result, in_force)
         self._add_taken(result, [look for look in looks if look.is_taken])
         if self._marks is not None:  # (a new baseline has what an older one takes)
+            from .policy.baseline import IN_BASELINE
             self._marks.add(result, [look for look in looks if not look.is_taken or look.remark == IN_BASELINE])
 
     def end(self, is_whole: bool) -> None:
@@ -124,6 +115,29 @@ class Output:
                 print(line, file=self.summary)
             self.summary.flush()
             sys.stdout.flush()  # (one of the files may be standard output)
+
+
+def _check(paths: Sequence[str], names: Optional[str]) -> None:
+    """Raises PicklestepError where a file cannot be written, or the one that is to have `names` is no list."""
+    if not paths:
+        return
+    from ..saving import check_writable, naming
+    for path in paths:
+        with naming(path):
+            check_writable(path)
+    if names is not None:
+        from .written import check_list
+        with naming(names):
+            check_list(names)
+
+
+def _report(words: argparse.Namespace, judges: Judges) -> Report:
+    """What prints: a table on a terminal, where several files are looked at."""
+    if sys.stdout.isatty() and not any(getattr(words, name) for name in _IN_LINES):
+        from .table import Table, wants_table
+        if wants_table(words.paths):
+            return Table(sys.stdout, judges, words.fail_on, words.brief)
+    return Report(sys.stdout, judges, words.json, words.brief, words.fail_on)
 
 
 def _paths(words: argparse.Namespace, option: str) -> List[str]:
@@ -155,11 +169,13 @@ def leave() -> None:
 
 
 def _write(path: str, text: str) -> None:
+    from ..saving import naming, open_text
     with naming(path), open_text(path) as file:
         file.write(text)
 
 
 def _write_list(path: str, used: 'Used') -> None:
+    from ..saving import naming
     from .written import write_list
     with naming(path):
         write_list(path, used)

@@ -2,11 +2,11 @@
 
 from __future__ import annotations
 
-from typing import Dict, Iterator, List, NamedTuple, Optional, Sequence, Tuple
+from typing import TYPE_CHECKING, Dict, Iterator, List, NamedTuple, Optional, Sequence, Tuple
 
 from .. import library
 from ..reaches import CHANGES, Fields, reach_of
-from ..records import GateAnswer, Global, Name, Reach, Ref
+from ..records import Global, Name, Reach, Ref
 from ..sources import Input
 from .blobs import Blob, Budget, JoinedBlob
 from .canonical.formed import BEHIND, answer_of_program, content_of, require_form
@@ -15,6 +15,9 @@ from .entries import answer_of, text_of
 from .names import Names
 from .reading import Asked, is_plain_name, shown_name
 from .results import OTHER_FORM, Call, Pickle, Verdict
+
+if TYPE_CHECKING:
+    from ..short_records import GateAnswer
 
 __all__ = ['verdicts']
 
@@ -105,12 +108,16 @@ def _offset_in(part: Blob, offset: int) -> int:
 
 
 def _ask(entries: bytes, blob: Blob, budget: Budget) -> GateAnswer:
+    return answer_of(_said(entries, blob, budget), lambda: _said(entries, blob, budget, is_json=False))
+
+
+def _said(entries: bytes, blob: Blob, budget: Budget, *, is_json: bool = True) -> bytes:
     content = content_of(blob)
-    text = None if content is None else library.gate(entries, content, budget.memory())
-    if text is None:
+    said = None if content is None else library.gate(entries, content, budget.memory(), is_json)
+    if said is None:
         with Input(entries) as listed:
-            text = answer_of_program(['gate', listed.path], blob, budget, listed.files)
-    return answer_of(text)
+            said = answer_of_program(['gate', *['--json'] * is_json, listed.path], blob, budget, listed.files)
+    return said
 
 
 def _refused(entries: bytes, at: int, part: Blob, answer: GateAnswer, not_there: Sequence[str], lines: '_Lines', budget: Budget) -> Iterator[GateAnswer]:

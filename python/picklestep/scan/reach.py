@@ -9,13 +9,11 @@ id counts by itself, since images begin with one.
 from __future__ import annotations
 
 from dataclasses import dataclass, field, replace
-from typing import NamedTuple, Optional, Sequence, Tuple
+from typing import TYPE_CHECKING, NamedTuple, Optional, Sequence, Tuple
 
 from .. import library
 from ..errors import OutOfMemory, PicklestepError, ProgramError, TimedOut
-from ..program import run_program, time_to_wait
 from ..question import granted
-from ..records import ReachAnswer
 from ..sources import LIMIT
 from ..verdicts import reach_answer
 from .begins import HEAD
@@ -23,6 +21,9 @@ from .blobs import Blob, Budget, BytesBlob, FileBlob, Limits, PartMet, spooled
 from .like_imports import is_begun_alone, is_text, may_be_imported
 from .reading import Asked, Summary
 from .walk import is_opcode, length_at
+
+if TYPE_CHECKING:
+    from ..short_records import ReachAnswer
 
 __all__ = ['FRAME', 'LIKE_IMPORT', 'Leads', 'Reach', 'leads_in', 'leads_of', 'may_be_opcode', 'may_lead_on', 'reach_behind', 'reach_of']
 
@@ -62,8 +63,7 @@ class Reach:
         return f'{self.what} at {self.offset}'
 
 
-@dataclass(frozen=True)
-class Leads:
+class Leads(NamedTuple):
     """What loaders come to. `stops` says that a pickle ends, and nothing is reached in it. `like` is what is reached where that is a text by its
     looks: it does not count as a pickle."""
 
@@ -120,7 +120,7 @@ def _leads(blob: Blob, budget: Optional[Budget], is_whole: bool) -> Leads:
         return Leads()
     if reach is not None:
         return _confirmed(blob, budget, reach, is_whole)
-    return replace(_of_given(blob, budget, end, is_settled, is_whole), like=like)
+    return _of_given(blob, budget, end, is_settled, is_whole)._replace(like=like)
 
 
 def _of_given(blob: Blob, budget: Optional[Budget], end: int, is_settled: bool, is_whole: bool) -> Leads:
@@ -285,6 +285,7 @@ def _read(text: bytes) -> ReachAnswer:
 def _is_settled(head: bytes, answer: ReachAnswer, size: int) -> bool:
     """Whether what is said of the first bytes is so of all. There are so many.
 
+    >>> from ..short_records import ReachAnswer
     >>> ends = ReachAnswer(False, '', 1)
     >>> _is_settled(b'NX\\5\\0\\0\\0', ends, 99), _is_settled(b'NX\\5\\0\\0\\0', ends, 9)
     (False, True)
@@ -311,6 +312,7 @@ def _of_program(blob: Blob, budget: Optional[Budget], words: Sequence[str]) -> b
 
 
 def _run(path: str, budget: Optional[Budget], words: Sequence[str]) -> bytes:
+    from ..program import run_program, time_to_wait
     try:
         return run_program([*words, path], memory=None if budget is None else budget.memory(),
                            timeout=None if budget is None else time_to_wait(budget.seconds))

@@ -2,29 +2,22 @@
 
 from __future__ import annotations
 
-import re
-import signal
 from contextlib import closing, contextmanager
-from dataclasses import dataclass
 from functools import lru_cache
 from itertools import groupby
-from typing import Any, Callable, Dict, Iterable, Iterator, List, Optional, Sequence, Set, Tuple
+from typing import Any, Callable, Dict, Iterable, Iterator, List, NamedTuple, Optional, Sequence, Set, Tuple
 
 from .. import library
 from ..errors import OutOfMemory, PicklestepError, ProgramError, TimedOut
 from ..hints import OLD_TORCH
 from ..listed import whole_lines
-from ..program import Process, run_program, time_to_wait
+from ..patterns import pattern
 from ..reaches import CHANGES, EVENTS, IMPORTS, Fields, end_of, name_of, plainly_in, said_in, text_of
 from ..records import End, Extension, Global, Name, Ref
-from ..replies import where_of
-from ..texts import with_offset
 from ..verdicts import IN_FORM
 from .blobs import CHUNK, Blob, Budget, FileBlob, Spooled, spooled
-from .canonical.formed import content_of
-from .canonical.items import oddness
+from .canonical.formed import SIGN_OF_ARRAYS, content_of
 from .canonical.methods import names_methods
-from .canonical.joblib import SIGN
 from .item_kinds import ItemKinds
 from .like_imports import is_dotted, is_text, may_be_begun, may_be_imported
 from .results import OF_ARGUMENTS, OF_OFFSETS, ODD, Call, Import, Pickle, Place
@@ -60,12 +53,12 @@ _SHORT = 200
 _MOST_NAMES = 4096
 
 # Names as `shown_name` shows them.
-_PLAIN = re.compile(r"'?[^\W\d]\w*(\.[^\W\d]\w*)*('? #[0-9]+)?")
+_PLAIN = pattern(r"'?[^\W\d]\w*(\.[^\W\d]\w*)*('? #[0-9]+)?")
 # (A folder may be named so, and Python imports from it.)
-_ODD = re.compile(r"'(?=[^']*[^\W\d])[\w.+@-]+' '?[^\W\d]\w*(\.[^\W\d]\w*)*'?")
+_ODD = pattern(r"'(?=[^']*[^\W\d])[\w.+@-]+' '?[^\W\d]\w*(\.[^\W\d]\w*)*'?")
 # A module that is none, and what Python imports of it.
-_BEGUN = re.compile(r"'([\w+@-]+)\.[\w.+@-]*[^\w.+@'-]")
-_WORKED_OUT = re.compile(r'^#| #[0-9]+$|^ext ')
+_BEGUN = pattern(r"'([\w+@-]+)\.[\w.+@-]*[^\w.+@'-]")
+_WORKED_OUT = pattern(r'^#| #[0-9]+$|^ext ')
 
 # Opcodes that import by lines, as texts have them; and one that calls, as none has it behind such lines.
 _OF_LINES, _REDUCE = (b'c', b'i'), b'R'
@@ -135,6 +128,7 @@ class Summary:
         if self._doubtful_call is not None and blob.read(self._doubtful_call, 1) == _REDUCE:
             self.is_sure = True
         if self._kinds.unsure is not None and (self._kinds.of_numpy or self._kinds.makes_texts or names_methods(blob)):
+            from .canonical.items import oddness
             self.oddness = oddness(blob, budget, self._kinds.of_numpy, self._kinds.makes_texts)
 
     @property
@@ -244,6 +238,7 @@ class Summary:
         """Keeps how the strict reading ended."""
         self.end = end_of(self._closing)
         if self._offset_of is not None and self.end.offset is not None:
+            from ..texts import with_offset
             self.end = with_offset(self.end, self._offset_of(self.end.offset))
 
     def _found_by(self, fields: Fields) -> '_Found':
@@ -343,22 +338,17 @@ class Summary:
                       self.end, tuple(self._lines or ()))
 
 
-@dataclass
 class _Found:
     """Lines of one kind about one name, in one part: how many, and the offset and the text of the first."""
 
-    what: str
-    name: str
-    offset: int
-    text: str
-    part: str = ''
-    count: int = 0
-    member: str = ''
-    given: bool = False
+    __slots__ = 'what', 'name', 'offset', 'text', 'part', 'count', 'member', 'given'
+
+    def __init__(self, what: str, name: str, offset: int, text: str, part: str = '', count: int = 0, member: str = '', given: bool = False) -> None:
+        self.what, self.name, self.offset, self.text = what, name, offset, text
+        self.part, self.count, self.member, self.given = part, count, member, given
 
 
-@dataclass(frozen=True)
-class _Known:
+class _Known(NamedTuple):
     """What is known of a name: how it is shown, whether its import shows that the bytes are a pickle, its member where that has a point, and its
     parts. It is impossible where no loader imports something by these, unless it `begins` with a module."""
 
@@ -421,13 +411,13 @@ def calls_words(full: bool) -> List[str]:
 
 
 # The signals by which a system ends a program at its limit of time. (Windows has no such limit.)
-_ENDED = [getattr(signal, name) for name in ('SIGXCPU', 'SIGKILL') if hasattr(signal, name)]
+_ENDED = ('SIGXCPU', 'SIGKILL')
 
 
 def calls_in_form(blob: Blob, budget: Budget) -> Optional[bytes]:
     """What the program says that a small pickle calls, where it is in the form that picklers write and nothing in it can be a joblib array."""
     content = content_of(blob)
-    if content is None or SIGN in content or library.answer(['form', '--json'], content) != IN_FORM or budget.spend() < _LITTLE_TIME:
+    if content is None or SIGN_OF_ARRAYS in content or library.answer(['form', '--json'], content) != IN_FORM or budget.spend() < _LITTLE_TIME:
         return None
     return library.answer(calls_words(False), content, budget.memory())
 
@@ -477,6 +467,8 @@ class Asked:
             from ..answers import Listing  # (hardly a pickle is asked so)
             opcodes = Listing(lines)
             return opcodes[item].offset if item < len(opcodes) else None
+        from ..program import run_program
+        from ..replies import where_of
         try:
             answer = run_program(['debug', self._path(), '--many', '--window', '1'], script=b'goto %d\nwhere\n' % item,
                                  timeout=max(1, budget.seconds), memory=budget.memory())
@@ -497,6 +489,7 @@ class Asked:
             if text is not None:
                 yield text
                 return
+            from ..program import Process, time_to_wait
             process = Process([*words, self._path()], memory=budget.memory())
             process.limit_seconds(budget.seconds)
             yield from process.blocks(time_to_wait(budget.seconds))
@@ -514,6 +507,7 @@ class Asked:
         return self._copy.path()
 
     def _ask_program(self, words: List[str], summary: Summary, budget: Budget) -> None:
+        from ..program import Process, time_to_wait  # (most pickles are asked about in this process)
         may_take = budget.memory()
         with self._troubles_of(summary, budget):
             process = Process([*words, self._path()], memory=may_take if self._blob.size * _MEMORY_OF_A_BYTE > may_take else None)
@@ -535,8 +529,13 @@ class Asked:
             summary.trouble = f'the program took more than {seconds:g} seconds: the rest of it is not looked at'
         except ProgramError as error:
             summary.trouble = f'the program did not read all of it: {error.words}'
-            if error.signal in _ENDED and budget.seconds <= 1:
+            if _is_of_time(error.signal) and budget.seconds <= 1:
                 summary.trouble = f'the program took more than {seconds:g} seconds: the rest of it is not looked at'
+
+
+def _is_of_time(number: Optional[int]) -> bool:
+    import signal
+    return number in [getattr(signal, name) for name in _ENDED if hasattr(signal, name)]
 
 
 def _part(part: object) -> str:

@@ -2,15 +2,14 @@
 
 from __future__ import annotations
 
-import re
-from dataclasses import dataclass
-from typing import Collection, Dict, Iterable, Optional, Tuple
+from typing import Collection, Dict, Iterable, NamedTuple, Optional, Tuple
+
+from ..patterns import pattern
 
 __all__ = ['FAILING', 'STEPS', 'UNREAD', 'Step', 'rank', 'severity_of', 'status_of', 'worst_of']
 
 
-@dataclass(frozen=True)
-class Step:
+class Step(NamedTuple):
     """A step: what it means, and what other tools call it: the level of SARIF, the number that code hosts sort by, GitLab's word."""
 
     name: str
@@ -35,11 +34,11 @@ _OF_RULES: Dict[str, str] = {
     'known': 'high', 'worked-out': 'critical', 'denied': 'high', 'not-allowed': 'medium', 'not-allowed-done': 'medium', 'odd': 'critical',
     'not-read': 'medium', 'unusual-form': 'medium', 'not-looked-at': UNREAD, 'cannot-be-read': UNREAD}
 # What a call does, in the words of known.txt, that is about files, connections and imports alone. All else counts as running code.
-_MILD = re.compile(
+_MILD = pattern(
     r'(?:reads|writes|opens|deletes|moves|empties|closes|copies|locks|maps|connects|fetches|sends|imports|waits|asks|takes as much memory|'
     r'makes (?:a |and changes open |and deletes )?(?:files?|folders?|links|pipes|locks|shared memory)|'
     r'changes (?:files|who|times|open files|(?:how|where) an open file))\b')
-_STRONG = re.compile(r'\b(?:runs?|calls?|loads?|starts?|code|attribute|item)\b')
+_STRONG = pattern(r'\b(?:runs?|calls?|loads?|starts?|code|attribute|item)\b')
 
 
 def severity_of(rule: str, does: Optional[str] = None) -> str:

@@ -9,12 +9,12 @@ import textwrap
 from dataclasses import dataclass, field
 from typing import Dict, List, Optional, Sequence, TextIO, Tuple, Union
 
+from ..opens import is_at_server
 from .judges import Judges
 from .looks import Judge, Look
 from .report import Report
 from .results import Result
 from .severity import FAILING, rank, worst_of
-from .stores.address import is_server
 from .wording import count_of, place_of
 
 __all__ = ['Table', 'wants_table']
@@ -34,7 +34,7 @@ _MOST_LINES, _LEAST_ROOM = 3, 20
 
 def wants_table(paths: Sequence[str]) -> bool:
     """Whether a run over these paths, which a terminal shows, is about several files."""
-    return not any(map(is_server, paths)) and (len(paths) > 1 or paths[0] == '-' or os.path.isdir(paths[0]))
+    return not any(map(is_at_server, paths)) and (len(paths) > 1 or paths[0] == '-' or os.path.isdir(paths[0]))
 
 
 def _has_colours() -> bool:

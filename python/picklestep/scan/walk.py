@@ -6,10 +6,10 @@ knows of the opcodes is what their table has.
 
 from __future__ import annotations
 
-import re
 from typing import List, Optional, Set, Tuple
 
 from ..opcodes import BY_NAME, TABLE, OpcodeInfo
+from ..patterns import pattern
 
 __all__ = ['CHECKSUM', 'MOST', 'Walk', 'is_opcode', 'length_at', 'may_begin', 'stops_at_end', 'walk']
 
@@ -24,7 +24,7 @@ _STOP, _FRAME, _POP = ord('.'), 0x95, ord('0')
 # A line of a checksum in hexadecimal, or of base64: nothing that is imported has such a name.
 CHECKSUM = rb'(?:[0-9a-f]{16,}|[0-9A-F]{16,}|(?=[A-Za-z]*[0-9]+[A-Za-z]+[0-9])(?=[a-z0-9]*[A-Z])(?=[A-Z0-9]*[a-z])[A-Za-z0-9]{20,})\r?\n'
 # The lines of GLOBAL and INST, where the first can be a module.
-_MODULE = re.compile(rb'(?=[^\n]*[A-Za-z_\x80-\xff])[A-Za-z0-9_\x80-\xff][A-Za-z0-9_.+@\x80-\xff-]*\n(?!%b)' % CHECKSUM)
+_MODULE = pattern(rb'(?=[^\n]*[A-Za-z_\x80-\xff])[A-Za-z0-9_\x80-\xff][A-Za-z0-9_.+@\x80-\xff-]*\n(?!%b)' % CHECKSUM)
 
 # So many opcodes are gone over at a place that was only guessed.
 MOST = 20_000

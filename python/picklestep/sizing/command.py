@@ -9,12 +9,12 @@ from dataclasses import asdict
 from pathlib import Path
 from typing import Any, Dict, Iterator, List, Sequence, Tuple
 
-from ..addresses import given, is_in
+from ..addresses import check_out, given
 from ..errors import PicklestepError, reason
 from ..printing import print_text
 from ..saving import is_same_file, naming, written_whole
 from ..waiting import Waiting
-from ..wording import count_of, shown
+from ..wording import count_of
 from .measure import MOST, Measured, measured, sizes_of
 from .records import PathSize, Saving, Sized, Sizes
 from .treemap import svg
@@ -38,12 +38,12 @@ def _rows(text: str) -> int:
 
 def _parser() -> argparse.ArgumentParser:
     parser = argparse.ArgumentParser(
-        prog='picklestep size', description='Prints where the bytes of a pickle go: by opcode, by path, and for what; and what could be saved. '
-        'Nothing of it is run.', epilog='Status: 0 if the pickle was read to its STOP; 1 if reading ended before; 2 if there is no answer.')
+        prog='picklestep size', description='Prints where the bytes of a pickle go: in which opcodes, for what, at which path and in which objects. It also '
+        'says what could be saved. Nothing of it is run.', epilog='Status: 0 if the pickle was read to its STOP; 1 if reading ended early; 2 if there is no answer.')
     parser.add_argument('file', metavar='FILE', help='the pickle, or its address')
     parser.add_argument('--many', action='store_true', help='FILE has several pickles that follow one another')
     parser.add_argument('--unframed', action='store_true', help='ignore the lengths of frames, so that a pickle that was cut off is read to the cut')
-    parser.add_argument('--rows', metavar='N', type=_rows, default=MOST, help=f'print at most so many rows of each table ({MOST})')
+    parser.add_argument('--rows', metavar='N', type=_rows, default=MOST, help=f'print at most N rows of each table ({MOST})')
     parser.add_argument('--json', action='store_true', help='print an object of JSON in each line')
     parser.add_argument('--svg', metavar='OUT', help='also write a drawing: each object has an area as large as its bytes')
     return parser
@@ -58,8 +58,8 @@ def main(arguments: List[str]) -> int:
     try:
         with Waiting():
             pickle, opened = given(options.file)
-            if options.svg is not None and is_in(options.svg, '' if opened is None else opened.path):
-                raise PicklestepError(f'cannot write {shown(options.svg)}: nothing is written into a container')
+            if options.svg is not None:
+                check_out(options.svg, '' if opened is None else opened.path)
             found = measured(pickle, options.many, options.unframed)
             answer = sizes_of(found, options.rows)
         if options.svg is not None:

@@ -2,27 +2,25 @@
 
 from __future__ import annotations
 
-import re
 from array import array
-from typing import Any, Dict, Iterable, Iterator, List, NamedTuple, Sequence, Tuple, Union
+from itertools import accumulate, chain, count, islice
+from typing import Any, Dict, Iterable, Iterator, List, NamedTuple, Sequence, Set, Tuple
 
-from ..python_source.literals import literal
-from ..texts import QUOTED, end_of_texts, kind_in, object_of, unquoted
-from ..values import PLAIN_KINDS
-from ..view.lines import CUT, read_lines
+from ..held import ADDED, APPENDED, KEY, STATE, VALUE, fields_of_tails, head_of, holders_of, short_lines, tails_of
+from ..lines import Lines
+from ..listed import name_in, names_of
+from ..literals import literal
+from ..made import given, results_in
+from ..values import PLAIN_KINDS, kind_value
 
 __all__ = ['Heap', 'NOBODY']
 
-# A line that ends in the number of an object, which is held; and what stands before each number.
-_HOLDS = re.compile(rb'[ (+&!=]#[0-9]+\)?\n')
-_NUMBER, _SIGN = re.compile(rb'#([0-9]+)'), re.compile(rb'([ (+&!=\[])#')
-_KIND = re.compile(rb'#([0-9]+) ([a-z-]+)')
-_READONLY = re.compile(rb'^#([0-9]+) readonly ', re.MULTILINE)
-_RESULT = re.compile(rb'^result #([0-9]+)$', re.MULTILINE)
-# The beginning of a text in quotes, as far as its escapes are whole.
-_BEGUN = re.compile(r"[^']*'(?:[^'\\]|\\x[0-9a-f]{2}|\\[\\'])*")
-_PARTS, _KEY, _VALUE, _STATE, _MEMBER, _ITEM = b' (', ord('['), ord('='), ord('!'), ord('&'), ord('+')
-_GLOBAL = re.compile(rf"^#[0-9]+ global ({QUOTED}) ({QUOTED})".encode('ascii'), re.MULTILINE)
+# The sign of what an object was made of. (`held` has those of what was put in later.)
+_PART = b'('
+# The second parts of lines of objects that hold others, where they say no more than the kind.
+_BARE = {kind: f'{kind}"}}' for kind in ('list', 'tuple', 'dict', 'set', 'frozenset', 'call', 'new', 'new-ex', 'obj', 'stack-global', 'readonly')}
+# How the second part of the line of an import by GLOBAL begins.
+_GLOBAL, _NAME = b'global"', b',"name'
 _MADE_OF = ('list', 'dict', 'tuple')
 _CALLS = ('call', 'new', 'new-ex')
 
@@ -33,8 +31,8 @@ _MOST_LETTERS, _MOST_KEPT = 64, 64
 # A path of more steps is not shown whole.
 _MOST_STEPS = 100
 
-# What an object holds: another object, or a key and a value.
-_Entry = Union[int, Tuple[int, int]]
+# What an object holds: its number, and others, or pairs of a key and a value. The last says which.
+_Entries = Tuple[int, Iterator[Any], bool]
 
 
 class _Held(NamedTuple):
@@ -53,25 +51,24 @@ class Heap:
 
     def __init__(self, blocks: Iterable[bytes], many: bool) -> None:
         self._many = many
-        self.lines = read_lines(blocks)
-        text = self.lines.text
-        last = text.rfind(b'\n#') + 1
-        self._end = text.index(b'\n', last) + 1 if text[last:last + 1] == b'#' else 0
-        self.count = self.lines.number_at(self._end)
         self.results: Dict[int, int] = {}  # (and which pickle has each first)
-        for at, match in enumerate(_RESULT.finditer(text, self._end)):
-            self.results.setdefault(int(match[1]), at)
-        # Where in the text it begins what an object holds, of each that holds something.
-        self._begins: Dict[int, int] = {}
-        self._kinds: Dict[int, str] = {}
-        kinds: Dict[bytes, str] = {}
-        for match in _HOLDS.finditer(text, 0, self._end):
-            start = text.rfind(b'\n', 0, match.start()) + 1
-            kind = _KIND.match(text, start)
-            assert kind is not None
-            number, word = int(kind[1]), kind[2]
-            self._begins[number] = max(end_of_texts(text, start, match.start() + 1), kind.end())
-            self._kinds[number] = kinds.setdefault(word, word.decode('ascii'))
+        # The second parts of the lines, without what objects hold.
+        self._heads = Lines()
+        # Of each object that holds something its kind, and where it begins what it holds; and where that is by its number.
+        self._kinds: List[str] = []
+        self._begins = array('Q', [0])
+        self._is_plain = bytearray()  # (whether it has nothing but items, or pairs)
+        self._holders: Dict[int, int] = {}
+        self._signs = bytearray()
+        self._numbers = array('I')
+        stops = 0
+        for lines in short_lines(blocks):
+            for stops, number in enumerate(results_in(lines), stops + 1):
+                self.results.setdefault(number, stops - 1)
+            tails = tails_of(lines)
+            del lines  # (they may be long)
+            self._take(tails)
+        self.count = len(self._heads)
         self.holders = array('q', [_UNSEEN]) * self.count
         self.order = array('q')
         self.roots: List[int] = []
@@ -79,17 +76,31 @@ class Heap:
         self._roots = array('L', [0]) * self.count
         self._known: Dict[int, _Held] = {}
 
-    def readonly(self) -> 'set[int]':
+    def _take(self, tails: List[str]) -> None:
+        """Takes some objects."""
+        first, found = len(self._heads), [*holders_of(len(self._heads), tails)]
+        signs = [_PART * len(parts) + put_signs for _, _, parts, put_signs, _ in found]
+        self._holders.update(zip([number for number, _, _, _, _ in found], count(len(self._kinds))))
+        self._begins.extend(islice(accumulate(map(len, signs), initial=len(self._signs)), 1, None))
+        self._signs += b''.join(signs)
+        self._numbers.extend(chain.from_iterable([held for _, _, parts, _, put in found for held in (parts, put)]))
+        for number, kind, _, put_signs, _ in found:
+            self._kinds.append(kind)
+            self._is_plain.append(not put_signs.strip(KEY + VALUE) if kind == 'dict' else KEY not in put_signs)
+            tails[number - first] = _BARE.get(kind) or head_of(tails[number - first])
+        if tails:
+            self._heads.add(('\n'.join(tails) + '\n').encode('ascii'))
+
+    def readonly(self) -> Set[int]:
         """The views that can only be read."""
-        if b' readonly ' not in self.lines.text:
-            return set()
-        return {int(match[1]) for match in _READONLY.finditer(self.lines.text, 0, self._end)}
+        return {number for number, at in self._holders.items() if self._kinds[at] == 'readonly'}
 
     # --- What holds what ---
 
     def kind(self, number: int) -> str:
         """The kind of an object, in the word of `objects`."""
-        return self._kinds.get(number) or kind_in(self._head(number))
+        at = self._holders.get(number)
+        return name_in(self._heads.raw(number)) if at is None else self._kinds[at]
 
     def parts(self, number: int) -> int:
         """Of how many objects one was made, or has got since."""
@@ -97,48 +108,45 @@ class Heap:
 
     def counts(self) -> Iterator[Tuple[str, int, int, int]]:
         """Of each object that holds something its kind, and how many items, pairs and members are in it. (What a call is given counts for nothing.)"""
-        text = self.lines.text
-        for number, begin in self._begins.items():
-            end = text.index(b'\n', begin)
-            kind = self.kind(number)
-            changes = text.find(b')', begin, end) + 1 or begin
-            parts = text.count(b'#', begin, changes) if kind in _MADE_OF else 0
+        number_of = self._signs.count
+        for at, kind in enumerate(self._kinds):
+            begin, end = self._begins[at], self._begins[at + 1]
+            parts = number_of(_PART, begin, end) if kind in _MADE_OF else 0
             items, pairs = (0, parts // 2) if kind == 'dict' else (parts, 0)
-            yield kind, items + text.count(b'+#', changes, end), pairs + text.count(b'[#', changes, end), text.count(b'&#', changes, end)
+            yield kind, items + number_of(APPENDED, begin, end), pairs + number_of(KEY, begin, end), number_of(ADDED, begin, end)
 
     def names(self) -> Iterator[Tuple[bytes, bytes]]:
         """The module and the name of each import by GLOBAL."""
-        for match in _GLOBAL.finditer(self.lines.text, 0, self._end):
-            yield unquoted(match[1].decode('ascii')), unquoted(match[2].decode('ascii'))
-
-    def _head(self, number: int) -> str:
-        """The line of an object, up to what it holds."""
-        start, end = self.lines.span(number)
-        return self.lines.text[start:self._begins.get(number, end)].decode('ascii')
+        known: Dict[bytes, Tuple[bytes, bytes]] = {}
+        for head in self._heads.all():
+            if head.startswith(_GLOBAL) and _NAME in head:  # (a module may be so long that there is no more)
+                if head not in known:
+                    known[head] = names_of(fields_of_tails([head.decode('ascii')])[0])
+                yield known[head]
 
     def _held(self, number: int) -> _Held:
+        """What an object holds. (That of a large one is asked for again and again.)"""
         if number not in self._known:
             if len(self._known) >= _MOST_KEPT:
                 self._known.clear()
-            begin = self._begins.get(number)
-            self._known[number] = _Held(b'', array('q')) if begin is None else self._read(begin)
+            self._known[number] = self._read(number)
         return self._known[number]
 
-    def _read(self, begin: int) -> _Held:
-        text = self.lines.text
-        end = text.index(b'\n', begin)
-        return _Held(b''.join(_SIGN.findall(text, begin, end)), array('q', map(int, _NUMBER.findall(text, begin, end))))
+    def _read(self, number: int) -> _Held:
+        at = self._holders.get(number)
+        if at is None:
+            return _Held(b'', array('I'))
+        begin, end = self._begins[at], self._begins[at + 1]
+        return _Held(bytes(self._signs[begin:end]), self._numbers[begin:end])
 
-    def _entries(self, number: int) -> Iterator[_Entry]:
-        signs, numbers = self._read(self._begins[number])
-        is_dict = self.kind(number) == 'dict'
-        others = signs.translate(None, b'[= (' if is_dict else b' (+&!')
-        if not others:
-            each = iter(numbers)
-            if is_dict:
-                return zip(each, each)
-            return each
-        return _paired(signs, numbers, is_dict)
+    def _entries(self, number: int) -> _Entries:
+        at = self._holders[number]
+        begin, end, is_dict = self._begins[at], self._begins[at + 1], self._kinds[at] == 'dict'
+        numbers = self._numbers[begin:end]
+        if not self._is_plain[at]:
+            return number, _paired(bytes(self._signs[begin:end]), numbers, is_dict), True
+        values = iter(numbers)
+        return number, zip(values, values) if is_dict else values, is_dict
 
     def walk(self) -> None:
         """Goes over all objects: those of the results, then what no other holds, then what holds itself."""
@@ -146,56 +154,63 @@ class Heap:
             self._walk_from(number)
         unseen = [number for number, holder in enumerate(self.holders) if holder == _UNSEEN]
         held = bytearray(self.count)
-        text = self.lines.text
         for number in unseen:
-            begin = self._begins.get(number)
-            if begin is not None:
-                for match in _NUMBER.finditer(text, begin, text.index(b'\n', begin)):
-                    held[int(match[1])] = 1
+            if number in self._holders:
+                for part in self._read(number).numbers:
+                    held[part] = 1
         for number in unseen:
             if not held[number]:
                 self._walk_from(number)
         for number in unseen:
             self._walk_from(number)
+        holders, depths, roots = self.holders, self._depths, self._roots
         for number in self.order:
-            holder = self.holders[number]
-            self._depths[number] = self._depths[holder] + 1 if holder >= 0 else 0
-            self._roots[number] = self._roots[holder] if holder >= 0 else number
+            holder = holders[number]
+            if holder >= 0:
+                depths[number], roots[number] = depths[holder] + 1, roots[holder]
+            else:
+                roots[number] = number
 
     def _walk_from(self, root: int) -> None:
-        holders, order, begins = self.holders, self.order, self._begins
+        holders, order, begins = self.holders, self.order, self._holders
         if holders[root] != _UNSEEN:
             return
         holders[root] = NOBODY
         order.append(root)
         self.roots.append(root)
-        stack = [(root, self._entries(root))] if root in begins else []
+        stack = [self._entries(root)] if root in begins else []
         add = order.append
         while stack:
-            owner, entries = stack[-1]
-            for entry in entries:
-                if isinstance(entry, int):
-                    if holders[entry] == _UNSEEN:
-                        holders[entry] = owner
-                        add(entry)
-                        if entry in begins:
-                            stack.append((entry, self._entries(entry)))
+            owner, entries, in_pairs = stack[-1]
+            depth = len(stack)
+            if not in_pairs:
+                for value in entries:
+                    if holders[value] == _UNSEEN:
+                        holders[value] = owner
+                        add(value)
+                        if value in begins:
+                            stack.append(self._entries(value))
                             break
-                elif self._see_pair(owner, *entry, stack):
+                else:
+                    stack.pop()
+                continue
+            for key, value in entries:
+                holder = owner
+                if holders[value] == _UNSEEN:
+                    holders[value] = owner
+                    add(value)
+                    if value in begins:
+                        stack.append(self._entries(value))
+                    holder = value  # (which holds its key)
+                if key >= 0 and holders[key] == _UNSEEN:
+                    holders[key] = holder
+                    add(key)
+                    if key in begins:
+                        stack.append(self._entries(key))
+                if len(stack) > depth:
                     break
             else:
                 stack.pop()
-
-    def _see_pair(self, owner: int, key: int, value: int, stack: List[Tuple[int, Iterator[_Entry]]]) -> bool:
-        """Sees a key and its value. Whether what they hold is to be seen next."""
-        depth = len(stack)
-        for number, holder in ((value, owner), (key, value if self.holders[value] == _UNSEEN else owner)):
-            if self.holders[number] == _UNSEEN:
-                self.holders[number] = holder
-                self.order.append(number)
-                if number in self._begins:
-                    stack.append((number, self._entries(number)))
-        return len(stack) > depth
 
     def totals(self, own: Sequence[int]) -> List[int]:
         """How much each object has of something, with all that it holds first."""
@@ -242,16 +257,16 @@ class Heap:
             at = next((at for at, each in enumerate(numbers) if each == number and not _is_key(kind, signs, at)), at)
         if _is_key(kind, signs, at):
             return f'.keys[{sum(_is_key(kind, signs, before) for before in range(at))}]'
-        sign = signs[at]
-        if sign == _STATE:
-            return '.state' if signs.count(_STATE) == 1 else f'.states[{signs.count(_STATE, 0, at)}]'
-        if sign == _VALUE or kind == 'dict':
+        sign = signs[at:at + 1]
+        if sign == STATE:
+            return '.state' if signs.count(STATE) == 1 else f'.states[{signs.count(STATE, 0, at)}]'
+        if sign == VALUE or kind == 'dict':
             return f'[{self.shown(numbers[at - 1])}]'
-        if sign == _MEMBER or kind in ('set', 'frozenset'):
+        if sign == ADDED or kind in ('set', 'frozenset'):
             return f'{{{self.shown(number)}}}'
-        if sign == _ITEM:
-            parts = len(signs) - len(signs.lstrip(_PARTS)) if kind == 'list' else 0
-            return f'[{parts + signs.count(_ITEM, 0, at)}]'
+        if sign == APPENDED:
+            parts = signs.count(_PART) if kind == 'list' else 0
+            return f'[{parts + signs.count(APPENDED, 0, at)}]'
         return self._step_of_part(kind, at, numbers)
 
     def _step_of_part(self, kind: str, at: int, numbers: Sequence[int]) -> str:
@@ -270,14 +285,11 @@ class Heap:
 
     def shown(self, number: int) -> str:
         """A plain value in a few letters; of another object its number."""
-        line = self._head(number)
-        if self.kind(number) not in PLAIN_KINDS:
+        kind = self.kind(number)
+        if kind not in PLAIN_KINDS:
             return f'#{number}'
-        if len(line) > CUT:  # (its end was left out)
-            begun = _BEGUN.match(line[:CUT])
-            line = line[:CUT] if begun is None else f"{begun[0]}'"
-        made = object_of(line)
-        value: Any = made.text.decode('utf-8', 'ignore') if made.kind == 'text' and isinstance(made.text, bytes) else made.value
+        said = given(fields_of_tails([self._heads.raw(number)])[0])
+        value: Any = said.decode('utf-8', 'ignore') if kind == 'text' and isinstance(said, bytes) else kind_value(kind, said)
         if isinstance(value, (str, bytes, bytearray)):
             return literal(value[:_MOST_LETTERS]) + ('..' if len(value) > _MOST_LETTERS else '')
         text = literal(value)
@@ -285,17 +297,15 @@ class Heap:
 
 
 def _is_key(kind: str, signs: bytes, at: int) -> bool:
-    return signs[at] == _KEY or kind == 'dict' and signs[at] in _PARTS and at % 2 == 0
+    return signs[at:at + 1] == KEY or kind == 'dict' and signs[at:at + 1] == _PART and at % 2 == 0
 
 
-def _paired(signs: bytes, numbers: Sequence[int], is_dict: bool) -> Iterator[_Entry]:
-    """What an object holds that has keys and other things."""
+def _paired(signs: bytes, numbers: Sequence[int], is_dict: bool) -> Iterator[Tuple[int, int]]:
+    """What an object holds that has keys and other things: these have no key."""
     key = NOBODY
-    for at, (sign, number) in enumerate(zip(signs, numbers)):
-        if sign == _KEY or is_dict and sign in _PARTS and at % 2 == 0:
+    for at, number in enumerate(numbers):
+        if _is_key('dict' if is_dict else '', signs, at):
             key = number
-        elif key >= 0:
+        else:
             yield key, number
             key = NOBODY
-        else:
-            yield number

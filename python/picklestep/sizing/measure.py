@@ -9,11 +9,11 @@ from typing import Dict, Iterable, List, Optional, Sequence, Tuple
 
 from ..addresses import opened_in
 from ..errors import ProgramError
+from ..lines import Makers
 from ..opcodes import BY_CODE, TABLE
 from ..program import check_timeout
 from ..sources import Source, is_fifo, rereadable
 from ..tasks import Asked, modes
-from ..view.lines import Makers
 from .heap import Heap
 from .opcodes import TEXTS, Opcodes
 from .records import Again, MemoSize, PathSize, Sized, Sizes
@@ -41,9 +41,9 @@ class Measured:
         self.sizes = opcodes.sizes()
         self.makers = Makers(bytes(opcodes.codes))
         views = heap.readonly()
-        # (A view has one byte, so it is the same which of several opcodes made it.)
-        self.makers.finish(heap.lines, lambda place, number: number in views)
         self._views = len(views)
+        # (A view has one byte, so it is the same which of several opcodes made it.)
+        self.makers.finish(lambda: self._views, lambda place, number: number in views)
         self.own = self.makers.of_makers(self.sizes)
         if len(self.own) != heap.count:
             raise ProgramError('the program gave answers that do not belong together')
@@ -71,7 +71,7 @@ class Measured:
         sums = [0] * 256
         for code, own in zip(self.opcodes.codes, self.sizes):
             sums[code] += own
-        found = [Sized(info.name, self.opcodes.codes.count(code), sums[code]) for code, info in BY_CODE.items() if self.opcodes.codes.count(code)]
+        found = [Sized(info.name, self.opcodes.codes.count(code), sums[code]) for code, info in BY_CODE.items() if sums[code]]
         return _by_size(found)
 
     def overhead(self, opcodes: Iterable[Sized]) -> Tuple[Sized, ...]:
@@ -161,7 +161,7 @@ def measured(pickle: Source, many: bool = False, unframed: bool = False, timeout
     words = modes(many, unframed)
     with Asked(pickle, timeout, memory, is_opened=False) as asked:
         opcodes = Opcodes(asked.blocks(['list', '--json', *words]), asked.size())
-        heap = Heap(asked.blocks(['objects', *words]), many)
+        heap = Heap(asked.blocks(['objects', '--json', *words]), many)
     return Measured(pickle, opcodes, heap)
 
 

@@ -3,11 +3,13 @@
 from __future__ import annotations
 
 from array import array
-from itertools import chain, count, islice
-from typing import Callable, Dict, Iterable, Iterator, List, Optional, Tuple
+from itertools import chain, compress, count, islice
+from operator import itemgetter, sub
+from typing import Any, Callable, Dict, Iterable, Iterator, List, Optional, Sequence, Tuple
 
+from .. import long_lines
 from ..errors import ProgramError
-from ..listed import Fields, batch_of, content_of, end_of, fields_of, fields_of_tails, offsets_in
+from ..listed import Fields, batch_of, content_of, end_of, fields_of, fields_of_tails, name_in, offsets_in
 from ..opcodes import TABLE
 from ..optimizing import SPELLINGS
 from ..records import End
@@ -66,35 +68,7 @@ def shortened(blocks: Iterable[bytes]) -> Iterator[bytes]:
     >>> b''.join(shortened([line[:50], line[50:]]))
     b'{"kind":"opcode","offset":0,"opcode":"BINBYTES","long":10025,"marks":0}\\n'
     """
-    line = _Line()
-    for block in blocks:
-        first, newline, others = block.partition(b'\n')
-        line.feed(first)
-        if not newline:
-            continue
-        yield line.take()
-        end = others.rfind(b'\n') + 1
-        lines = others[:end]
-        if lines:
-            yield b''.join(_each_short(lines)) if _has_long(lines) else lines
-        line.feed(others[end:])
-
-
-def _each_short(lines: bytes) -> Iterator[bytes]:
-    line = _Line()
-    for each in lines[:-1].split(b'\n'):
-        line.feed(each)
-        yield line.take()
-
-
-def _has_long(lines: bytes) -> bool:
-    """Whether one of some lines may be long."""
-    begin = 0
-    while begin + _MOST_LINE < len(lines):
-        begin = lines.rfind(b'\n', begin, begin + _MOST_LINE) + 1
-        if not begin:
-            return True
-    return False
+    return long_lines.shortened(blocks, _Line(), _MOST_LINE)
 
 
 class Opcodes:
@@ -116,6 +90,7 @@ class Opcodes:
         self.long: List[int] = []
         self.proto: Optional[int] = None
         self._texts: Dict[int, int] = {}
+        self._codes = _Known(_code_in)
         self._end: Fields = {}
         for lines in shortened(blocks):
             at = lines.rfind(b'\n', 0, -1) + 1
@@ -125,19 +100,19 @@ class Opcodes:
         if not self._end:
             raise ProgramError('the program gave no whole answer')
         self._texts.clear()
+        self._codes.clear()
         self._finish(size)
 
     def _take(self, lines: str) -> None:
         batch = batch_of(lines)
-        names = [tail[:tail.index('"')] for tail in batch.tails]
         first = len(self.codes)
-        self.codes += bytes(map(_CODES.__getitem__, names))
+        codes = bytes(map(self._codes.__getitem__, map(_BEGIN, batch.tails)))
+        self.codes += codes
         self.offsets.extend(offsets_in(batch.heads))
-        readers = {name: _READERS[name] for name in set(names) if name in _READERS}
-        if readers:
-            for place, name, tail in zip(count(first), names, batch.tails):
-                if name in readers:
-                    readers[name](self, place, tail)
+        for chosen, read in _READERS:
+            selected = codes.translate(chosen)
+            if 1 in selected:
+                read(self, list(compress(count(first), selected)), list(compress(batch.tails, selected)))
 
     def _finish(self, size: int) -> None:
         """Settles where the last opcode ends."""
@@ -148,9 +123,10 @@ class Opcodes:
         if how == 'refused':
             for column in (self.codes, self.offsets):
                 del column[-1:]
-            for columns in (self.keys, self.spelled):
-                if columns[0] and columns[0][-1] == len(self.codes):
-                    del columns[0][-1:], columns[1][-1:]
+            for places, column in (self.keys, self.spelled):
+                if len(self.codes) in places:
+                    at = places.index(len(self.codes))
+                    del places[at], column[at]
         # (What was not read begins where the reading ended.)
         self.read = size - int(self._end.get('kept', 0)) if how == 'stopped' else int(self.end.offset or 0)
         self.unread = size - self.read
@@ -160,61 +136,97 @@ class Opcodes:
 
     def sizes(self) -> List[int]:
         """How many bytes each has."""
-        return [after - at for at, after in zip(self.offsets, chain(islice(self.offsets, 1, None), (self.read,)))]
+        return list(map(sub, chain(islice(self.offsets, 1, None), (self.read,)), self.offsets))
 
-    # --- What arguments say ---
+    # --- What arguments say: the places of some opcodes, and the second parts of their lines ---
 
-    def _proto(self, place: int, tail: str) -> None:
-        if not place:
-            self.proto = _whole(tail)
+    def _proto(self, places: List[int], tails: List[str]) -> None:
+        if not places[0]:
+            self.proto = _whole(tails[0])
 
-    def _stop(self, place: int, tail: str) -> None:
-        self.stops.append(place)
+    def _stop(self, places: List[int], tails: List[str]) -> None:
+        self.stops += places
 
-    def _key(self, place: int, tail: str) -> None:
-        self.keys[0].append(place)
-        self.keys[1].append(_whole(tail))
+    def _key(self, places: List[int], tails: List[str]) -> None:
+        self.keys[0].extend(places)
+        self.keys[1].extend(map(_Known(_key_in).__getitem__, tails))
 
-    def _memo(self, place: int, tail: str) -> None:
-        self.keys[0].append(place)
-        self.keys[1].append(int(tail[tail.rindex(':') + 1:-1].strip('"')))
+    def _text(self, places: List[int], tails: List[str]) -> None:
+        first_of, again = self._texts.setdefault, self.again
+        for place, known in zip(places, map(_Known(_hash_of_text).__getitem__, tails)):
+            if known is None:
+                self.long.append(place)
+                continue
+            first = first_of(known, place)
+            if first != place:
+                again[first] = again.get(first, 1) + 1
 
-    def _text(self, place: int, tail: str) -> None:
-        name, _, argument = tail.partition('",')
-        if argument.startswith(_LONG):
-            self.long.append(place)
-            return
-        known = hash((TEXTS[name], argument[:argument.rindex(',"marks"')]))
-        first = self._texts.setdefault(known, place)
-        if first != place:
-            self.again[first] = self.again.get(first, 1) + 1
+    def _number(self, places: List[int], tails: List[str]) -> None:
+        self._spell(places, map(_Known(_size_of_number_in).__getitem__, tails))
 
-    def _number(self, place: int, tail: str) -> None:
-        self._spell(place, size_of_number(_whole(tail)))
+    def _line(self, places: List[int], tails: List[str]) -> None:
+        """Numbers and texts in lines."""
+        sizes = list(map(_Known(_size_of_line).__getitem__, tails))
+        known = [size is not None for size in sizes]
+        self._spell(compress(places, known), compress(sizes, known))
 
-    def _line(self, place: int, tail: str) -> None:
-        """A number or a text in a line."""
-        if tail.startswith('UNICODE"'):
-            self._text(place, tail)
-        fields = fields_of_tails([tail])[0]
-        if 'long' in fields:
-            return
-        try:
-            value = read_form(fields['opcode'], content_of(fields))
-        except Unreadable:
-            return
-        if isinstance(value, bool):
-            self._spell(place, 1)
-        elif isinstance(value, int):
-            self._spell(place, size_of_number(value))
-        elif isinstance(value, float):
-            self._spell(place, 9)
-        elif isinstance(value, str):
-            self._spell(place, 5 + len(value.encode('utf-8', 'surrogatepass')))
+    def _spell(self, places: Iterable[int], sizes: Iterable[int]) -> None:
+        self.spelled[0].extend(places)
+        self.spelled[1].extend(sizes)
 
-    def _spell(self, place: int, size: int) -> None:
-        self.spelled[0].append(place)
-        self.spelled[1].append(size)
+
+class _Known(Dict[str, Any]):
+    """What is known of the second parts of lines: each is read once."""
+
+    def __init__(self, read: Callable[[str], Any]) -> None:
+        super().__init__()
+        self._read = read
+
+    def __missing__(self, tail: str) -> Any:
+        found = self[tail] = self._read(tail)
+        return found
+
+
+# The beginning of a second part, which has the whole name.
+_BEGIN = itemgetter(slice(max(map(len, _CODES)) + 1))
+
+
+def _code_in(tail: str) -> int:
+    """The code of the opcode."""
+    return _CODES[name_in(tail)]
+
+
+def _key_in(tail: str) -> int:
+    """The key of the memo."""
+    return int(tail[tail.rindex(':') + 1:-1].strip('"')) if tail.startswith('MEMOIZE"') else _whole(tail)
+
+
+def _hash_of_text(tail: str) -> Optional[int]:
+    """What is the same for equal texts of one kind. None of a long one."""
+    name, _, argument = tail.partition('",')
+    return None if argument.startswith(_LONG) else hash((TEXTS[name], argument[:argument.rindex(',"marks"')]))
+
+
+def _size_of_number_in(tail: str) -> int:
+    return size_of_number(_whole(tail))
+
+
+def _size_of_line(tail: str) -> Optional[int]:
+    """How many bytes a number or a text in a line has in its shortest spelling. None where that is not known."""
+    fields = fields_of_tails([tail])[0]
+    if 'long' in fields:
+        return None
+    try:
+        value = read_form(fields['opcode'], content_of(fields))
+    except Unreadable:
+        return None
+    if isinstance(value, bool):
+        return 1
+    if isinstance(value, int):
+        return size_of_number(value)
+    if isinstance(value, float):
+        return 9
+    return 5 + len(value.encode('utf-8', 'surrogatepass')) if isinstance(value, str) else None
 
 
 def size_of_number(value: int) -> int:
@@ -234,7 +246,13 @@ def _whole(tail: str) -> int:
     return int(tail.split(',', 2)[1].partition(':')[2].strip('"'))
 
 
-_READERS: Dict[str, Callable[[Opcodes, int, str], None]] = {
-    **dict.fromkeys(TEXTS, Opcodes._text), **{opcode.name: Opcodes._key for opcode in TABLE if opcode.code in PUTS | GETS}, 'MEMOIZE': Opcodes._memo,
-    'STOP': Opcodes._stop, 'PROTO': Opcodes._proto, **dict.fromkeys(SPELLINGS[0][1:], Opcodes._number),
-    **dict.fromkeys(('INT', 'LONG', 'FLOAT', 'UNICODE'), Opcodes._line)}
+def _table(names: Iterable[str]) -> bytes:
+    """A table that makes 1 of the codes of some opcodes, and 0 of the others."""
+    chosen = {_CODES[name] for name in names}
+    return bytes(code in chosen for code in range(256))
+
+
+_READERS: Sequence[Tuple[bytes, Callable[[Opcodes, List[int], List[str]], None]]] = (
+    (_table(TEXTS), Opcodes._text), (_table(opcode.name for opcode in TABLE if opcode.code in PUTS | GETS), Opcodes._key),
+    (_table(['STOP']), Opcodes._stop), (_table(['PROTO']), Opcodes._proto), (_table(SPELLINGS[0][1:]), Opcodes._number),
+    (_table(('INT', 'LONG', 'FLOAT', 'UNICODE')), Opcodes._line))

@@ -2,6 +2,7 @@
 
 from __future__ import annotations
 
+from itertools import compress
 from typing import Callable, Dict, Iterator, List, NamedTuple, Optional, Sequence
 
 from ..opcodes import BY_CODE, BY_NAME, OpcodeInfo
@@ -15,7 +16,7 @@ __all__ = ['Memo', 'memo_of', 'savings', 'size_before']
 _NEWEST = 5
 _OF_MEMOIZE = _OF_FRAMES = 4
 _FRAME_SIZE, _PROTO_SIZE = 9, 2
-_FRAME = BY_NAME['FRAME'].code
+_FRAME, _BINGET = BY_NAME['FRAME'].code, BY_NAME['BINGET'].code
 # How many bytes stand before a text, by the form of its opcode, and how long it may be.
 _BEFORE = {'bytes1': 2, 'bytes4': 5, 'bytes4_signed': 5, 'bytes8': 9}
 _MOST = {'bytes1': (1 << 8) - 1, 'bytes4': (1 << 32) - 1, 'bytes4_signed': (1 << 31) - 1, 'bytes8': (1 << 64) - 1}
@@ -43,6 +44,18 @@ class Memo(NamedTuple):
 
 def memo_of(opcodes: Opcodes) -> Memo:
     """What becomes of the entries of the memo. Each pickle begins with an empty one."""
+    places, keys = opcodes.keys
+    stores = bytes(map(opcodes.codes.__getitem__, places)).translate(_STORES)
+    put = [*compress(keys, stores)]
+    if len(set(put)) == len(put) and not any(stop < places[-1] for stop in opcodes.stops if places):
+        takes = stores.translate(_OTHERS)
+        asked = set(compress(keys, takes))
+        return Memo([*compress(places, stores)], bytearray(map(asked.__contains__, put)), [*compress(places, takes)], dict(zip(places, keys)), True)
+    return _memo_of_several(opcodes, stores)
+
+
+def _memo_of_several(opcodes: Opcodes, stores: bytes) -> Memo:
+    """The same of several pickles, or of one that stores something else under a key that it has."""
     stored: List[int] = []
     taken: List[int] = []
     is_taken = bytearray()
@@ -50,11 +63,12 @@ def memo_of(opcodes: Opcodes) -> Memo:
     once = True
     stops = iter([*opcodes.stops, len(opcodes)])
     stop = next(stops)
-    for place, key in zip(*opcodes.keys):
+    places, keys = opcodes.keys
+    for place, key, is_stored in zip(places, keys, stores):
         while place > stop:
             stop = next(stops)
             now.clear()
-        if opcodes.codes[place] in PUTS:
+        if is_stored:
             once = once and key not in now
             now[key] = len(stored)
             stored.append(place)
@@ -63,7 +77,10 @@ def memo_of(opcodes: Opcodes) -> Memo:
             taken.append(place)
             if key in now:
                 is_taken[now[key]] = 1
-    return Memo(stored, is_taken, taken, dict(zip(*opcodes.keys)), once)
+    return Memo(stored, is_taken, taken, dict(zip(places, keys)), once)
+
+
+_STORES, _OTHERS = bytes(code in PUTS for code in range(256)), bytes(not code for code in range(256))
 
 
 def savings(opcodes: Opcodes, heap: Heap, sizes: Sequence[int], memo: Memo) -> Iterator[Saving]:
@@ -73,7 +90,8 @@ def savings(opcodes: Opcodes, heap: Heap, sizes: Sequence[int], memo: Memo) -> I
     whole = sum(sizes)
     found = [Saving('optimize', whole - _optimized(opcodes, sizes, memo), 0)]
     found += [Saving(f'protocol {_NEWEST}', whole - _newer(opcodes, heap, sizes, memo), 0, 'about')] if (opcodes.protocol or 0) < _OF_FRAMES else []
-    buffers = [size for code, size in zip(opcodes.codes, sizes) if size >= _LEAST_BUFFER and code in _BUFFERS]
+    has_long = max(sizes) >= _LEAST_BUFFER
+    buffers = [size for code, size in zip(opcodes.codes, sizes) if size >= _LEAST_BUFFER and code in _BUFFERS] if has_long else []
     found.append(Saving('out of band', sum(buffers) - 2 * len(buffers), 0, 'at most'))
     for each in sorted(found, key=lambda saving: -saving.size):
         if each.size > 0:
@@ -134,8 +152,10 @@ def _with_short_memo(opcodes: Opcodes, new: List[int], memo: Memo, protocol: int
         key = keys[memo.keys[place]] = len(keys)
         new[place] = 1 if protocol >= _OF_MEMOIZE or name == 'MEMOIZE' else _size_of_key(name, key, protocol, new[place])
     for place in memo.taken:
-        key = memo.keys[place]
-        new[place] = _size_of_key(BY_CODE[opcodes.codes[place]].name, keys.get(key, key), protocol, new[place])
+        code = opcodes.codes[place]
+        if code != _BINGET:  # (that cannot be shorter)
+            key = memo.keys[place]
+            new[place] = _size_of_key(BY_CODE[code].name, keys.get(key, key), protocol, new[place])
 
 
 def _size_of_key(name: str, key: int, protocol: int, now: int) -> int:

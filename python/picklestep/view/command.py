@@ -13,14 +13,15 @@ import webbrowser
 from pathlib import Path
 from typing import Iterator, List, Optional
 
-from ..addresses import given, zip_behind
+from ..addresses import check_out, given, zip_behind
+from ..document import Document
 from ..errors import PicklestepError, reason
+from ..lines import silent
 from ..opens import is_at_server
-from ..saving import naming, written_whole
+from ..saving import is_same_file, naming, written_whole
+from ..waiting import Waiting
 from ..wording import shown
-from .document import Document
 from .export import MOST, write_report
-from .lines import silent
 from .server import IDLE, Viewer
 
 __all__ = ['main']
@@ -49,12 +50,12 @@ def _parser() -> argparse.ArgumentParser:
     parser.add_argument('--export', metavar='OUT.html', type=Path, help='write a report into this page, and end')
     parser.add_argument('--force', action='store_true', help='let --export replace a file that is there')
     parser.add_argument('--no-browser', action='store_true', help='print the address, and open no browser')
-    parser.add_argument('--idle', metavar='SECONDS', type=_seconds, default=IDLE, help='end when no page was open for this long (%(default)g)')
+    parser.add_argument('--idle', metavar='SECONDS', type=_seconds, default=IDLE, help='end when no open page has asked for anything for this long (%(default)g)')
     return parser
 
 
 def _export(document: Document, path: Path) -> int:
-    with naming(path), written_whole(path, 'utf-8') as file:
+    with naming(path), written_whole(path, 'utf-8') as file, Waiting():
         count, all_lines = write_report(document, file)
     if count < all_lines:
         print(f'picklestep: {shown(str(path))} has the first {MOST:,} of {all_lines:,} opcodes', file=sys.stderr)
@@ -97,10 +98,6 @@ def _signals_interrupt() -> Iterator[None]:
             signal.signal(number, handler)
 
 
-def _count(text: str) -> None:
-    print(f'\r\x1b[K{text}', end='', file=sys.stderr, flush=True)
-
-
 def _lesson(path: str) -> str:
     """The lesson that is in a file beside the pickle, if there is one."""
     try:
@@ -110,15 +107,11 @@ def _lesson(path: str) -> str:
 
 
 def _opened(options: argparse.Namespace) -> Document:
-    """The document. A terminal gets a line that says how far it is, which is wiped out at the end."""
+    """The document. Somebody at a terminal is told how far it is."""
     pickle, found = given(options.file)
     path, rest = (options.file, '') if found is None else (found.path, found.address[len(found.path):])
-    name, is_told = (path if is_at_server(path) else os.path.basename(path)) + rest, sys.stderr.isatty()
-    try:
-        document = Document(pickle, name, options.many, _count if is_told else silent, options.unframed)
-    finally:
-        if is_told:
-            _count('')
+    with Waiting() as waiting:
+        document = Document(pickle, (path if is_at_server(path) else os.path.basename(path)) + rest, options.many, waiting.progress, options.unframed)
     document.container = '' if found is None else found.path
     document.lesson = _lesson(path) if found is None else ''
     document.said = zip_behind(options.file) if found is None else list(found.said)
@@ -128,8 +121,11 @@ def _opened(options: argparse.Namespace) -> Document:
 def _do(options: argparse.Namespace) -> int:
     if options.export is not None and options.export.is_file() and not options.force:
         raise PicklestepError(f'{shown(str(options.export))} is there; with --force it is written over')
+    if options.export is not None and is_same_file(options.file, str(options.export)):
+        raise PicklestepError('OUT.html is FILE, which stays as it is')
     with contextlib.closing(_opened(options)) as document:
         if options.export is not None:
+            check_out(str(options.export), document.container)
             return _export(document, options.export)
         return _serve(document, not options.no_browser, options.idle)
 

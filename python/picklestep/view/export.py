@@ -9,7 +9,7 @@ from itertools import islice
 from pathlib import Path
 from typing import IO, Iterator, Tuple
 
-from .document import Document
+from ..document import Document
 
 __all__ = ['MOST', 'write_report']
 
@@ -67,6 +67,12 @@ def _calls(document: Document) -> Iterator[str]:
         yield _section('behind', escape(f'{part.heading}:'), shown, len(part), ('Offset', 'What'))
         for reach in islice(part, shown):
             yield f'<tr class="call"><td class="n">{reach.offset}</td><td>{escape(reach.text)}</td></tr>\n'
+        yield '</tbody></table></div></section>\n'
+    if answer.mixed:
+        shown = min(len(answer.mixes), MOST)
+        yield _section('behind', escape(f'{answer.mixed}: a loader that mixes frames may take'), shown, len(answer.mixes), ('Opcode',))
+        for taken in islice(answer.mixes, shown):
+            yield f'<tr class="call"><td>{escape(taken)}</td></tr>\n'
         yield '</tbody></table></div></section>\n'
 
 

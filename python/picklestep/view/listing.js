@@ -70,7 +70,7 @@ function lineAt(place) {
   return chunk && chunk[place % CHUNK];
 }
 
-const NO_LINE = ['', '', '..', '', 0, '', false, false, ''];
+const NO_LINE = ['', '', '..', '', 0, '', false, false, null];
 
 function fill(made, place, top) {
   const state = view.state, isAt = place === state.place;

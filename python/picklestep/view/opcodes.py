@@ -5,15 +5,15 @@ from __future__ import annotations
 import keyword
 from typing import Any, Dict
 
+from ..hints import ARRAY, FRAME, OF_FRAMES
+from ..listed import shown_code
+from ..literals import MOST_DECIMAL_BITS
 from ..opcodes import TABLE
 from ..python_source.builder import KINDS, MOST_SHORT, taken_count
-from ..hints import ARRAY, FRAME, OF_FRAMES
 from ..python_source.code import BEHIND, HEAD, HEAD_OF_CUT, HEAD_OF_CUT_PART, HEAD_OF_PART
 from ..python_source.helpers import HELPERS
-from ..python_source.literals import MOST_DECIMAL_BITS
 from ..python_source.names import TAKEN
 from ..python_source.writer import COLUMNS, MOST_DEPTH, MOST_ITEMS, MOST_LETTERS
-from .lines import shown_code
 
 __all__ = ['opcode_table', 'source_facts']
 

@@ -14,9 +14,10 @@ from http.server import BaseHTTPRequestHandler, ThreadingHTTPServer
 from pathlib import Path
 from typing import Any, Callable, ContextManager, Dict, Optional
 
+from ..document import Document, Fields
 from ..errors import ProgramError, Refused
+from ..patterns import pattern
 from ..plain import PLAIN
-from .document import Document, Fields
 from .opcodes import opcode_table
 
 __all__ = ['IDLE', 'Viewer']
@@ -33,7 +34,7 @@ _POLICY = ("default-src 'none'; script-src 'self'; style-src 'self'; img-src 'se
            "form-action 'none'; frame-ancestors 'none'")
 _HEADERS = {'Content-Security-Policy': _POLICY, 'X-Content-Type-Options': 'nosniff', 'Referrer-Policy': 'same-origin',
             'Cache-Control': 'no-store', 'Cross-Origin-Resource-Policy': 'same-origin', 'Cross-Origin-Opener-Policy': 'same-origin'}
-_LENGTH = re.compile('[0-9]{1,9}')
+_LENGTH = pattern('[0-9]{1,9}')
 _MOST_WORDS = 1 << 20
 
 

@@ -11,12 +11,6 @@ function unquoted(quotedText) {
   return latin(inner);
 }
 
-// The bytes of a name, and whether it is of a string of Python 2.
-function nameOf(name) {
-  const isRaw = name.startsWith('raw ');
-  return { isRaw, bytes: unquoted(isRaw ? name.slice(4) : name) };
-}
-
 // A number that is shown by its bytes: whether it is a float, and its bytes in hexadecimal.
 const numberBytes = (text) => ({ isFloat: text.startsWith('f8:'), hex: text.slice(3) });
 
@@ -31,30 +25,16 @@ function cutOf(quotedText) {
 
 // --- Values in a line ---
 
-const VALUES = new RegExp(`(?:(raw|bytes|bytearray|string|text) )?(?:(raw) )?(${QUOTED})|(?:(?:int|float) )?(${BYTES})|\\b(none|true|false)\\b|\\bint (-?[0-9]+)`, 'g');
 const ARGUMENTS = new RegExp(`(${QUOTED})|(${BYTES})`, 'g');
-const GLOBALS = new RegExp(`global (${NAME}) (${NAME})`, 'g');
-
-// A line with what is written for each value in the place of it.
-function withValues(line, write) {
-  return line.replace(VALUES, (all, kind, raw, quotedText, bytes, constant, whole) => {
-    const isBytes = kind === 'bytes' || kind === 'bytearray' || kind === 'raw' || Boolean(raw);
-    return write({ quotedText, isBytes, bytes, constant, whole });
-  });
-}
 
 // An argument with what is written for its texts and numbers in the place of them.
 const withArguments = (argument, write) => argument.replace(ARGUMENTS, (all, quotedText, bytes) => write(quotedText, bytes));
-
-// The names in a line of what is given to a call, and where each stands.
-const globalsIn = (line) => Array.from(line.matchAll(GLOBALS), (match) => ({ start: match.index, end: match.index + match[0].length, module: match[1], name: match[2] }));
 
 // --- Lines of opcodes ---
 
 const BEGINNING = /^ *\d+: /;
 
 const beginsWithOffset = (line) => BEGINNING.test(line);
-const withoutOffset = (line) => line.replace(BEGINNING, '');
 
 function opcodeOf(line) {
   const [, offset, code, blanks, name, argument] = /^ *(\d+): (\S+)( +)([A-Z][A-Z0-9_]*)(?: +(.*))?$/.exec(line);
@@ -98,50 +78,6 @@ const codeOfWords = (words) => words.split(' ')[0];
 
 // How many bytes are after STOP, as closing lines say it.
 const keptOf = (closing) => Number(closingOf(closing, 'kept').split(' ')[0]);
-
-// --- Lines of `calls` ---
-
-const REACH = new RegExp(`^(import|call|new|inst) (?:(${NAME}) (${NAME})|ext ([0-9]+)|(#[0-9]+))(?: for (${NAME}) (${NAME}))?(?: (.*?))??(?: as #[0-9]+)?$`);
-
-// The offset and the first word of a line; null of what is none.
-function reachBegins(line) {
-  const match = /^ *(\d+): (\w+)/.exec(line);
-  return match && { offset: Number(match[1]), what: match[2] };
-}
-
-// What a line without its offset says: a name, the name that the pickle has for it where that is another, and what is given; null where it has none.
-function reachOf(line) {
-  const match = REACH.exec(line);
-  if (!match) return null;
-  const [, what, module, name, extension, number, oldModule, oldName, given] = match;
-  return { what, module, name, extension, number, oldModule, oldName, given };
-}
-
-// The number of the object that a line makes, or null.
-function madeBy(line) {
-  const match = / as #([0-9]+)$/.exec(line);
-  return match && Number(match[1]);
-}
-
-const withoutMade = (line) => line.replace(/ as #[0-9]+$/, '');
-
-// The words of a heading, under which stands what only some loaders reach; null of another line.
-function headingOf(line) {
-  const match = /^(a loader(?: that buffers frames| that keeps its buffer)? may go on):$/.exec(line);
-  return match && match[1];
-}
-
-// The container that bytes begin like, or null.
-function containerOf(line) {
-  const match = /^begins like an? (.*): picklestep scan looks into it$/.exec(line);
-  return match && match[1];
-}
-
-// How many imports and calls there are, or null.
-function countsOf(line) {
-  const match = /^(\d+) imports, (\d+) calls$/.exec(line);
-  return match && [Number(match[1]), Number(match[2])];
-}
 
 // --- Lines of objects ---
 

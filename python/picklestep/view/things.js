@@ -163,7 +163,7 @@ async function reveal(number) {
 function explain() {
   const line = lineAt(view.selected), state = view.state;
   const isAt = view.selected === state.place && state.stack.more < MOST_DEEP_STACK;
-  const key = line && state.places ? [state.version, view.selected, isAt, line[2], line[8]].join(' ') : '';
+  const reached = line ? reachOfRow(line[8]) : '', key = line && state.places ? [state.version, view.selected, isAt, line[2], reached].join(' ') : '';
   if (by('opcode').dataset.key === key) return;
   by('opcode').dataset.key = key;
   if (!key) { by('opcode').replaceChildren(); return; }
@@ -173,7 +173,7 @@ function explain() {
   const effect = element('p', 'effect');
   effect.append(element('span', 'key', 'stack: '), takes || 'nothing', element('span', 'key', ' → '), leaves || 'nothing');
   const here = isAt ? [element('p', 'effect', 'here: ..')] : [];
-  by('opcode').replaceChildren(first, effect, ...here, ...(line[8] ? [element('p', 'reach', '→ ' + reachOfRow(line[8]))] : []));
+  by('opcode').replaceChildren(first, effect, ...here, ...(reached ? [element('p', 'reach', `→ ${reached}`)] : []));
   if (isAt) showEffect(here[0], key);
 }
 

@@ -49,10 +49,6 @@ function pythonFloat(value) {
   return /[.e]/.test(text) ? text : text + '.0';
 }
 
-function floatOfHex(hex) {
-  return new DataView(bytesOfHex(hex).buffer).getFloat64(0);
-}
-
 // A whole number from its bytes, the lowest first, with its sign.
 function wholeOfHex(hex) {
   if (!hex) return 0n;
@@ -94,105 +90,49 @@ function withHalves(bytes) {
   }
 }
 
-// A quoted text of the program as Python writes it. `kind` is 'text' or 'bytes'. Where a part was cut off, that is said behind it.
-function pythonOfQuoted(quotedText, kind) {
-  const cut = cutOf(quotedText);
-  if (cut) return `${pythonOfCut(cut.left, kind)} .. ${cut.more} bytes more`;
-  const bytes = unquoted(quotedText);
-  const text = kind === 'bytes' ? null : utf8(bytes);
-  return text === null ? pythonBytes(bytes) : pythonText(text);
-}
+// --- Lines of older protocols ---
 
-// The beginning of a text, which may end within a sign.
-function pythonOfCut(beginning, kind) {
-  let bytes = unquoted(beginning);
-  if (kind === 'bytes') return pythonBytes(bytes);
-  for (let less = 0; less < 4; less += 1, bytes = bytes.subarray(0, -1)) {
-    const text = utf8(bytes);
-    if (text !== null) return pythonText(text);
-  }
-  return pythonBytes(unquoted(beginning));
-}
+// An argument of which a loader makes no value.
+class Unreadable extends Error {}
 
-const CONSTANTS = { none: 'None', true: 'True', false: 'False' };
+const ESCAPED = { b: '\b', f: '\f', t: '\t', n: '\n', r: '\r', v: '\v', a: '\x07', '\\': '\\', "'": "'", '"': '"', '\n': '' };
 
-function pythonNumber(text) {
-  const { isFloat, hex } = numberBytes(text);
-  if (isFloat) return pythonFloat(floatOfHex(hex));
-  return hex.length > 128 ? text : String(wholeOfHex(hex));
-}
-
-// The values in a line of the program, as Python writes them. The rest of the line stays.
-function pythonValues(line) {
-  return withValues(line, ({ quotedText, isBytes, bytes, constant, whole }) => {
-    if (whole !== undefined) return whole;
-    if (constant) return CONSTANTS[constant];
-    if (bytes !== undefined) return pythonNumber(bytes);
-    return pythonOfQuoted(quotedText, isBytes ? 'bytes' : 'text');
+// The bytes that stand between the quotes of a line of STRING.
+function unescapedLine(inner) {
+  return inner.replace(/\\(?:([0-7]{1,3})|x([0-9a-fA-F]{2})|([^])|$)/g, (all, octal, hex, sign) => {
+    if (octal) return String.fromCharCode(parseInt(octal, 8) & 255);
+    if (hex) return String.fromCharCode(parseInt(hex, 16));
+    if (sign === undefined || sign === 'x') throw new Unreadable('an escape is not whole');
+    return sign in ESCAPED ? ESCAPED[sign] : all;
   });
 }
 
-// The argument of an opcode, as a row shows it.
-function shownArgument(argument, form) {
-  if (!argument) return '';
-  const kind = form.startsWith('bytes') || form === 'bytearray8' ? 'bytes' : 'text';
-  return withArguments(argument, (quotedText, bytes) => {
-    if (bytes !== undefined) return pythonNumber(bytes);
-    // (a line of STRING is shown as it stands, with its own quotes)
-    return form === 'stringnl' ? plain(withoutQuotes(quotedText)) : pythonOfQuoted(quotedText, kind);
-  });
-}
-
-// --- What an opcode imports or calls ---
-
-const DOTTED = /^[\p{L}\p{Nl}_][\p{L}\p{Nl}\p{M}\p{Nd}\p{Pc}]*(\.[\p{L}\p{Nl}_][\p{L}\p{Nl}\p{M}\p{Nd}\p{Pc}]*)*$/u;
-
-// A name of a module, or in it. What is no name is shown with quotes.
-function shownName(quotedText) {
-  const { isRaw, bytes } = nameOf(quotedText), text = isRaw ? null : utf8(bytes);
-  if (text === null) return pythonBytes(bytes);
-  return DOTTED.test(text) && !HIDDEN.test(text) ? text : pythonText(text);
-}
-
-// What is given to a call, with imported names and values as Python writes them.
-function pythonGiven(line) {
-  let shown = '', at = 0;
-  for (const { start, end, module, name } of globalsIn(line)) {
-    shown += pythonValues(line.slice(at, start)) + `${shownName(module)}.${shownName(name)}`;
-    at = end;
+// The signs of a line of UNICODE. Halves of pairs that are written as two escapes stay two signs.
+function unicodeSigns(line) {
+  const signs = [];
+  for (const [all, four, eight, wrong] of line.matchAll(/\\(?:u([0-9a-fA-F]{4})|U([0-9a-fA-F]{8})|([uU])|[^])|[^]/g)) {
+    const code = parseInt(four || eight, 16);
+    if (wrong || code > 0x10ffff) throw new Unreadable('an escape is not whole');
+    if (four || eight) signs.push(String.fromCodePoint(code));
+    else signs.push(...all);
   }
-  return shown + pythonValues(line.slice(at));
+  return signs;
 }
 
-// What an object is that a line of `calls` ends in, or '' where the line does not say it: `posix.system`, `posix.system('id')`.
-function shownReach(line) {
-  const reach = reachOf(line);
-  if (!reach) return '';
-  const { what, module, name, extension, number, oldModule, oldName, given } = reach;
-  const called = module ? `${shownName(module)}.${shownName(name)}` : extension ? `extension ${extension}` : number;
-  const old = oldModule ? ` (for ${shownName(oldModule)}.${shownName(oldName)})` : '';
-  if (what === 'import') return called + old;
-  const values = pythonGiven(given || '()');
-  return `${what === 'new' ? 'new ' : ''}${called}${values.startsWith('(') ? values : `(*${values})`}${old}`;
+// --- Texts among the fields of a line of JSON ---
+
+// How the name of a field ends whose text JSON does not hold as it is, and the text of its bytes; null where they are none.
+const SPELLED = { _hex: utf8, _raw_unicode_escape_hex: (bytes) => unicodeSigns(binary(bytes)).join(''),
+  _string_escape_hex: (bytes) => unescapedLine(binary(bytes)), _raw_hex: () => null };
+
+// A text among fields: the text or else its bytes, and how many bytes more it has; null where there is none of the name.
+function textIn(fields, name) {
+  if (name in fields) return { text: fields[name], more: fields[`${name}_more`] };
+  const ending = Object.keys(SPELLED).find((each) => name + each in fields);
+  if (!ending) return null;
+  const bytes = bytesOfHex(fields[name + ending]), more = fields[`${name}${ending}_more`];
+  return { text: more ? null : SPELLED[ending](bytes), bytes, more: more / 2 };
 }
 
-// What a row or the list of imports and calls says of an opcode.
-function reachOfRow(line) {
-  if (!line) return '';
-  return shownReach(line) || pythonGiven(withoutMade(line));
-}
-
-// --- Objects ---
-
-// An object in a line: its kind and value, or what it imports or calls, and what was done to it since.
-function shownObject(text, reach) {
-  if (!text) return '';
-  const known = reach ? shownReach(reach) : '';
-  return known ? known + changesIn(text) : pythonOfObject(text);
-}
-
-function pythonOfObject(text) {
-  const { kind, rest } = kindOf(text);
-  const form = kind === 'bytes' || kind === 'bytearray' ? 'bytes' : kind === 'string-line' ? 'stringnl' : 'text';
-  return kind + shownArgument(rest, form);
-}
+// Whether Python 3 imports something else than what the pickle names.
+const hasOldName = (fields) => textIn(fields, 'for_module') !== null;

@@ -9,12 +9,14 @@ from typing import Optional, Sequence
 
 from ... import library
 from ...errors import OutOfMemory, PicklestepError, ProgramError, TimedOut
-from ...program import run_program, time_to_wait
 from ...verdicts import other_form
 from ..blobs import Blob, Budget, FileBlob, JoinedBlob, PartMet, spooled
 from .forms import NotCanonical, NotKnown
 
-__all__ = ['BEHIND', 'answer_of_program', 'content_of', 'require_form']
+__all__ = ['SIGN_OF_ARRAYS', 'BEHIND', 'answer_of_program', 'content_of', 'require_form']
+
+# Where these bytes are not, nothing is one of joblib's classes of arrays: a name of an import stands in a pickle as it is.
+SIGN_OF_ARRAYS = b'ArrayWrapper'
 
 _WORDS = ('form', '--json')
 # The reason of a pickle that is in the form, with something behind it.
@@ -55,6 +57,7 @@ def answer_of_program(words: Sequence[str], blob: Blob, budget: Optional[Budget]
 
 
 def _run(words: Sequence[str], size: int, budget: Optional[Budget], files: Sequence[int]) -> bytes:
+    from ...program import run_program, time_to_wait
     memory = timeout = None
     if budget is not None:
         memory = budget.memory() if size * _MEMORY_OF_A_BYTE > budget.memory() else None

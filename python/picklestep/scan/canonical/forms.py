@@ -2,8 +2,7 @@
 
 from __future__ import annotations
 
-from dataclasses import dataclass
-from typing import Any, Dict, NoReturn, Optional, Tuple
+from typing import Any, Dict, NamedTuple, NoReturn, Optional, Tuple
 
 __all__ = ['Form', 'Member', 'NotCanonical', 'NotKnown', 'WRITERS', 'count_of_shape', 'require', 'wrong']
 
@@ -55,8 +54,7 @@ def count_of_shape(shape: Any) -> int:
     return product
 
 
-@dataclass(frozen=True)
-class Member:
+class Member(NamedTuple):
     """A member: where its bytes are as they are stored, and what they unpack to.
 
     `role` is 'file', 'folder', 'link', 'pickle' or 'numbers' (raw ones, of the exact size). `unpacked` and `checksum` are those of the
@@ -72,12 +70,11 @@ class Member:
     checksum: Optional[int] = None
 
     def as_numbers(self) -> 'Member':
-        """The same as raw numbers. (An archive has thousands, and `replace` asks for the fields each time.)"""
-        return Member(self.name, self.offset, self.size, 'numbers', self.method, self.unpacked, self.checksum)
+        """The same as raw numbers."""
+        return self._replace(role='numbers')
 
 
-@dataclass(frozen=True)
-class Form:
+class Form(NamedTuple):
     """A container in its strict form: its members in order, and whether it is laid out as torch.save does. All other bytes of it are
     accounted for."""
 

@@ -9,6 +9,7 @@ import re
 from collections import Counter
 from typing import Any, Optional, Tuple
 
+from ...patterns import pattern
 from ..blobs import Blob, Budget, LimitMet
 from .forms import NotCanonical, count_of_shape, require, wrong
 from .pickles import Global, Made, OldText, PDict, Pickle, read_pickle
@@ -19,7 +20,7 @@ _WRONG_FLAGS = 'flags of a numpy.dtype that do not fit its fields'
 # Bytes of an item, and whether it holds objects.
 Item = Tuple[int, bool]
 
-_CODE = re.compile(r'([<>|=]?)([biufcSUVmMO])([0-9]*)(\[[0-9]*[A-Za-z]+(?:/[0-9]+)?\])?')
+_CODE = pattern(r'([<>|=]?)([biufcSUVmMO])([0-9]*)(\[[0-9]*[A-Za-z]+(?:/[0-9]+)?\])?')
 _SIZES = {'b': (1,), 'i': (1, 2, 4, 8), 'u': (1, 2, 4, 8), 'f': (2, 4, 8, 12, 16), 'c': (8, 16, 24, 32), 'm': (8,), 'M': (8,)}
 # The flags of numpy.dtype: of texts and of objects.
 _HAS_OBJECT = 1

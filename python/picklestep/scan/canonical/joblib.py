@@ -13,10 +13,8 @@ from .forms import NotCanonical, count_of_shape
 from .items import item_of_pickled
 from .pickles import Global, Made, PDict, Reader, read_pickle
 
-__all__ = ['SIGN', 'on_build']
+__all__ = ['on_build']
 
-# Where these bytes are not, nothing is one of joblib's classes of arrays: a name of an import stands in a pickle as it is.
-SIGN = b'ArrayWrapper'
 _WRAPPER = Global('joblib.numpy_pickle', 'NumpyArrayWrapper')
 _DTYPE = Global('numpy', 'dtype')
 _KEYS = {'subclass', 'shape', 'order', 'dtype', 'allow_mmap'}

@@ -8,6 +8,7 @@ from typing import List, Optional
 from ..begins import HEAD
 from ..blobs import Blob
 from ..containers import CONTAINERS, PACKED, Container, kind_by_sign, named, store_of
+from ...patterns import pattern
 from ...unread import kind_of_file, kind_of_short
 
 __all__ = ['asked_form', 'begun_form', 'kinds_of', 'without_ending']
@@ -15,10 +16,10 @@ __all__ = ['asked_form', 'begun_form', 'kinds_of', 'without_ending']
 # Loaders (pandas, numpy, tarfile) choose what they read by these endings: another form under them is noted.
 _ASKED = {ending: each for each in CONTAINERS for ending in (*each.endings, each.tar_ending) if ending}
 # People name what torch.save writes so.
-_NOT_TAR = re.compile(r'.*\.(pth|pt|ckpt|bin)\.tar', re.IGNORECASE | re.DOTALL)
+_NOT_TAR = pattern(r'.*\.(pth|pt|ckpt|bin)\.tar', re.IGNORECASE | re.DOTALL)
 _PACKED_TARS = frozenset(each.tar_ending for each in PACKED if each.tar_ending)
 _PACKED_ENDINGS = [*_PACKED_TARS, *(ending for each in PACKED for ending in (*each.endings, *each.other_endings))]
-_PACKED_ENDING = re.compile(rf'\.({"|".join(_PACKED_ENDINGS)})$', re.IGNORECASE)
+_PACKED_ENDING = pattern(rf'\.({"|".join(_PACKED_ENDINGS)})$', re.IGNORECASE)
 _BY_MORE = tuple((each, each.takes) for each in CONTAINERS if each.takes is not None)
 _STREAMS = tuple((each, each.stream, each.stream.takes) for each in PACKED if each.stream is not None and each.stream.takes is not None)
 # Which of them a first byte may begin: most begin none. Then without those that only unpacking shows.

@@ -6,13 +6,16 @@ What is left when the raw numbers are cut out are pickles that the program reads
 from __future__ import annotations
 
 from dataclasses import dataclass, field
-from typing import List, Optional, Set, Tuple
+from typing import TYPE_CHECKING, List, Optional, Set, Tuple
 
+from ...hints import OLD_TORCH
 from ..blobs import Blob, Budget
-from . import joblib, torch
-from .formed import BEHIND, require_form
+from .formed import BEHIND, SIGN_OF_ARRAYS, require_form
 from .forms import NotCanonical, require
-from .pickles import Pickle, read_pickle
+
+if TYPE_CHECKING:
+    from .pickles import Pickle
+    from .torch import Rows
 
 __all__ = ['Layout', 'alone', 'layout_of', 'of_torch_tar']
 
@@ -45,14 +48,17 @@ class Layout:
 
 def layout_of(blob: Blob, budget: Optional[Budget] = None) -> Layout:
     """The pickles of a file, to its end."""
-    if torch.MAGIC in blob.read(0, _BEGIN):
-        return _of_torch(torch.legacy(blob, budget))
-    if blob.find(joblib.SIGN) < 0 and _is_one(blob, budget):
+    if OLD_TORCH in blob.read(0, _BEGIN):
+        from .torch import legacy  # (most pickles have no raw numbers)
+        return _of_torch(legacy(blob, budget))
+    if blob.find(SIGN_OF_ARRAYS) < 0 and _is_one(blob, budget):
         return Layout(pickles=1)
+    from .joblib import on_build
+    from .pickles import read_pickle
     layout = Layout()
     at = 0
     while at < blob.size or not at:
-        pickle = read_pickle(blob, at, joblib.on_build, budget)
+        pickle = read_pickle(blob, at, on_build, budget)
         layout.add(pickle)
         at = pickle.end
     return layout
@@ -85,10 +91,11 @@ def of_one(pickle: Pickle, blob: Blob, budget: Optional[Budget] = None) -> Layou
 
 def of_torch_tar(name: str, blob: Blob, budget: Optional[Budget] = None) -> Layout:
     """The pickles of a member of torch's tar layout."""
-    return _of_torch(torch.tar_member(name, blob, budget))
+    from .torch import tar_member
+    return _of_torch(tar_member(name, blob, budget))
 
 
-def _of_torch(found: torch.Rows) -> Layout:
+def _of_torch(found: Rows) -> Layout:
     layout = Layout()
     for pickle in found.pickles:
         layout.add(pickle)

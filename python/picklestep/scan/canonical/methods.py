@@ -8,9 +8,10 @@ from ..blobs import Blob
 
 __all__ = ['CALLED', 'CALLED_ALONE', 'CALLED_OF_ITEMS', 'OF_ARRAYS', 'REPLACING', 'names_methods']
 
-# What loaders call under such a name of an object, with what the pickle gives: unpicklers, and `__setstate__` and makers in the sets' libraries.
+# What loaders call under such a name of an object, with what the pickle gives: unpicklers, and `__setstate__` and makers in the sets'
+# libraries, as far as they are known: docs/reference/scan_missed.md says that there may be more.
 CALLED_ALONE = frozenset(('__setstate__', '__new__', '__init__', '__getinitargs__', '_build_f', '_hook_for_profile', '_simple_new', 'from_arrays',
-                          'holidays', '_isdst', 'detach', 'untyped', '_untyped', 'nbunch_iter'))
+                          'holidays', '_isdst', 'detach', 'untyped', '_untyped', 'nbunch_iter', 'copy', 'to_numpy', 'reshape'))
 # Attributes that decide what all others are, methods too. No pickler gives them by a state.
 REPLACING = frozenset(('__dict__', '__class__'))
 # The attributes by which numpy takes an object for an array: what they say is the address of its bytes.

@@ -10,13 +10,14 @@ import ast
 import re
 from typing import Optional, Tuple
 
+from ...patterns import pattern
 from ..blobs import Blob, Budget
 from .forms import Form, Member, count_of_shape, require, wrong
 from .items import Item, item_of_description
 
 __all__ = ['verify']
 
-_HEADER = re.compile(r"\{'descr': (.*), 'fortran_order': (True|False), 'shape': (\([0-9, ]*\)), \} *\n", re.DOTALL)
+_HEADER = pattern(r"\{'descr': (.*), 'fortran_order': (True|False), 'shape': (\([0-9, ]*\)), \} *\n", re.DOTALL)
 _LONGEST = 1 << 20
 _ODD = 'the header is not as numpy.save writes it'
 

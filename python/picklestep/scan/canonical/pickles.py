@@ -15,6 +15,7 @@ from dataclasses import dataclass, field
 from typing import Any, Callable, Dict, List, NoReturn, Optional, Set, Tuple, Type
 
 from ...opcodes import TABLE
+from ...patterns import pattern
 from ..blobs import CHUNK, STEPS, Blob, Budget, JoinedBlob
 from .formed import require_form
 from .forms import NotCanonical, count_of_shape, wrong
@@ -127,7 +128,7 @@ _WRAPPER_NAMES = ('NumpyArrayWrapper', 'NDArrayWrapper', 'ZNDArrayWrapper')
 _LONGEST_WRAPPER = 1 + max(map(len, _WRAPPER_NAMES))
 _WRAPPERS = frozenset((module, name) for module in ('joblib.numpy_pickle', 'joblib.numpy_pickle_compat') for name in _WRAPPER_NAMES)
 # Picklers make one at once: EMPTY_TUPLE and NEWOBJ follow, perhaps behind a key of the memo and the begin of a frame.
-_MADE_AT_ONCE = re.compile(rb'(\x94|q.|r.{4}|p[0-9]{1,10}\n)?(\x95.{8})?\)\x81', re.DOTALL)
+_MADE_AT_ONCE = pattern(rb'(\x94|q.|r.{4}|p[0-9]{1,10}\n)?(\x95.{8})?\)\x81', re.DOTALL)
 _LONGEST_MAKING = 24
 
 _BUILTINS = ('builtins', '__builtin__')
@@ -596,7 +597,7 @@ class Reader:
         elif self._of_numpy and (isinstance(target, Made) or target is _MAY_BE_KIND or _may_be_of_kind(state)):
             self.fail('a state of what may be a kind of items')
         else:
-            self.pickle.has_odd_states = self.pickle.has_odd_states or _has_odd_key(state) or self._is_odd_array(state)
+            self.pickle.has_odd_states = self.pickle.has_odd_states or _has_odd_key(state) or self._is_odd_array(state) or self._has_odd_array(state)
             if isinstance(target, _Array):
                 kinds = state[1:3] if isinstance(state, tuple) else ()
                 target.may_hold_objects = not any(isinstance(kind, Made) for kind in kinds) or any(map(_may_take_list, kinds))
@@ -609,6 +610,12 @@ class Reader:
         if type(state) not in (tuple, PList) or len(state) < 4:
             return False
         return self._is_odd_list(state, *state[:4]) or len(state) > 4 and self._is_odd_list(state, *state[1:5])
+
+    def _has_odd_array(self, state: Any, depth: int = 2) -> bool:
+        """Whether a part of a state, or a part of a part, may be taken so: the `__setstate__` of a library may hand it on, as that of pandas'
+        SparseArray does."""
+        return depth > 0 and type(state) in (tuple, PList) and any(
+            self._is_odd_array(each) or self._has_odd_array(each, depth - 1) for each in state if type(each) in (tuple, PList))
 
     def _is_odd_list(self, state: Any, shape: Any, kind: Any, _: Any, items: Any) -> bool:
         if not _may_be(tuple, shape) or not _may_be(PList, items) or not _may_take_list(kind):

@@ -10,9 +10,9 @@ import bz2
 import lzma
 import re
 import zlib
-from dataclasses import dataclass
-from typing import Callable, FrozenSet, Optional
+from typing import Callable, FrozenSet, NamedTuple, Optional
 
+from ...patterns import pattern
 from ..begins import HEAD
 from ..blobs import Blob
 from ..packed import BLOSC_MODULES, LZMA_MEMORY, Blosc, Decompressor, Lz4, Unpacking, Zstd, inflate_gzip, inflate_zlib, module_of, unpack_lzma, unpack_xz
@@ -32,15 +32,14 @@ _BEGINS_LZMA = frozenset(byte for byte in range(225) if byte % 9 + byte // 9 % 5
 # That of zlib: the method, in its lower half.
 _BEGINS_ZLIB = frozenset(byte for byte in range(256) if byte & 15 == 8)
 # Names in a gzip header are Latin-1 without control characters.
-_NAME = re.compile(rb'[\x20-\x7e\xa0-\xff]{1,255}\0')
+_NAME = pattern(rb'[\x20-\x7e\xa0-\xff]{1,255}\0')
 _BZ2 = re.compile(rb'BZh[1-9](1AY&SY|\x17rE8P\x90)')
-_ZFILE = re.compile(rb'ZF(0x[0-9a-f]{1,16}L?) *')
+_ZFILE = pattern(rb'ZF(0x[0-9a-f]{1,16}L?) *')
 _ZFILE_HEADER = 21
 _NO_SIZE = 2 ** 64 - 1
 
 
-@dataclass(frozen=True)
-class Stream:
+class Stream(NamedTuple):
     """How a file that packs one other is unpacked, and its strict form.
 
     `verify_begin` raises NotCanonical where the header is not as the writers of this kind fill it. `starts` says where the stream begins that

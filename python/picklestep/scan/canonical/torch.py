@@ -5,10 +5,10 @@ Sources: torch/serialization.py (_save, _legacy_save, _legacy_load), caffe2/seri
 
 from __future__ import annotations
 
-import re
 from typing import Any, Dict, List, NamedTuple, Optional, Sequence, Tuple
 
 from ...hints import OLD_TORCH as MAGIC
+from ...patterns import pattern
 from ...reaches import plainly_in
 from ..blobs import Blob, Budget
 from .forms import Member, require, wrong
@@ -26,7 +26,7 @@ _ITEMS = {
     'IntStorage': 4, 'LongStorage': 8, 'BoolStorage': 1, 'ComplexFloatStorage': 8, 'ComplexDoubleStorage': 16, 'QInt8Storage': 1,
     'QUInt8Storage': 1, 'QInt32Storage': 4, 'QUInt4x2Storage': 1, 'QUInt2x4Storage': 1, 'UntypedStorage': 1, '_UntypedStorage': 1,
 }
-_MODULES = re.compile(r'torch(\.cuda|\.storage)?')
+_MODULES = pattern(r'torch(\.cuda|\.storage)?')
 # How many bytes each storage has, and an item of it.
 Storages = Dict[str, Tuple[int, int]]
 

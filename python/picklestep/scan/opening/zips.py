@@ -31,8 +31,6 @@ def look_at_end(looker: Looker, held: Held, head: bytes) -> bool:
     A closing record may be that of a member that was looked at.
     """
     blob, where = held.blob, held.where
-    if not zips.may_end(blob):
-        return False
     records = [at for at in strict_zips.closing_records(blob) if not any(start <= at < end for start, end in held.spans)]
     has_end = not held.spans and zips.end_of_directory(blob) is not None
     if not records and not has_end:

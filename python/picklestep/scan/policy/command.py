@@ -12,10 +12,11 @@ from ...errors import PicklestepError
 from ...wording import shown
 from ..command import Work, escape_names, scan_words
 from ..files import NoNames
+from ..judges import Given
 from ..settings import Settings, chosen_policy
 from ..wording import count_of
 from .checks import Used, faults
-from .judging import Given, PolicyJudges
+from .judging import PolicyJudges
 from .model import BadPolicy, Policy
 
 __all__ = ['main']
@@ -25,8 +26,8 @@ _OF_CTRL_C = 130
 
 def _parser() -> argparse.ArgumentParser:
     parser = argparse.ArgumentParser(
-        prog='picklestep policy', description='Says what is odd about a policy: what has ended, what hides another, and, where there are PATHs, which rules and '
-                                             'exceptions nothing uses. To find out it looks at the PATHs as scan does.',
+        prog='picklestep policy', description='Says what is odd about a policy: exceptions that have ended, and rules that another one hides. If there are PATHs, it '
+                                             'looks at them as scan does, and also says which rules and exceptions nothing uses.',
         epilog='Status: 0 if there is nothing to say, 1 if there is, 2 if the policy cannot be read, 130 after Ctrl-C.')
     parser.add_argument('action', choices=('check',), help='check the policy')
     parser.add_argument('paths', metavar='PATH', nargs='*', help='what the policy is for: a file, a folder, a server, a URL')

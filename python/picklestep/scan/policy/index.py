@@ -7,11 +7,12 @@ import re
 from functools import lru_cache
 from typing import Dict, List, Optional, Sequence, Set
 
+from ...patterns import pattern
 from .model import Rule
 
 __all__ = ['RuleIndex', 'inner_path']
 
-_SPECIAL = re.compile(r'[*?\[\\]')
+_SPECIAL = pattern(r'[*?\[\\]')
 
 
 def inner_path(root: 'os.PathLike[str]', path: str) -> Optional[str]:

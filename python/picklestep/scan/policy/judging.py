@@ -9,13 +9,13 @@ from __future__ import annotations
 import datetime
 import fnmatch
 import os
-from dataclasses import dataclass, replace
+from dataclasses import replace
 from pathlib import Path
 from typing import Dict, Iterator, List, Optional, Sequence, Tuple
 
 from ...wording import shown
-from ..allow import SETS, read_names
-from ..judges import Judges
+from ..allow import SETS
+from ..judges import Given, Judges
 from ..looks import Judge, Look
 from ..names import Names
 from ..results import Result
@@ -25,29 +25,13 @@ from .index import RuleIndex, inner_path
 from .lists import Lists
 from .model import Policy, PolicyException, Rule, Target
 
-__all__ = ['Given', 'PolicyJudges', 'is_about', 'rule_of']
+__all__ = ['PolicyJudges', 'is_about', 'rule_of']
 
 
 # What is said of a mark that stays, and that the policy would take if it were named.
 _KEPT = 'the policy would take it'
 # So many bytes a baseline has that nobody named.
 _MOST_FOUND = 1 << 24
-
-
-@dataclass(frozen=True)
-class Given:
-    """What the command line says beside the policy: lists that it allows and denies, whether known names are marked, baselines,
-    and the baseline that is to be written."""
-
-    allow: Tuple[str, ...] = ()
-    deny: Tuple[str, ...] = ()
-    with_known: bool = True
-    baselines: Tuple[str, ...] = ()
-    to_write: str = ''
-
-    def judge(self) -> Judge:
-        """The judge without a policy."""
-        return Judge(read_names(self.allow) if self.allow else None, read_names(self.deny, with_needed=False), self.with_known)
 
 
 def is_about(target: Target, path: str, inner: Optional[str]) -> bool:

@@ -12,18 +12,15 @@ from typing import Any, Callable, Dict, List, Mapping, Optional, Sequence, Tuple
 
 from ...wording import shown
 from ..allow import SETS, lines_of
+from ..blobs import WORDS_OF_LIMITS
 from ..looks import RULES
 from ..names import Names, NoList, nearest
 from ..severity import FAILING
 from .model import BadPolicy, Policy, PolicyException, Rule, Target
 from .patterns import PathPatterns
 
-__all__ = ['LIMITS', 'NAME', 'read_policy']
+__all__ = ['read_policy']
 
-# The name of a policy that is found.
-NAME = 'picklestep.toml'
-# The limits that a policy may set, and the fields of `Limits` that these are.
-LIMITS: Dict[str, str] = {'bytes': 'unpacked', 'members': 'members', 'depth': 'depth', 'seconds': 'seconds', 'memory': 'memory', 'lines': 'lines'}
 _UNITS = {'': 1, 'K': 1 << 10, 'M': 1 << 20, 'G': 1 << 30}
 # How many dots a line may have: readers of TOML take time by their square.
 _MOST_DOTS = 200
@@ -114,7 +111,7 @@ def _patterns(value: Any, place: str) -> Tuple[str, ...]:
 
 def _limits(value: Any, place: str) -> Mapping[str, int]:
     table = _Table(value, f'{place}.')
-    found = {field: table.take(key, _number) for key, field in LIMITS.items()}
+    found = {field: table.take(key, _number) for key, field in WORDS_OF_LIMITS.items()}
     table.end()
     return {field: number for field, number in found.items() if number is not None}
 

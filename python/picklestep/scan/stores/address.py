@@ -3,18 +3,16 @@
 from __future__ import annotations
 
 import os
-import re
 from dataclasses import dataclass, field
 from typing import Dict
 from urllib.parse import SplitResult, parse_qsl, quote, unquote, urlencode, urlsplit
 
-__all__ = ['Address', 'SERVERS', 'is_server']
+__all__ = ['Address', 'SERVERS']
 
 # The servers by the schemes of their URLs, each with the module beside this one that reads it.
 SERVERS: Dict[str, str] = {
     'redis': 'redis_server', 'rediss': 'redis_server', 'memcached': 'memcached_server', 'memcacheds': 'memcached_server',
     'postgresql': 'postgresql_server', 'postgres': 'postgresql_server', 'mysql': 'mysql_server', 'mariadb': 'mysql_server'}
-_URL = re.compile(rf'({"|".join(SERVERS)})://', re.IGNORECASE)
 
 # What a URL asks for besides the server, and how it is asked.
 _OWN = ('table', 'column', 'stream')
@@ -23,15 +21,6 @@ _SETTINGS = ('timeout',)
 # Where client libraries find passwords besides the URL. (A short word is not taken out of texts.)
 _VARIABLES = ('REDISCLI_AUTH', 'PGPASSWORD', 'MYSQL_PWD')
 _SHORT = 4
-
-
-def is_server(word: str) -> bool:
-    """Whether a word of the command line is the URL of a server, and no file has this name.
-
-    >>> is_server('redis://127.0.0.1:6379/0'), is_server('s3://bucket/models')
-    (True, False)
-    """
-    return _URL.match(word) is not None and not os.path.lexists(word)
 
 
 @dataclass(frozen=True)

@@ -13,6 +13,7 @@ from __future__ import annotations
 import re
 from typing import Iterator, Optional, Set, Tuple
 
+from ...patterns import pattern
 from ..blobs import Blob, LimitMet
 from ..walk import CHECKSUM, MOST, Walk, walk
 
@@ -26,23 +27,23 @@ _OVERLAP = 64 << 10
 _MOST_BYTES = 64 << 20
 
 # PROTO, and an opcode.
-BEGINS_PICKLE = re.compile(rb'\x80[\x02-\x05][(-Z\]a-u}\x80-\x98]')
+BEGINS_PICKLE = pattern(rb'\x80[\x02-\x05][(-Z\]a-u}\x80-\x98]')
 # The second line of GLOBAL and INST. What begins at a newline is found in linear time, however long the lines are.
-_SECOND_LINE = re.compile(rb'\n(?=[A-Za-z_][A-Za-z0-9_.]{0,255}\n)(?!' + CHECKSUM + rb')')
+_SECOND_LINE = pattern(rb'\n(?=[A-Za-z_][A-Za-z0-9_.]{0,255}\n)(?!' + CHECKSUM + rb')')
 _MOST_OF_LINE = 256
 
 # So many arguments of a pickle may reach out of what is read at once.
 _MOST_FAR = 16
 
 # An opcode is behind GLOBAL. (INST calls at once.)
-_OPCODE = re.compile(rb'[(-Z\]a-u}\x80-\x98]')
+_OPCODE = pattern(rb'[(-Z\]a-u}\x80-\x98]')
 # After an import by GLOBAL these take what is not there, unless a MARK is before it.
 _TAKING = frozenset(b'abdeiloRstu')
 _IN_NAME = frozenset(b'0123456789ABCDEFGHIJKLMNOPQRSTUVWXYZabcdefghijklmnopqrstuvwxyz_.+@-')
 _BEGINS_NAME = _IN_NAME - frozenset(b'0123456789.+@-')
 
 # What may put a text on the stack: SHORT_BINUNICODE, BINUNICODE, SHORT_BINSTRING, BINSTRING, UNICODE, STRING, BINUNICODE8.
-_TEXTS = re.compile(rb'[\x8cXUTVS\x8d]')
+_TEXTS = pattern(rb'[\x8cXUTVS\x8d]')
 _BEFORE_STACK_GLOBAL = 600
 
 # Opcodes that take something out of the memo or put it there, each with the width of its number (0: a line).
@@ -52,7 +53,7 @@ _MEMOIZE = 0x94
 _MOST_OF_NUMBER = 20
 
 # EXT1, EXT2 and EXT4, and how a call of one ends a pickle: what makes a tuple, REDUCE or NEWOBJ, and STOP.
-_EXTENSIONS = re.compile(rb'[\x82-\x84]')
+_EXTENSIONS = pattern(rb'[\x82-\x84]')
 _CALL_AND_STOP = (b'R.', b'\x81.')
 _MAKES_TUPLE = frozenset(b')t\x85\x86\x87')
 
@@ -291,4 +292,4 @@ def _has_names(window: bytes, end: int) -> bool:
     return _NEAR_TEXT.search(window, max(0, end - _BEFORE_STACK_GLOBAL), end) is not None
 
 
-_NEAR_TEXT = re.compile(rb'(?:[\x8cU][\x01-\x7f]|[XT][\x01-\xff]\0\0\0|\x8d[\x01-\xff]\0{7}|V|S[\'"])(?:[A-Za-z_][A-Za-z0-9_.\\\n]|\\[uUx0-7])')
+_NEAR_TEXT = pattern(rb'(?:[\x8cU][\x01-\x7f]|[XT][\x01-\xff]\0\0\0|\x8d[\x01-\xff]\0{7}|V|S[\'"])(?:[A-Za-z_][A-Za-z0-9_.\\\n]|\\[uUx0-7])')

@@ -8,11 +8,11 @@ from __future__ import annotations
 
 import ast
 import os
-import re
 import struct
 from dataclasses import dataclass
 from typing import TYPE_CHECKING, Dict, Iterator, List, Optional, Tuple
 
+from ...patterns import pattern
 from ..blobs import Blob
 from ..containers import Held
 from ..results import Place
@@ -201,10 +201,10 @@ def _parts(blob: Blob, item: Tuple[int, int], at: int, page: bytes, order: str, 
 # --- dumb ---
 
 # A line of the index as `dbm.dumb` writes it: a key, and where its value is.
-_INDEX = re.compile(rb"""(b?(?:'[^'\\]*(?:\\.[^'\\]*)*'|"[^"\\]*(?:\\.[^"\\]*)*")), \(([0-9]{1,18}), ([0-9]{1,18})\)""")
+_INDEX = pattern(rb"""(b?(?:'[^'\\]*(?:\\.[^'\\]*)*'|"[^"\\]*(?:\\.[^"\\]*)*")), \(([0-9]{1,18}), ([0-9]{1,18})\)""")
 # How a line begins that may be one of an index, since `dbm.dumb` takes more than it writes.
-_BEGINS_INDEX = re.compile(rb"""[ \t\f(\[{]*[bBrRuU]{0,2}['"]""")
-_END_OF_LINE = re.compile(rb'\r\n?|\n')
+_BEGINS_INDEX = pattern(rb"""[ \t\f(\[{]*[bBrRuU]{0,2}['"]""")
+_END_OF_LINE = pattern(rb'\r\n?|\n')
 _BLOCK = 512
 _MOST_OF_INDEX = 256 << 20
 # Lines of other forms are read up to this length: a parser may go as deep as they are long.

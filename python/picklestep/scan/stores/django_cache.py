@@ -8,14 +8,12 @@ cachelib (Flask) writes the time as a pickle too, or as four bytes, and then the
 
 from __future__ import annotations
 
-import pickletools
 import zlib
 from typing import TYPE_CHECKING, Optional
 
 from ..begins import HEAD
 from ..containers import Held
 from ..walk import walk
-from .values import Values
 
 if TYPE_CHECKING:
     from ..looking import Looker
@@ -50,6 +48,7 @@ def end_of_expiry(head: bytes) -> Optional[int]:
 
 def _is_number(pickle: bytes) -> bool:
     """Whether a pickle holds a plain number or None and nothing else."""
+    import pickletools
     try:
         names = [opcode.name for opcode, _, _ in pickletools.genops(pickle)]
     except ValueError:
@@ -69,6 +68,7 @@ def _unpacks(packed: bytes) -> bool:
 
 def look_into(looker: 'Looker', held: Held) -> bool:
     """Looks at the time and at the value."""
+    from .values import Values
     blob, where, depth = held.blob, held.where, held.depth + 1
     end = end_of_expiry(blob.read(0, HEAD))
     assert end is not None

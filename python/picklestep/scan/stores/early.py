@@ -8,6 +8,7 @@ from __future__ import annotations
 import re
 from typing import Iterator, List, NamedTuple, Optional, Set, Tuple
 
+from ...patterns import pattern
 from ..blobs import Blob
 from ..walk import MOST, Walk, may_begin, walk
 from .anywhere import calls_number, may_call_number
@@ -15,7 +16,7 @@ from .telling import PREFIX, packed_places, prefixes
 
 __all__ = ['CUT', 'Early', 'EarlySearch', 'may_be_behind_few', 'may_be_early']
 
-_BEGIN_OPCODE = re.compile(b'[' + re.escape(bytes(each for each in range(256) if may_begin(each))) + b']')
+_BEGIN_OPCODE = pattern(b'[' + re.escape(bytes(each for each in range(256) if may_begin(each))) + b']')
 
 # A first test goes over so many opcodes at each place.
 _QUICK = 400

@@ -12,6 +12,7 @@ from collections import defaultdict
 from itertools import chain
 from typing import Dict, Iterable, Iterator, List, Sequence, Set, Tuple
 
+from ...patterns import pattern
 from ..blobs import LimitMet
 from ..containers import MAY_BE_KNOWN
 from ..walk import may_begin, walk
@@ -35,8 +36,8 @@ _IS_DIGIT = bytes(97 if each in _DIGITS else 46 for each in range(256))
 _CHECKSUM = b'0123456789abcdef'
 
 # Where a run goes on in the next line, which may begin with blanks, as those of YAML and LDIF do.
-_BREAK = re.compile(rb'\r?\n[ \t]*(?=[A-Za-z0-9+/_-])')
-_SIGNS_ALONE = re.compile(rb'[A-Za-z0-9+/_-]+')
+_BREAK = pattern(rb'\r?\n[ \t]*(?=[A-Za-z0-9+/_-])')
+_SIGNS_ALONE = pattern(rb'[A-Za-z0-9+/_-]+')
 _BLANKS = b'\r\n\t '
 _ENDS = frozenset(b'\n\r')
 # (a line may end, and the next one have begun with blanks, where a window of bytes ends)
@@ -47,27 +48,27 @@ _SHORT_RUN = 512
 _FEW = 4
 
 # Where base64 that begins inside a run gives PROTO, or the beginning of zlib and gzip. (One pattern of all of them would be slower.)
-_INSIDE = tuple(re.compile(signs) for signs in (rb'gA(?=[I-X])', rb'eJ(?=[wxyz0-3])', rb'eN(?=[o-r])', rb'eA(?=[EF])', rb'H4sI'))
+_INSIDE = tuple(pattern(signs) for signs in (rb'gA(?=[I-X])', rb'eJ(?=[wxyz0-3])', rb'eN(?=[o-r])', rb'eA(?=[EF])', rb'H4sI'))
 # So many signs from there show whether it is one. All that is decoded so may be so many times what there is, and some more.
 _PIECE = 4096
 _MOST_TIMES = 16
 _ZLIB_OR_GZIP = 47
 
-_ESCAPE = re.compile(rb'\\(?:u00([0-7][0-9a-fA-F])|([/"\\nrt]))')
+_ESCAPE = pattern(rb'\\(?:u00([0-7][0-9a-fA-F])|([/"\\nrt]))')
 _ESCAPED = {b'a': b'\a', b'b': b'\b', b'f': b'\f', b'n': b'\n', b'r': b'\r', b't': b'\t', b'v': b'\v'}
 # A text in quotes. One that nothing ends goes on to the end of the bytes, so that none is read twice.
-_LITERAL = re.compile(rb"""\bb'((?:[^'\\\n]|\\.)*)(?:'|\n|\Z)|"((?:[^"\\]|\\.)*)(?:"|\Z|\\\Z)""", re.DOTALL)
-_LITERAL_ESCAPE = re.compile(rb'\\(?:x([0-9a-fA-F]{2})|u00([0-9a-fA-F]{2})|([0-7]{1,3})|(.))', re.DOTALL)
+_LITERAL = pattern(rb"""\bb'((?:[^'\\\n]|\\.)*)(?:'|\n|\Z)|"((?:[^"\\]|\\.)*)(?:"|\Z|\\\Z)""", re.DOTALL)
+_LITERAL_ESCAPE = pattern(rb'\\(?:x([0-9a-fA-F]{2})|u00([0-9a-fA-F]{2})|([0-7]{1,3})|(.))', re.DOTALL)
 _MOST_DEFLATED = 1 << 20
 _STANDARD = bytes.maketrans(b'-_', b'+/')
 
 # What the bytes of a short text are.
-_PRINTABLE = re.compile(rb'[ -~]+')
+_PRINTABLE = pattern(rb'[ -~]+')
 _STOP = ord('.')
 _ONE_RUN = b'a' * LEAST_RUN
 
 # Lines that are too short to be runs. They count where all but the last have one length, or nothing else is there.
-_SHORT_LINES = re.compile(rb'\n(?![A-Za-z0-9+/_-]{%d})(?:[A-Za-z0-9+/_-]{2,%d}\r?\n){3,}[A-Za-z0-9+/_-]*' % (LEAST_RUN, LEAST_RUN - 1))
+_SHORT_LINES = pattern(rb'\n(?![A-Za-z0-9+/_-]{%d})(?:[A-Za-z0-9+/_-]{2,%d}\r?\n){3,}[A-Za-z0-9+/_-]*' % (LEAST_RUN, LEAST_RUN - 1))
 
 
 def decoded(content: bytes, goes_on: bool = False) -> Iterator[Tuple[int, str, bytes]]:

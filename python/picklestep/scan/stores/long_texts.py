@@ -6,6 +6,7 @@ import binascii
 import re
 from typing import Iterator
 
+from ...patterns import pattern
 from ..blobs import Blob
 from .telling import SIGNS
 
@@ -32,7 +33,7 @@ class LongText:
 
     def pieces(self) -> Iterator[bytes]:
         """What it stands for."""
-        end = re.compile(_END % re.escape(self._signs))
+        end = pattern(_END % re.escape(self._signs))
         unit = 2 if self._signs is _DIGITS else 4
         left = b''
         for chunk in self._blob.chunks(self._at):

@@ -13,6 +13,7 @@ from contextlib import closing, contextmanager
 from typing import Any, Iterator, List, Optional, Sequence, Tuple
 from urllib.parse import unquote_to_bytes
 
+from ...patterns import pattern
 from .address import Address
 from .server import IsSilent, NoServer, Server, Wanted, library
 from .values import Values, key_name
@@ -28,10 +29,10 @@ _BUSY_TRIES = 20
 _NO_PASSWORDS = 'memcached with a password (SASL, -Y) is not supported'
 _MOST_OF_LINE = 8_192
 
-_ITEM = re.compile(rb'key=(\S+) .*?\bsize=([0-9]+)')
+_ITEM = pattern(rb'key=(\S+) .*?\bsize=([0-9]+)')
 
 # The text protocol cannot ask for keys that have these, or are longer than this.
-_NOT_ASKED = re.compile(rb'[\0-\x20\x7f]')
+_NOT_ASKED = pattern(rb'[\0-\x20\x7f]')
 _MOST_OF_KEY = 250
 
 # So many bytes of values are asked for at once.

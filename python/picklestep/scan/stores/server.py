@@ -8,8 +8,9 @@ from __future__ import annotations
 import threading
 from dataclasses import dataclass
 from importlib import import_module
-from typing import TYPE_CHECKING, Any, Callable, Dict, Iterator, Optional, Sequence, Tuple, Type, Union
+from typing import TYPE_CHECKING, Any, Callable, Dict, Iterator, Optional, Sequence, Tuple, Type
 
+from ...errors import PicklestepError
 from ..blobs import LimitMet
 from ..results import Note, Place, Result
 from .address import SERVERS, Address
@@ -18,10 +19,10 @@ from .values import Values, key_name
 if TYPE_CHECKING:
     from ..looking import Looker, Options
 
-__all__ = ['IsSilent', 'NoServer', 'Server', 'Task', 'Wanted', 'ask_again', 'looked_by', 'server_of', 'tasks', 'total_of', 'work_on']
+__all__ = ['IsSilent', 'NoServer', 'Server', 'Task', 'Wanted', 'ask_again', 'looked_by', 'server_of', 'tasks', 'total_of']
 
 
-class NoServer(Exception):
+class NoServer(PicklestepError):
     """A server does not answer, refuses, or went away; or its client library is not installed. The text says which."""
 
 
@@ -181,13 +182,6 @@ def total_of(address: Address, wanted: Wanted) -> int:
     except NoServer as error:
         _given_up(address, error)
         return 0
-
-
-def work_on(task: Union[str, Task], options: 'Options') -> Result:
-    """What a task answers: the path of a file, or keys of a server."""
-    from ..looking import look
-
-    return look(task, options) if isinstance(task, str) else task.look(options)
 
 
 def library(*names: str) -> Any:

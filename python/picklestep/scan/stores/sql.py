@@ -5,13 +5,13 @@ A kind of server says how it is asked. All is read in transactions that cannot w
 
 from __future__ import annotations
 
-import re
 from contextlib import closing, contextmanager, nullcontext, suppress
 from dataclasses import dataclass, replace
 from fnmatch import fnmatchcase
 from typing import Any, Callable, ContextManager, Dict, Iterator, List, Optional, Tuple, Type
 from weakref import finalize
 
+from ...patterns import pattern
 from ..blobs import Blob
 from ..results import Place
 from .address import Address
@@ -28,7 +28,7 @@ CONNECT_SECONDS = 10
 ANSWER_SECONDS = 600
 
 # What libraries say where the time for an answer has passed.
-_TIMED_OUT = re.compile(r'timed out|timeout expired')
+_TIMED_OUT = pattern(r'timed out|timeout expired')
 
 
 @dataclass(frozen=True)

@@ -16,11 +16,13 @@ import urllib.parse
 from contextlib import closing, contextmanager, suppress
 from typing import TYPE_CHECKING, Any, Dict, Iterator, List, Optional, Tuple
 
+from ...patterns import pattern
 from ..blobs import Blob, FileBlob
 from ..containers import Held
 from ..results import Place
 from .ends import end_of_sqlite, note_file
-from .values import SMALL, Values, not_looked_at
+from . import SMALL
+from .values import Values, not_looked_at
 
 if TYPE_CHECKING:
     from ..looking import Looker
@@ -31,7 +33,7 @@ __all__ = ['look_into']
 _JOURNAL = b'\xd9\xd5\x05\xf9\x20\xa1\x63\xd7'
 
 # What a statement of the schema makes, and what of it has no values of its own (those of virtual tables are in others).
-_STATEMENT = re.compile(rb'create(?:\s|/\*(?:[^*]|\*(?!/))*\*/|--[^\n]*\n)+(table|view|trigger|index|unique|virtual)\b', re.IGNORECASE)
+_STATEMENT = pattern(rb'create(?:\s|/\*(?:[^*]|\*(?!/))*\*/|--[^\n]*\n)+(table|view|trigger|index|unique|virtual)\b', re.IGNORECASE)
 _WITHOUT_VALUES = ('trigger', 'index', 'unique', 'virtual')
 
 # Stands for a value that is larger than SMALL.

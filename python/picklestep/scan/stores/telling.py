@@ -10,6 +10,7 @@ from typing import Iterator, Set, Tuple
 
 from ..blobs import BytesBlob, LimitMet
 from ..containers import CONTAINERS, MAY_BE_KNOWN, MAY_BE_PACKED, PACKED, ZLIB, kind_of
+from ...patterns import pattern
 from ...unread import kind_of_short
 from ..walk import is_opcode, may_begin, stops_at_end, walk
 from .anywhere import BEGINS_PICKLE, candidates, may_end_text, may_have_candidates, may_have_lines
@@ -25,38 +26,38 @@ _MOST = 512
 # The signs of base64 (in either alphabet) and of hexadecimal, and how many in a row are taken for some.
 SIGNS = b'ABCDEFGHIJKLMNOPQRSTUVWXYZabcdefghijklmnopqrstuvwxyz0123456789+/-_'
 LEAST_RUN = 12
-_RUN = re.compile(b'[' + re.escape(SIGNS) + b']{%d}' % LEAST_RUN)
+_RUN = pattern(b'[' + re.escape(SIGNS) + b']{%d}' % LEAST_RUN)
 
 # What has one of these bytes, and then more, may import. Each pattern begins with one byte, which is searched for quickly.
-_IS_PROTO = re.compile(rb'\x80(?=[\x02-\x05])')
+_IS_PROTO = pattern(rb'\x80(?=[\x02-\x05])')
 _TWO_LINES = rb'\n(?=[A-Za-z_\x80-\xff][^\n]{0,%d}\n)'
-_STACK_GLOBAL = re.compile(rb'\x93')
-_BEHIND_TEXT = re.compile(rb'\x93(?:(?<=[A-Za-z0-9_.\n\x94].)|(?<=[qh]..)|(?<=[rj].....))', re.DOTALL)
-_TEXTS = re.compile(rb'[\x8cXUTVS\x8d]')
-_MARK_OR_TEXT = re.compile(rb'[(X]')
+_STACK_GLOBAL = pattern(rb'\x93')
+_BEHIND_TEXT = pattern(rb'\x93(?:(?<=[A-Za-z0-9_.\n\x94].)|(?<=[qh]..)|(?<=[rj].....))', re.DOTALL)
+_TEXTS = pattern(rb'[\x8cXUTVS\x8d]')
+_MARK_OR_TEXT = pattern(rb'[(X]')
 _MAY_BEGIN = bytes(each for each in range(256) if may_begin(each))
-_BEHIND_COLON = re.compile(b':(?=[' + re.escape(_MAY_BEGIN) + b'])')
+_BEHIND_COLON = pattern(b':(?=[' + re.escape(_MAY_BEGIN) + b'])')
 _BEGUN = bytes(each in _MAY_BEGIN + b'!' for each in range(256))
 
 # How containers begin that can be as short as what is asked here: those that are opened, and those that are noted of short bytes (with the
 # second byte that they have, or 0 where the sign comes later). Then the last byte of a pickle.
 _MAGICS = [each.magic for each in CONTAINERS if each.magic]
-_BEGINS = re.compile(b'[%b' % b''.join(re.escape(magic[:1]) for magic in _MAGICS) + rb'\x00\x02\x04!(*07ALMOP-Ya\xff]')
+_BEGINS = pattern(b'[%b' % b''.join(re.escape(magic[:1]) for magic in _MAGICS) + rb'\x00\x02\x04!(*07ALMOP-Ya\xff]')
 _SECONDS = frozenset(b''.join(magic[1:2] for magic in _MAGICS) + b'\0\xb5*"!ozaL\x06RAbGETD123456789\x15\x7f\xd5<S7')
 _TAR = 257
-_ZLIB = re.compile(ZLIB.sign)
-_STOP = re.compile(rb'\.')
-_ZERO = re.compile(rb'\0')
+_ZLIB = pattern(ZLIB.sign)
+_STOP = pattern(rb'\.')
+_ZERO = pattern(rb'\0')
 _ALL_SIGNS = bytes(97 if each in SIGNS else 46 for each in range(256))
 
 # So many bytes may be before a pickle: a sign of the library, a time, a checksum in hexadecimal with a colon.
 PREFIX = 80
-_PROTO = re.compile(rb'\x80[\x02-\x05]')
+_PROTO = pattern(rb'\x80[\x02-\x05]')
 
 # How packed bytes begin, and base64 or hexadecimal of a pickle with PROTO or of packed bytes.
-_PACKED = re.compile(b'(?=%b)' % b'|'.join(each.stream.behind_few for each in PACKED if each.stream and each.stream.behind_few))
-_AS_TEXT = re.compile(rb'gA[I-X]|eJ[wxyz0-3]|eN[o-r]|eA[EF]|H4sI|800[2-5][2-9][0-9a-fA-F]|1[fF]8[bB]08|78(?:01|5[eE]|9[cC]|[dD][aA])')
-_JSON = re.compile(rb'(?:\xef\xbb\xbf)?[ \t\r\n]*[{\["]')
+_PACKED = pattern(b'(?=%b)' % b'|'.join(each.stream.behind_few for each in PACKED if each.stream and each.stream.behind_few))
+_AS_TEXT = pattern(rb'gA[I-X]|eJ[wxyz0-3]|eN[o-r]|eA[EF]|H4sI|800[2-5][2-9][0-9a-fA-F]|1[fF]8[bB]08|78(?:01|5[eE]|9[cC]|[dD][aA])')
+_JSON = pattern(rb'(?:\xef\xbb\xbf)?[ \t\r\n]*[{\["]')
 
 
 def runs(marked: bytes, least: int) -> Iterator[Tuple[int, int]]:

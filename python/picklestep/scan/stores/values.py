@@ -17,7 +17,7 @@ from ..reading import Summary, is_odd_name, is_plain_name
 from ..results import Pickle, Place
 from ...unread import kind_of_long, kind_of_short
 from ..walk import is_opcode, stops_at_end, walk
-from . import anywhere
+from . import SMALL, anywhere
 from .asking import MOST_BYTES, MOST_PICKLES, NOTHING, answers
 from .early import CUT, Early, EarlySearch, may_be_behind_few
 from .encodings import UNFINISHED, decoded, is_word
@@ -30,10 +30,7 @@ if TYPE_CHECKING:
     from concurrent.futures import Future
     from ..looking import Looker
 
-__all__ = ['SMALL', 'Values', 'key_name', 'not_looked_at']
-
-# Values up to this size, packed or not, are looked at in memory; larger ones as files are.
-SMALL = 8 << 20
+__all__ = ['Values', 'key_name', 'not_looked_at']
 
 # Texts are looked at in windows of this size, each with so much of the next. What is longer and goes on is decoded piece by piece.
 _OVERLAP = 128 << 10

@@ -19,7 +19,7 @@ const MOST_FIRST = 300000; // opcodes that are shown while the rest is read (or 
 const MOST_READ = 8000000; // where these are not more
 const MOST_LINE = 100; // bytes of a line besides texts and the blanks for open marks,
 const MOST_DEEP = 1 << 28; // and of all these blanks
-const MOST_CALLS = 1 << 26; // bytes that are read of `calls`, in which a long name may stand again and again
+const MOST_CALLS = 3 << 26; // bytes that are read of `calls --json`, in which a long name may stand again and again
 const MOST_HOLES = 2000; // words for FRAMEs that are left out
 const SHIFTS = { replace: 0, insert: 1, delete: -1, frame: 1, unframe: -1 };
 
@@ -132,7 +132,7 @@ class Document {
     const calls = new Lines(Infinity);
     const check = ({ whole }) => { if (whole > MOST_CALLS) throw new TooLong(); };
     try {
-      this.run(['calls', ...(this.options.includes('--many') ? [] : ['--first']), ...this.holes()], calls, check);
+      this.run(['calls', '--json', ...(this.options.includes('--many') ? [] : ['--first']), ...this.holes()], calls, check);
     } catch (error) {
       if (!(error instanceof TooLong)) throw error;
       return new Reaches(calls, true);
@@ -210,7 +210,7 @@ class Document {
     const rows = [];
     for (let place = start; place < Math.min(this.lines.length, start + Math.min(count, MOST_LINES)); place += 1) {
       const { offset, code, name, argument, marks } = this.lines.at(place);
-      rows.push([offset, code, name, argument, marks, this.reaches.kindAt(offset), this.breaks.has(place), this.edited.has(place), this.reaches.textAt(offset)]);
+      rows.push([offset, code, name, argument, marks, this.reaches.kindAt(offset), this.breaks.has(place), this.edited.has(place), this.reaches.reachAt(offset)]);
     }
     return rows;
   }
@@ -257,8 +257,8 @@ class Document {
   // An object in a line, and what it imports or calls.
   thing(number) {
     const heap = this.objectLines();
-    if (number < 0 || number >= heap.length) return ['', ''];
-    return [withoutNumber(heap.brief(number)), this.reaches.textOf(number)];
+    if (number < 0 || number >= heap.length) return ['', null];
+    return [withoutNumber(heap.brief(number)), this.reaches.reachOf(number)];
   }
 
   objects(start, count) {
@@ -305,14 +305,14 @@ class Document {
   }
 
   top(words) {
-    const things = words.slice(-MOST_TOP).map((word) => [word, ...(isMark(word) ? ['', ''] : this.thingThen(numberOf(word)))]);
+    const things = words.slice(-MOST_TOP).map((word) => [word, ...(isMark(word) ? ['', null] : this.thingThen(numberOf(word)))]);
     return { things, more: words.length - things.length };
   }
 
   // An object at the cursor, or the one that the opcode there makes, before anything is put into it.
   thingThen(number) {
     if (number < this.made() || number >= this.final.length) return this.thing(number);
-    return [asMade(withoutNumber(this.final.brief(number))), this.reaches.textOf(number)];
+    return [asMade(withoutNumber(this.final.brief(number))), this.reaches.reachOf(number)];
   }
 
   // The objects that hold an object, the first of them.
@@ -336,7 +336,7 @@ class Document {
     const end = Math.min(this.reaches.length, start + Math.min(count, MOST_LINES)), rows = [];
     for (let at = start; at < end; at += 1) {
       const offset = this.reaches.offsets.at(at);
-      rows.push([this.isRead(offset) ? this.lines.placeOf(offset) : null, offset, this.reaches.kindAt(offset), this.reaches.text(at)]);
+      rows.push([this.isRead(offset) ? this.lines.placeOf(offset) : null, offset, this.reaches.kindAt(offset), this.reaches.shownAt(at)]);
     }
     return rows;
   }
@@ -351,8 +351,8 @@ class Document {
     if (isLong) return { source: [], more: 0, isLong: true };
     const offsets = new Numbers();
     for (let place = 0; place < this.listed; place += 1) offsets.add(this.lines.offset(place));
-    const { opcodes, facts, isPart } = this, saidAt = (offset) => this.reaches.saidAt(offset);
-    const lines = sourceOf(this.bytes(), offsets, this.lines.closing, { opcodes, facts, saidAt, isPart }).split('\n').slice(0, -1);
+    const { opcodes, facts, isPart } = this, reachAt = (offset) => this.reaches.wholeAt(offset);
+    const lines = sourceOf(this.bytes(), offsets, this.lines.closing, { opcodes, facts, reachAt, isPart }).split('\n').slice(0, -1);
     const shown = lines.slice(0, MOST_SOURCE_LINES);
     if (this.isPart) shown.push('# The rest of the pickle is not read.');
     return { source: shown, more: Math.max(0, lines.length - MOST_SOURCE_LINES), isLong: false };

@@ -27,9 +27,6 @@ class Failing {
   }
 }
 
-// An argument of which a loader makes no value.
-class Unreadable extends Error {}
-
 // --- Texts and bytes ---
 
 const PLAIN = /^[ -&(-[\]-~]*$/; // what is the same in quotes
@@ -160,47 +157,23 @@ function floatLine(line) {
   return floatSource(isNegative ? -size : size, isNegative);
 }
 
-const ESCAPED = { b: '\b', f: '\f', t: '\t', n: '\n', r: '\r', v: '\v', a: '\x07', '\\': '\\', "'": "'", '"': '"', '\n': '' };
-
-// The bytes that are between the quotes of a line of STRING.
-function unescapedLine(line) {
-  return line.slice(1, -1).replace(/\\(?:([0-7]{1,3})|x([0-9a-fA-F]{2})|([^])|$)/g, (all, octal, hex, sign) => {
-    if (octal) return String.fromCharCode(parseInt(octal, 8) & 255);
-    if (hex) return String.fromCharCode(parseInt(hex, 16));
-    if (sign === undefined || sign === 'x') throw new Unreadable('an escape is not whole');
-    return sign in ESCAPED ? ESCAPED[sign] : all;
-  });
-}
-
 function asciiText(line) {
   if (/[^\0-\x7f]/.test(line)) throw new Unreadable('no ASCII');
   return signsSource([...line]);
-}
-
-// A line of UNICODE. Halves of pairs that are written as two escapes stay two signs.
-function unicodeLine(line) {
-  const signs = [];
-  for (const [all, four, eight, wrong] of line.matchAll(/\\(?:u([0-9a-fA-F]{4})|U([0-9a-fA-F]{8})|([uU])|[^])|[^]/g)) {
-    const code = parseInt(four || eight, 16);
-    if (wrong || code > 0x10ffff) throw new Unreadable('an escape is not whole');
-    if (four || eight) signs.push(String.fromCodePoint(code));
-    else signs.push(...all);
-  }
-  return signsSource(signs);
 }
 
 const LINES = {
   INT: [intLine, (bytes) => `int(${pythonBytes(bytes)}, 0)`],
   LONG: [(line) => wholeSource(pythonWhole(upToNul(line.replace(/L$/, '')))), (bytes) => `int(${pythonBytes(bytes)}, 0)`],
   FLOAT: [floatLine, (bytes) => `float(${pythonBytes(bytes)} + b' is no float')`],
-  STRING: [(line) => asciiText(unescapedLine(line)), failingString],
-  UNICODE: [unicodeLine, (bytes) => `${pythonBytes(bytes)}.decode('raw-unicode-escape')`],
+  STRING: [(line) => asciiText(unescapedLine(line.slice(1, -1))), failingString],
+  UNICODE: [(line) => signsSource(unicodeSigns(line)), (bytes) => `${pythonBytes(bytes)}.decode('raw-unicode-escape')`],
 };
 const ASCII_LINE = [asciiText, (bytes) => `${pythonBytes(bytes)}.decode('ascii')`];
 
 function failingString(bytes) {
   try {
-    return `${pythonBytes(latin(unescapedLine(binary(bytes))))}.decode('ascii')`;
+    return `${pythonBytes(latin(unescapedLine(binary(bytes.slice(1, -1)))))}.decode('ascii')`;
   } catch (error) {
     return `${pythonBytes(bytes.slice(1, -1))}.decode('unicode_escape')`;
   }

@@ -1,17 +1,35 @@
 'use strict';
-// What the pickle imports and calls, by the offsets of the opcodes: the lines of `calls`.
+// What the pickle imports and calls, by the offsets of the opcodes: the lines of `calls --json`, whose fields docs/reference/json.md has.
 
 const IMPORTS = ['import', 'inst'];
-const CALLS = ['inst', 'call', 'new', 'state', 'append', 'set', 'add'];
+const CHANGES = ['state', 'append', 'set', 'add'];
+const CALLS = ['inst', 'call', 'new', ...CHANGES];
+const EVENTS = [...IMPORTS, ...CALLS, 'persistent', 'buffer', 'readonly'];
 
-const MOST_SAID = 4000; // bytes of a line that are shown
+const MOST_SAID = 2000; // bytes of a text that are shown
 const WRAPPER = 'NumpyArrayWrapper'; // the class of joblib that stands for an array
 
 // Where else to look for what is not read here: behind an array of joblib, and in a frame at which reading ended.
 function hintsOf({ arrayAt, fault }, { hints }) {
   const array = arrayAt === null ? [] : [hints.array.replace('{}', arrayAt)];
-  return hints.ofFrames.includes(codeOfWords(fault)) ? [...array, hints.frame.replace('{}', 'source')] : array;
+  return hints.ofFrames.includes(fault) ? [...array, hints.frame.replace('{}', 'source')] : array;
 }
+
+// The fields of a line, whose long texts are cut: how many bytes more they have is in fields that the program does not write.
+function shortened(fields) {
+  for (const [name, value] of Object.entries(fields)) {
+    if (typeof value === 'object') shortened(value);
+    else if (value.length > MOST_SAID) {
+      const bytes = new TextEncoder().encode(value), decoder = new TextDecoder('utf-8', { ignoreBOM: true });
+      Object.assign(fields, { [name]: decoder.decode(bytes.subarray(0, MOST_SAID), { stream: true }), [`${name}_more`]: bytes.length - MOST_SAID });
+    }
+  }
+  return fields;
+}
+
+// Whether a line, or a value in it, has the class that stands for an array.
+const isWrapper = (fields) => (textIn(fields, 'name')?.text || '').endsWith(WRAPPER);
+const hasWrapper = (fields) => isWrapper(fields) || (Array.isArray(fields.args) && fields.args.some(isWrapper));
 
 class Reaches {
   // `isPart`: there are more lines than these, which were too long to be read.
@@ -25,8 +43,8 @@ class Reaches {
     this.makers = new Numbers();
     this.behind = [];
     this.arrayAt = null; // where joblib's first array begins,
-    this.arrays = new Set(); // and what stands for such arrays, as the lines end
-    this.fault = ''; // at which the reading ended
+    this.arrays = new Set(); // and the numbers of what stands for such arrays
+    this.fault = ''; // at which the reading ended, by its code
     this.counts = [0, 0];
     this.read();
   }
@@ -46,17 +64,16 @@ class Reaches {
     const sums = [0, 0];
     let at = 0;
     for (; at < this.lines.length; at += 1) {
-      const line = this.lines.raw(at), begins = reachBegins(line);
-      if (!begins) break;
-      this.offsets.add(begins.offset);
-      this.kinds.push(begins.what);
-      this.watch(line, begins);
+      const fields = this.fieldsAt(at), { kind, offset, object } = fields;
+      if (!EVENTS.includes(kind)) break;
+      this.offsets.add(offset);
+      this.kinds.push(kind);
+      this.watch(fields);
       this.imported.add(sums[0]);
       this.called.add(sums[1]);
-      sums[0] += Number(IMPORTS.includes(begins.what));
-      sums[1] += Number(CALLS.includes(begins.what));
-      const made = madeBy(line);
-      if (made !== null) { this.made.add(made); this.makers.add(at); }
+      sums[0] += Number(IMPORTS.includes(kind));
+      sums[1] += Number(CALLS.includes(kind));
+      if (!CHANGES.includes(kind)) { this.made.add(object); this.makers.add(at); }
     }
     this.sums = sums;
     if (this.isPart) this.counts = sums;
@@ -65,40 +82,49 @@ class Reaches {
   }
 
   // The counts, the container that the bytes begin like, whether an import leads to the unpickler, a line for each part: what loaders may
-  // reach where this reading has ended, and whether frames may be mixed.
+  // reach where this reading has ended, and whether frames may be mixed, with how many opcodes such a loader may take.
   readEnd(from) {
-    let heading = null;
+    let heading = '', mixing = '';
+    const ends = {
+      heading: ({ text }) => { heading = text; },
+      ending: ({ how, code }) => { if (how === 'fault') this.fault = code; },
+      begins: ({ like }) => this.behind.push(`begins like a container: ${like.slice(like.indexOf(' ') + 1)} (picklestep scan looks into it)`),
+      warning: ({ text }) => this.behind.push(text),
+      counts: ({ imports, calls }) => { this.counts = [imports, calls]; },
+    };
+    const inPart = { heading: ends.heading, counts: ({ imports, calls }) => this.behind.push(`${heading} ${imports} imports, ${calls} calls (picklestep calls shows them)`) };
+    const last = {
+      unsure: ({ code, text }) => { if (code === 'U3') this.behind.push(text); },
+      mixes: ({ text }) => { mixing = text; },
+      opcodes: ({ count }) => this.behind.push(`${mixing} ${count} opcodes (picklestep calls shows them)`),
+      too_many_ways: ({ text }) => this.behind.push(text),
+    };
     for (let at = from; at < this.lines.length; at += 1) {
-      const line = this.lines.raw(at);
-      heading = headingOf(line) || heading;
-      const container = containerOf(line), counts = countsOf(line), begins = reachBegins(line);
-      if (begins) this.watch(line, begins);
-      if (!heading) this.fault = closingOf([line], 'fault') || this.fault;
-      if (container && !heading) this.behind.push(`begins like a container: ${container} (picklestep scan looks into it)`);
-      const warning = closingOf([line], 'warning');
-      if (warning && !heading) this.behind.push(`warning: ${warning}`);
-      const unsure = closingOf([line], 'unsure');
-      if (unsure && unsure.startsWith('U3 ')) this.behind.push(`unsure: ${unsure}`);
-      if (counts && !heading) this.counts = counts;
-      else if (counts) this.behind.push(`${heading}: ${counts[0]} imports, ${counts[1]} calls (picklestep calls shows them)`);
+      const fields = this.fieldsAt(at), act = (heading ? inPart : ends)[fields.kind] || last[fields.kind];
+      if (EVENTS.includes(fields.kind)) this.watch(fields);
+      if (act) act(fields);
     }
   }
 
   // joblib goes on by itself where what stands for an array gets its state.
-  watch(line, { offset, what }) {
-    const object = line.slice(line.lastIndexOf('#'));
-    if (what === 'state' && this.arrayAt === null && this.arrays.has(object)) this.arrayAt = offset + 1;
-    else if (what !== 'import' && line.includes(`${WRAPPER}'`) && / as #[0-9]+$/.test(line)) this.arrays.add(object);
+  watch(fields) {
+    const { kind, offset, object } = fields;
+    if (kind === 'state' && this.arrayAt === null && this.arrays.has(object)) this.arrayAt = offset + 1;
+    else if (['call', 'new', 'inst'].includes(kind) && hasWrapper(fields)) this.arrays.add(object);
+  }
+
+  // The fields of a line.
+  fieldsAt(at) {
+    return JSON.parse(this.lines.raw(at));
+  }
+
+  // The same, as the page is given them.
+  shownAt(at) {
+    return shortened({ ...this.fieldsAt(at), text: '' });
   }
 
   get length() {
     return this.offsets.length;
-  }
-
-  // A line without its offset; with its beginning alone where it is long.
-  text(at) {
-    const parts = cutLine(this.lines.text.data.subarray(this.lines.start(at), this.lines.end(at)), 0, MOST_SAID);
-    return withoutOffset(parts.map((part) => ascii.decode(part)).join(''));
   }
 
   // How the line at an offset is coloured: 'call', 'import', 'other' or ''.
@@ -109,21 +135,28 @@ class Reaches {
     return kinds.length ? 'other' : '';
   }
 
-  textAt(offset) {
+  // The line at an offset, or null.
+  lineAt(offset) {
     const at = this.offsets.below(offset);
-    return at < this.length && this.offsets.at(at) === offset ? this.text(at) : '';
+    return at < this.length && this.offsets.at(at) === offset ? at : null;
   }
 
-  // The whole line at an offset.
-  saidAt(offset) {
-    const at = this.offsets.below(offset);
-    return at < this.length && this.offsets.at(at) === offset ? withoutOffset(this.lines.raw(at)) : '';
+  // What the opcode at an offset imports or calls, or null.
+  reachAt(offset) {
+    const at = this.lineAt(offset);
+    return at === null ? null : this.shownAt(at);
   }
 
-  // What is said of the object of a number, where it is imported, called or asked for.
-  textOf(number) {
+  // The same with whole texts.
+  wholeAt(offset) {
+    const at = this.lineAt(offset);
+    return at === null ? null : this.fieldsAt(at);
+  }
+
+  // What is said of the object of a number where it is imported, called or asked for, or null.
+  reachOf(number) {
     const at = this.made.below(number);
-    return at < this.made.length && this.made.at(at) === number ? this.text(this.makers.at(at)) : '';
+    return at < this.made.length && this.made.at(at) === number ? this.shownAt(this.makers.at(at)) : null;
   }
 
   // How many imports and calls are before an offset.

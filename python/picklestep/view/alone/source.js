@@ -115,10 +115,10 @@ function endingOf(closing, lastOffset) {
 }
 
 // The source of a pickle: its bytes, the offsets of its opcodes as far as a loader gets, and how reading ended.
-function sourceOf(content, offsets, closing, { opcodes, facts, saidAt, isPart }) {
+function sourceOf(content, offsets, closing, { opcodes, facts, reachAt, isPart }) {
   Object.assign(MOST, facts.most);
   const { early, isRefused, kept } = endingOf(closing, offsets.length ? offsets.at(offsets.length - 1) : 0);
-  const builder = new Builder(content, opcodes, facts, saidAt);
+  const builder = new Builder(content, opcodes, facts, reachAt);
   for (let at = 0; at < offsets.length - Number(isRefused); at += 1) builder.read(offsets.at(at));
   const left = early ? builder.leave() : [];
   const writer = new Writer(builder.names);
@@ -128,7 +128,7 @@ function sourceOf(content, offsets, closing, { opcodes, facts, saidAt, isPart })
     writer.end(`stack = [${left.map(String).join(', ')}]`, null);
   }
   if (kept) writer.lines.push(`# ${kept} bytes after STOP are not read`);
-  for (const hint of hintsOf({ arrayAt: builder.arrayAt, fault: early }, facts)) writer.lines.push(`# ${hint}`);
+  for (const hint of hintsOf({ arrayAt: builder.arrayAt, fault: codeOfWords(early) }, facts)) writer.lines.push(`# ${hint}`);
   const heads = early || kept || isPart || builder.arrayAt !== null ? facts.headsOfPart : facts.heads;
   const head = Object.entries(facts.helpers).filter(([need]) => builder.needs.has(need)).map(([, text]) => text);
   return `${heads[Number(writer.isCut)]}${head.join('')}${writer.lines.join('\n')}\n`;

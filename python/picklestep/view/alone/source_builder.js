@@ -7,9 +7,9 @@ const LENGTHS = { string1: 1, string4: 4, bytes1: 1, bytes4: 4, bytes8: 8, bytea
   long1: 1, long4: 4 }; // of the lengths before arguments, by their forms
 
 class Builder {
-  // `facts` are what `picklestep source` knows too; `saidAt` answers the line of `calls` for an offset.
-  constructor(content, opcodes, facts, saidAt) {
-    Object.assign(this, { content, facts, saidAt, view: new DataView(content.buffer, content.byteOffset, content.length) });
+  // `facts` are what `picklestep source` knows too; `reachAt` answers the fields of a line of `calls --json` by an offset.
+  constructor(content, opcodes, facts, reachAt) {
+    Object.assign(this, { content, facts, reachAt, view: new DataView(content.buffer, content.byteOffset, content.length) });
     Object.assign(this, { events: [], needs: new Set(), stack: [], results: 0, names: new Names(facts), made: 0, handlers: [] });
     // Where joblib's first array begins; and the class that stands for one, and what is made of it, by their numbers.
     Object.assign(this, { arrayAt: null, arrayClasses: new Set(), arrays: new Set() });
@@ -207,7 +207,7 @@ class Builder {
 
   // Imports a name, and answers how it is called. What Python 3 imports for one of Python 2 the program says.
   import(module, name) {
-    const found = this.protocol >= 3 ? null : oldNames(this.saidAt(this.offset));
+    const found = this.protocol >= 3 ? null : newNames(this.reachAt(this.offset));
     const bound = this.names.bind(...(found || [module, name]), this.made, this.protocol >= 4);
     for (const need of bound.needs) this.needs.add(need);
     if (String(name.value).split('.').at(-1) === WRAPPER) this.arrayClasses.add(this.made);

@@ -10,12 +10,13 @@ const LITERAL_SIGN = /\\(?:x([0-9a-f]{2})|u([0-9a-f]{4})|U([0-9a-f]{8})|([^]))|[
 function nameOfLine(bytes, encoding) {
   if (encoding === 'ascii' && bytes.some((byte) => byte > 127)) return null;
   try {
-    const value = strict.decode(bytes);
-    return { value, shown: signsSource([...value]) };
+    return nameOfText(strict.decode(bytes));
   } catch (error) {
     return null;
   }
 }
+
+const nameOfText = (value) => ({ value, shown: signsSource([...value]) });
 
 // The signs of a text or of bytes that stand in the source in quotes.
 function signsOfLiteral(source) {
@@ -33,9 +34,9 @@ function nameOfEntry(entry) {
 }
 
 // What Python 3 imports for a name of Python 2, by what the program says of the opcode.
-function oldNames(said) {
-  const reach = reachOf(said);
-  return reach && reach.oldModule ? [reach.module, reach.name].map((shown) => nameOfLine(unquoted(shown), 'utf-8')) : null;
+function newNames(reach) {
+  const texts = reach && hasOldName(reach) ? ['module', 'name'].map((part) => textIn(reach, part)?.text ?? null) : [null];
+  return texts.includes(null) ? null : texts.map(nameOfText);
 }
 
 // The names of a source, each for one thing as it is when it is imported: a name which a pickle imports again is another one.

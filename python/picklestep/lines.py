@@ -9,16 +9,18 @@ from bisect import bisect_left, bisect_right
 from itertools import accumulate, compress, islice
 from typing import Callable, Dict, Iterable, Iterator, List, Optional, Sequence, Tuple
 
-from ..errors import ProgramError
-from ..printed import bounded, in_columns
-from ..opcodes import TABLE
-from ..program import Process
-from ..reaches import check_texts
-from ..sources import Input
-from ..tasks import left_out
-from ..texts import ITEM_IN_BYTES, Line, begins_with_offset, frames_in, is_object_at, line_of, offset_at, readonly_count, without_left
+from .errors import ProgramError
+from .listed import shown_code, whole_lines
+from .opcodes import TABLE
+from .printed import bounded, in_columns
+from .program import Process
+from .reaches import check_texts
+from .sources import Input
+from .tasks import left_out
+from .texts import ITEM_IN_BYTES, Line, begins_with_offset, frames_in, is_object_at, line_of, offset_at, without_left
 
-__all__ = ['CODE_BY_NAME', 'CUT', 'Line', 'Lines', 'OpcodeLines', 'add_items', 'cut_text', 'line_of', 'lines_of', 'read_all', 'read_answers', 'read_calls', 'read_lines', 'read_objects', 'shown_code', 'silent']
+__all__ = ['CODE_BY_NAME', 'CUT', 'Line', 'Lines', 'OpcodeLines', 'add_items', 'cut_text', 'line_of', 'lines_of', 'read_all', 'read_answers', 'read_calls', 'read_calls_of', 'read_first', 'read_objects',
+           'silent']
 
 # The most bytes that are kept of a text.
 CUT = 500
@@ -246,6 +248,18 @@ def read_all(given: Input, options: Sequence[str] = (), progress: Callable[[str]
     return listing, objects, calls, is_part
 
 
+def read_calls_of(given: Input, options: Sequence[str] = ()) -> Tuple[bytes, bool]:
+    """The lines of `calls --json` alone, or the first of them, and whether these are only the first."""
+    words = _words(options)[2]
+    with contextlib.ExitStack() as running:
+        def blocks(words: List[str]) -> Iterator[bytes]:
+            return running.enter_context(contextlib.closing(Process([*words, given.path], given.files).blocks()))
+        frames = (frame for lines in whole_lines(blocks(['list', *options])) for frame in frames_in(lines)) if '--unframed' in options else ()
+        holes = running.enter_context(left_out(frames))
+        answer = read_calls(blocks([*words, *holes]), lambda: blocks([word for word in (*words, *holes) if word != '--json']))
+    return answer
+
+
 def _words(options: Sequence[str]) -> List[List[str]]:
     """What the program is asked about a pickle: `list`, `objects` and `calls`."""
     return [['list', *options], ['objects', *options], ['calls', '--json', *([] if '--many' in options else ['--first'])]]
@@ -306,16 +320,22 @@ def add_items(listing: OpcodeLines, given: Input, options: Sequence[str] = ()) -
         begin = end
 
 
-def read_lines(blocks: Iterable[bytes], progress: Callable[[str], None] = silent) -> Lines:
-    """The lines of `objects`."""
-    objects = Lines()
-    _read(objects, blocks, progress, 'objects')
-    return objects
+def read_first(blocks: Iterable[bytes], most: int, progress: Callable[[str], None] = silent) -> Lines:
+    """The first lines of a listing: more than `most` where there are more, and else all."""
+    found = Lines()
+    cutter = _Cutter(found)
+    for block in blocks:
+        cutter.feed(block)
+        progress(f'list: {len(found):,} lines')
+        if len(found) > most:
+            break
+    return found
 
 
 def read_objects(blocks: Iterable[bytes], progress: Callable[[str], None] = silent) -> Lines:
     """The lines of `objects` without the closing lines."""
-    objects = read_lines(blocks, progress)
+    objects = Lines()
+    _read(objects, blocks, progress, 'objects')
     while len(objects) and not is_object_at(objects.text, objects.start(len(objects) - 1)):
         objects.drop_last()
     return objects
@@ -327,11 +347,6 @@ def lines_of(text: str) -> Lines:
     cutter = _Cutter(lines)
     cutter.feed(text.encode('ascii'))
     return lines
-
-
-def shown_code(code: str) -> str:
-    """The code of an opcode as a listing shows it."""
-    return code if '!' <= code <= '~' else f'\\x{ord(code):02x}'
 
 
 _SHOWN_CODES: Dict[bytes, bytes] = {opcode.name.encode('ascii'): shown_code(opcode.letter).encode('ascii') for opcode in TABLE}
@@ -374,15 +389,15 @@ class Makers:
                 codes = bytes(map(_CODE_OF.__getitem__, [line[column:column + 4] for line in batch]))
             self.codes += codes
 
-    def finish(self, objects: Lines, makes_view: Callable[[int, int], bool]) -> None:
-        """Settles what is open when all lines were taken.
+    def finish(self, views: Callable[[], int], makes_view: Callable[[int, int], bool]) -> None:
+        """Settles what is open when all lines were taken. `views` answers how many of the objects are views that can only be read.
 
         READONLY_BUFFER makes no object where its own can only be read already. Where some do not, `makes_view` is given the place of each
         and the number that an object would have there, and answers whether it makes one.
         """
         self._makes = self.codes.translate(_MAKES)
         count = self._makes.count(_PERHAPS)
-        are_all = bool(count) and count == readonly_count(objects.text)
+        are_all = bool(count) and count == views()
         number = begin = 0
         for place in _found(self._makes, _PERHAPS):
             number += self._makes.count(_ONE, begin, place)

@@ -11,11 +11,9 @@ from pathlib import Path
 from typing import Any, Callable, Dict, Generator, Iterable, Iterator, List, Optional, Tuple, Union
 
 from .files import find_files
-from .judges import Judges
+from .judges import Given, Judges
 from .looking import Options
 from .looks import Look
-from .policy.judging import Given, PolicyJudges
-from .policy.reader import read_policy
 from .pool import look_at_all
 from .progress import progress_of
 from .results import Result
@@ -107,12 +105,18 @@ def folder(path: Union[str, 'os.PathLike[str]'], *, policy: Union[str, 'os.PathL
     Raises OSError where a list cannot be read, and PicklestepError where a list or a policy has no meaning.
     """
     given = Given(tuple(allow), tuple(deny))
-    judges = Judges(given.judge()) if policy is None else PolicyJudges(read_policy(Path(policy)), given)
+    judges = Judges(given.judge()) if policy is None else _judges_of_policy(policy, given)
     options = replace(options, digest=True, lists=judges.lists())
     found = find_files([os.fspath(path)])
     results = _in_a_row(found.results, look_at_all([*found.paths, *found.opened], options, jobs))
     total = len(found.results) + len(found.paths) + len(found.opened)
     return Scan(progress_of(results, total, progress), judges)
+
+
+def _judges_of_policy(policy: Union[str, 'os.PathLike[str]'], given: Given) -> Judges:
+    from .policy.judging import PolicyJudges
+    from .policy.reader import read_policy
+    return PolicyJudges(read_policy(Path(policy)), given)
 
 
 def _in_a_row(first: Iterable[Result], results: Generator[Result, None, None]) -> Generator[Result, None, None]:

@@ -9,19 +9,19 @@ from itertools import chain, islice
 from pathlib import Path
 from typing import Any, Callable, Dict, Iterator, List, NamedTuple, Optional, Set, Tuple
 
-from ..addresses import is_in
-from ..answers import Calls
-from ..errors import Refused
-from ..python_source import source
-from ..reaches import CHANGES, IMPORTS, Fields, fields_of, said_in
-from ..records import Reach, Ref
-from ..replies import is_mark, last_words, number_in_word, words_of
-from ..session import SHIFTS, Session
-from ..sources import Input, Source
-from ..tasks import modes
-from ..texts import as_made, broken_places, end_of_texts, held_in, holding, without_number
-from ..wording import shown
+from .addresses import is_in
+from .answers import Calls
+from .errors import Refused
 from .lines import Lines, OpcodeLines, add_items, cut_text, lines_of, read_all, read_answers, silent
+from .python_source import source
+from .reaches import CHANGES, IMPORTS, Fields, fields_of, said_in
+from .records import Reach, Ref
+from .replies import is_mark, last_words, number_in_word, words_of
+from .session import SHIFTS, Session
+from .sources import Input, Source
+from .tasks import modes
+from .texts import as_made, broken_places, end_of_texts, held_at, held_in, is_no_name, named_by_texts, readonly_count, without_number
+from .wording import shown
 
 __all__ = ['MOST_EXACT', 'MOST_TEXT', 'Document', 'Done', 'Fields', 'Reaches', 'around', 'in_a_line', 'places_edited']
 
@@ -41,13 +41,31 @@ _MOST_ARGUMENT = 1 << 16
 _MOST_SOURCE = 1_000_000
 _MOST_SOURCE_BYTES = 1 << 26
 _MOST_SOURCE_LINES = 1000
-# The most letters of a line of `calls` that are shown.
-_MOST_SAID = 4000
+# The most bytes of a text in a line of `calls` that are shown.
+_MOST_SAID = 2000
 _CALLS = ('inst', 'call', 'new', *CHANGES)
 # How closing lines begin that say that not all of a file was read.
 _OF_CONTAINER = 'begins like a container: '
 _WARNING = 'warning: '
 _EARLY = ('refused: ', 'fault: ', 'kept: ', _OF_CONTAINER)
+
+
+# An object in a line, and what it imports or calls.
+Thing = Tuple[str, Optional[Fields]]
+
+
+def shortened(value: Any) -> Any:
+    """The fields of a line, whose long texts are cut: how many bytes more they have is in fields that the program does not write."""
+    if isinstance(value, list):
+        return [shortened(each) for each in value]
+    return dict(chain.from_iterable(_shortened(*field) for field in value.items())) if isinstance(value, dict) else value
+
+
+def _shortened(name: str, value: Any) -> List[Tuple[str, Any]]:
+    content = value.encode('utf-8') if isinstance(value, str) else b''
+    if len(content) <= _MOST_SAID:
+        return [(name, shortened(value))]
+    return [(name, content[:_MOST_SAID].decode('utf-8', 'ignore')), (f'{name}_more', len(content) - _MOST_SAID)]
 
 
 class Reaches:
@@ -99,8 +117,16 @@ class Reaches:
 
     def text(self, at: int) -> str:
         """A line, without its offset; with its beginning alone where it is long."""
+        return cut_text(said_in(self._fields(at)), 2 * _MOST_SAID)
+
+    def _fields(self, at: int) -> Fields:
         start = self._places[at]
-        return cut_text(said_in(fields_of(self.answer.json[start:self.answer.json.index(b'\n', start)])), _MOST_SAID)
+        return fields_of(self.answer.json[start:self.answer.json.index(b'\n', start)])
+
+    def shown(self, at: int) -> Fields:
+        """The fields of a line, as the page is given them."""
+        fields: Fields = shortened({**self._fields(at), 'text': ''})
+        return fields
 
     def texts_at(self, offset: int) -> List[str]:
         """What `calls` says of the opcode at an offset."""
@@ -111,10 +137,15 @@ class Reaches:
         at = bisect_left(self.offsets, offset)
         return self.text(at) if at < len(self.offsets) and self.offsets[at] == offset else ''
 
-    def text_of(self, number: int) -> str:
-        """What is imported, called or asked for as the object of a number, or ''."""
+    def shown_at(self, offset: int) -> Optional[Fields]:
+        """The same as fields."""
+        at = bisect_left(self.offsets, offset)
+        return self.shown(at) if at < len(self.offsets) and self.offsets[at] == offset else None
+
+    def shown_of(self, number: int) -> Optional[Fields]:
+        """What is imported, called or asked for as the object of a number."""
         at = bisect_left(self._made, number)
-        return self.text(self._makers[at]) if at < len(self._made) and self._made[at] == number else ''
+        return self.shown(self._makers[at]) if at < len(self._made) and self._made[at] == number else None
 
     def before(self, offset: int) -> Tuple[int, int]:
         """How many imports and calls are before an offset."""
@@ -225,7 +256,7 @@ class Document:
         self.lines, self._final, self.reaches, self.listed = lines, final, reaches, listed
         here = self.session.where().place
         self._makers = self.lines.makers
-        self._makers.finish(self._final, self._makes_object)
+        self._makers.finish(lambda: readonly_count(final.all()), self._makes_object)
         self.session.goto(here)
 
     def _lists(self, given: Input, places: int, codes: Optional[bytes], progress: Callable[[str], None]) -> Tuple[OpcodeLines, Lines, Reaches, int]:
@@ -253,7 +284,7 @@ class Document:
         for place in range(max(0, start), stop):
             line = self.lines.at(place)
             rows.append([line.offset, line.code, line.name, line.argument, line.marks, self.reaches.kind_at(line.offset),
-                         place in self.breaks, place in self.edited, self.reaches.text_at(line.offset)])
+                         place in self.breaks, place in self.edited, self.reaches.shown_at(line.offset)])
         return rows
 
     def state(self) -> Fields:
@@ -291,6 +322,15 @@ class Document:
         stack = [] if where.end.is_stopped else [entry.number for entry in self.session.stack() if isinstance(entry, Ref)]
         self.session.goto(here)
         return {*where.results, *stack} if why == 'end' else None
+
+    def names_of_imports(self) -> Dict[int, Tuple[int, int]]:
+        """The objects that STACK_GLOBAL takes for names, by the numbers of what it imports."""
+        return {number: (module, name) for number, module, name in named_by_texts(self._final.text)}
+
+    def held_as_data(self, numbers: Set[int]) -> Set[int]:
+        """Which of these others hold, and not only as the names of imports."""
+        heap = self._final.text
+        return {number for number in numbers if any(is_no_name(heap, at) for at in held_at(heap, number))}
 
     def imports(self) -> Iterator[Reach]:
         """What is imported, in its order."""
@@ -331,16 +371,16 @@ class Document:
         heap = self._objects()
         return without_number(heap.brief(number)) if 0 <= number < len(heap) else ''
 
-    def thing(self, number: int) -> Tuple[str, str]:
+    def thing(self, number: int) -> Thing:
         """An object in a line, and what it imports or calls."""
         brief = self.brief(number)
-        return brief, self.reaches.text_of(number) if brief else ''
+        return brief, self.reaches.shown_of(number) if brief else None
 
-    def objects(self, start: int, count: int) -> List[Tuple[str, str]]:
+    def objects(self, start: int, count: int) -> List[Thing]:
         """Objects that were made before the cursor."""
         return [self.thing(number) for number in range(max(0, start), min(self._made(), start + min(count, _MOST_LINES)))]
 
-    def briefs(self, numbers: List[int]) -> Dict[str, Tuple[str, str]]:
+    def briefs(self, numbers: List[int]) -> Dict[str, Thing]:
         """Some objects."""
         return {str(number): self.thing(number) for number in numbers[:_MOST_BRIEFS]}
 
@@ -349,7 +389,7 @@ class Document:
         rows = []
         for at in range(max(0, start), min(len(self.reaches.offsets), start + min(count, _MOST_LINES))):
             offset = self.reaches.offsets[at]
-            rows.append([self.lines.place_of(offset), offset, self.reaches.kind_at(offset), self.reaches.text(at)])
+            rows.append([self.lines.place_of(offset), offset, self.reaches.kind_at(offset), self.reaches.shown(at)])
         return rows
 
     def holds(self, number: int) -> Fields:
@@ -384,22 +424,22 @@ class Document:
         return {'place': self.place, 'before': self._top(before[kept:]), 'after': self._top(after[kept:])}
 
     def _top(self, words: List[str]) -> Fields:
-        shown = [(word, *(('', '') if is_mark(word) else self._thing_then(number_in_word(word)))) for word in words[-_MOST_TOP:]]
+        shown = [(word, *(('', None) if is_mark(word) else self._thing_then(number_in_word(word)))) for word in words[-_MOST_TOP:]]
         return {'things': shown, 'more': len(words) - len(shown)}
 
-    def _thing_then(self, number: int) -> Tuple[str, str]:
+    def _thing_then(self, number: int) -> Thing:
         """An object at the cursor, or the one that the opcode there makes, before anything is put into it."""
         if number < self._made() or number >= len(self._final):
             return self.thing(number)
-        return as_made(without_number(self._final.brief(number))), self.reaches.text_of(number)
+        return as_made(without_number(self._final.brief(number))), self.reaches.shown_of(number)
 
     def _holders(self, number: int) -> List[int]:
         """The objects that hold an object, the first of them."""
         heap, made = self._objects(), self._made()
         found: List[int] = []
-        for match in holding(number).finditer(heap.text):
-            holder = heap.number_at(match.start())
-            is_in_text = end_of_texts(heap.text, *heap.span(holder)) > match.start()
+        for at in held_at(heap.text, number):
+            holder = heap.number_at(at)
+            is_in_text = end_of_texts(heap.text, *heap.span(holder)) > at
             if holder >= made or len(found) == _MOST_HOLDERS:
                 break
             if not is_in_text and holder not in found:
@@ -555,16 +595,20 @@ class Document:
         if is_in(str(path), self.container) or is_in(name, self.container):
             raise ValueError(f'cannot write {shown(name)}: nothing is written into a container')
         if over:
-            self.session.save(path)
+            self._write(path)
         else:
             self._save_new(path)
         return f'saved {path}'
+
+    def _write(self, path: Path) -> None:
+        """Writes the pickle as it is."""
+        self.session.save(path)
 
     def _save_new(self, path: Path) -> None:
         """Saves into a file that was not there, and leaves none where that fails."""
         os.close(os.open(path, os.O_WRONLY | os.O_CREAT | os.O_EXCL, 0o666))
         try:
-            self.session.save(path)
+            self._write(path)
         except BaseException:
             path.unlink()
             raise

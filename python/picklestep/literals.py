@@ -6,8 +6,8 @@ import math
 import struct
 from typing import List, Sequence
 
-from ..listed import Fields, argument_of, content_of
-from ..values import PlainValue, Unreadable, read_form, unescaped
+from .listed import Fields, argument_of, content_of
+from .values import PlainValue, Unreadable, read_form, unescaped
 
 __all__ = ['Failing', 'MOST_DECIMAL_BITS', 'literal', 'of_bytes', 'of_floats', 'of_line', 'of_number', 'of_numbers', 'of_text']
 
