@@ -32,7 +32,7 @@ _TYPES: Dict[str, str] = {
     # Bodies of responses.
     'error': 'error? Error',
     'initialize': '', 'launch': '', 'configurationDone': '', 'disconnect': '', 'terminate': '', 'next': '', 'stepIn': '', 'stepOut': '',
-    'stepBack': '', 'reverseContinue': '', 'goto': '',
+    'stepBack': '', 'reverseContinue': '', 'goto': '', 'pause': '',
     'continue': 'allThreadsContinued? boolean',
     'threads': 'threads Thread*',
     'stackTrace': 'stackFrames StackFrame*, totalFrames? integer',
@@ -62,6 +62,9 @@ _TYPES: Dict[str, str] = {
     '!invalidated': 'areas? string*, threadId? integer, stackFrameId? integer',
     '!memory': 'memoryReference string, offset integer, count integer',
     '!terminated': 'restart? any',
+    '!progressStart': 'progressId string, title string, requestId? integer, cancellable? boolean, message? string, percentage? integer',
+    '!progressUpdate': 'progressId string, message? string, percentage? integer',
+    '!progressEnd': 'progressId string, message? string',
 }
 
 # The requests that each capability says there are.

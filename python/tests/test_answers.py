@@ -10,7 +10,7 @@ import picklestep
 from picklestep import (Brief, Briefs, Change, End, Extension, Global, Object, Opcode, Reach, Ref)
 from picklestep.answers import Calls
 from picklestep.arguments import encoded
-from picklestep.program import seconds_of_programs
+from picklestep.took import seconds_of_programs
 from pickles import HOSTILE, LIST, Known, disassembled, known_opcodes, real_pickles
 
 # Arguments that the program prints as they are in the file, without their newline.
@@ -465,6 +465,14 @@ class Parts(unittest.TestCase):
     def test_an_end_may_be_unsure(self) -> None:
         answer = Calls(told(counts(0, 0), {'kind': 'ending', 'how': 'unsure', 'code': 'U1', 'words': 'frame goes on behind STOP', 'offset': 10}))
         self.assertEqual((answer.end, answer.parts), (End('unsure', 'U1', 'U1 frame goes on behind STOP at 10', 10), ()))
+
+    def test_what_a_mix_may_take_is_no_part(self) -> None:
+        unsure = {'kind': 'unsure', 'code': 'U3', 'words': 'frames may be mixed', 'offset': 10}
+        taken = {'kind': 'taken', 'offset': 23, 'opcode': 'GLOBAL', 'text': "   23: GLOBAL 'm' 'n'"}, {'kind': 'taken', 'offset': 35, 'opcode': 'REDUCE', 'text': ''}
+        answer = Calls(told(counts(0, 0), FAULT, unsure, {'kind': 'mixes'}, *taken, {'kind': 'opcodes', 'count': 2}))
+        self.assertEqual((answer.mixed, answer.mixes, answer.parts), ('U3 frames may be mixed at 10', ("23: GLOBAL 'm' 'n'", '35: REDUCE'), ()))
+        answer = Calls(told(counts(0, 0), FAULT, unsure, {'kind': 'too_many_ways', 'text': 'too many ways to mix frames'}))
+        self.assertEqual((answer.mixed, answer.mixes), ('U3 frames may be mixed at 10', ('too many ways to mix frames',)))
 
     def test_kept_bytes_are_no_other_end(self) -> None:
         answer = Calls(told(counts(0, 0), {**STOPPED, 'kept': 3}))

@@ -1,10 +1,13 @@
-"""`picklestep assemble --save`: a pickle of a text of opcodes, whole or not at all."""
+"""`picklestep assemble --save`, and `picklestep.assemble`: a pickle of a text of opcodes, whole or not at all."""
 
 from __future__ import annotations
 
 import collections
 import datetime
+import math
 import pickle
+import random
+import struct
 import subprocess
 import sys
 import tempfile
@@ -19,6 +22,46 @@ _SHARED = ['a\n\'"\\é']
 _VALUES = (None, [1, -2, 2 ** 70, -2 ** 40, 1.5, True], {'k': (_SHARED, _SHARED), b'\0\xff': {1, 2}}, 'x' * 300, collections.OrderedDict(a=datetime.date(2020, 1, 1)))
 
 
+def _packed(name: str, argument: bytes) -> bytes:
+    """The bytes of an opcode."""
+    return getattr(pickle, name) + argument  # type: ignore[no-any-return]
+
+
+class Texts(unittest.TestCase):
+    """`picklestep.assemble`."""
+
+    def test_frames(self) -> None:
+        """Without its FRAMEs a listing gets those of pickle again."""
+        for value in _VALUES:
+            for protocol in range(6):
+                data = pickle.dumps(value, protocol)
+                text = ''.join(f'{line}\n' for line in picklestep.listing(data).text.splitlines() if ' FRAME ' not in line)
+                with self.subTest(value=value, protocol=protocol):
+                    self.assertEqual(picklestep.assemble(text, frames=protocol >= 4), data)
+        for text in ('', 'NONE', 'PROTO 4\nFRAME 2\nNONE\nSTOP'):
+            with self.subTest(text), self.assertRaises(picklestep.NotConverted):
+                picklestep.assemble(text, frames=True)
+
+    def test_literals(self) -> None:
+        """Bytes and numbers as Python prints them."""
+        some = random.Random(82)
+        payloads = [bytes(some.choice([some.randrange(256), 34, 39, 92]) for _ in range(some.randrange(9))) for _ in range(300)]
+        floats = [struct.unpack('>d', struct.pack('>Q', some.getrandbits(64)))[0] for _ in range(300)]
+        floats = [each for each in floats if not math.isnan(each)] + [0.1, -0.0, 5e-324, 1e308, math.inf, -math.inf]
+        lines = [f'SHORT_BINBYTES {each!r}' for each in payloads] + [f'BINFLOAT {each!r}' for each in floats]
+        wanted = [_packed('SHORT_BINBYTES', bytes([len(each)]) + each) for each in payloads] + [_packed('BINFLOAT', struct.pack('>d', each)) for each in floats]
+        lines += [f'INT {-7}', f'LONG {2 ** 70}L', f'FLOAT {1e300!r}', '7: # INT 8']
+        wanted += [b'I-7\n', b'L%dL\n' % 2 ** 70, b'F1e+300\n']
+        self.assertEqual(picklestep.assemble('\n'.join(lines)), b''.join(wanted))
+
+    def test_what_is_refused(self) -> None:
+        """It is said which line is none, and why."""
+        for line, text in (("BINUNICODE it's", 'the opcode wants a text in quotes'), ('NONE (a note', 'the line goes on behind the argument')):
+            with self.subTest(line), self.assertRaises(picklestep.NotAssembled) as raised:
+                picklestep.assemble(f'STOP\n{line}\n')
+            self.assertEqual((raised.exception.line, raised.exception.text), (2, text))
+
+
 class Assembled(unittest.TestCase):
     """The command, with the texts that `list` prints."""
 
@@ -27,9 +70,9 @@ class Assembled(unittest.TestCase):
         self.addCleanup(folder.cleanup)
         self.folder = Path(folder.name)
 
-    def run_on(self, text: str, word: str, out: str = 'out.pickle') -> Tuple[int, str]:
+    def run_on(self, text: str, word: str, out: str = 'out.pickle', *options: str) -> Tuple[int, str]:
         (self.folder / 'text').write_text(text, 'ascii')
-        done = subprocess.run([sys.executable, '-m', 'picklestep', word, 'text', '--save', out], cwd=self.folder, env=environment(),
+        done = subprocess.run([sys.executable, '-m', 'picklestep', word, *options, 'text', '--save', out], cwd=self.folder, env=environment(),
                               stdout=subprocess.PIPE, stderr=subprocess.PIPE, universal_newlines=True)
         return done.returncode, done.stdout
 
@@ -40,6 +83,11 @@ class Assembled(unittest.TestCase):
                 with self.subTest(value=value, protocol=protocol):
                     self.assertEqual(self.run_on(picklestep.listing(data).text, 'assemble'), (0, ''))
                     self.assertEqual((self.folder / 'out.pickle').read_bytes(), data)
+
+    def test_in_frames(self) -> None:
+        text = "PROTO 4\nBINUNICODE 'a'\nSTOP\n"
+        self.assertEqual(self.run_on(text, 'assemble', 'out.pickle', '--frame'), (0, ''))
+        self.assertEqual(pickle.loads((self.folder / 'out.pickle').read_bytes()), 'a')
 
     def test_what_is_refused(self) -> None:
         """The file that is there stays."""

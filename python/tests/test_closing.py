@@ -13,8 +13,8 @@ import picklestep
 from picklestep import End
 from picklestep.answers import Calls, Listing, Objects, Reached
 from picklestep.tasks import Asked, modes
-from picklestep.texts import ITEMS, OBJECTS, SHOWN, begins_with_offset, closing_of, results_in
-from json_texts import listed
+from picklestep.texts import ITEMS, OBJECTS, SHOWN, begins_with_offset
+from json_texts import listed, made
 from pickles import ROOT, real_pickles
 
 _NUMBER = '(?:0|[1-9][0-9]*)'
@@ -49,11 +49,15 @@ _FORMS: Dict[str, Dict[str, str]] = {
               'B': f'begins like an? (?P<container>{_NAMES}): picklestep scan looks into it',
               'U': f'unsure: (?P<unsure>(?:U1 frame goes on behind STOP|U2 rest of a frame is lost) at (?P<offset>{_NUMBER}))',
               'M': f'unsure: (?P<mixed>U3 frames may be mixed at (?P<offset>{_NUMBER}))',
+              'A': '(?P<taking>a loader that mixes frames may take):',
+              'D': r' *[0-9]+: [A-Z][A-Z0-9_]*(?: .*)?',
+              'N': f'(?P<taken>{_NUMBER}) opcodes',
+              'X': '(?P<too_many>too many ways to mix frames)',
               'W': f'warning: (?P<warning>#{_NUMBER} (?:leads to the unpickler|is a tuple nested deeper than 100))',
               'H': f'(?P<heading>(?:{_READINGS}) may go on):',
               'E': f'it ends: (?:STOP|{_REFUSED_ITEM["R"]}|{_FAULT_LINE["F"]})'}}
 # In which order they stand. A text that is refused for bytes to leave out, which are not there, is that line alone.
-_ORDERS = {'list': '(?:oL?)*(?:K?|F|R)P?', 'objects': 'o*T*(?:F|R)?', 'calls': 'o*B?T(?:KW?|UW?|(?:F|R)?W?U?)(?:Ho+TEW?)*M?'}
+_ORDERS = {'list': '(?:oL?)*(?:K?|F|R)P?', 'objects': 'o*T*(?:F|R)?', 'calls': 'o*B?T(?:KW?|UW?|(?:F|R)?W?U?)(?:Ho+TEW?)*(?:M?(?:AD*N|X))?'}
 _OUTSIDE = re.compile(f'refused: (?P<words>hole {_NUMBER}:{_NUMBER} ends behind the last of {_NUMBER} bytes)\n')
 _PATTERNS = {what: {letter: re.compile(form) for letter, form in forms.items()} for what, forms in _FORMS.items()}
 
@@ -89,6 +93,8 @@ def rows() -> Iterator[Tuple[str, Text]]:
             yield from (('calls', picklestep.calls(content, first=first)) for first in (False, True))
             yield 'calls', picklestep.calls(content, memo_kept=True)
     yield 'calls', picklestep.calls(b'N.', skip=[(1, 9)])
+    # frames in frames, each of which ends before the one around it
+    yield 'calls', picklestep.calls(b''.join(b'\x95' + (3390 - 11 * place).to_bytes(8, 'little') + b'N' for place in range(300)) + b'N' * 400 + b'.')
 
 
 def answers() -> Iterator[Tuple[str, Text]]:
@@ -152,9 +158,7 @@ class ClosingLines(unittest.TestCase):
         forms = forms_of(what, text)
         self.assertRegex(''.join(form.letter for form in forms), f'^{_ORDERS[what]}$')
         for form in forms:
-            if form.letter == 'o':
-                self.assertEqual(closing_of([form.line]), {})
-            else:
+            if form.letter not in 'oD':
                 self.assertFalse(begins_with_offset(form.line))
                 self.assertEqual([pattern for pattern in _TAKEN if pattern.search(form.line)], [])
         if isinstance(answer, Calls):
@@ -175,11 +179,12 @@ class ClosingLines(unittest.TestCase):
         self.assertEqual(answer.left, left)
 
     def check_objects(self, text: str, forms: List[Form]) -> None:
-        answer, objects = Objects(text), [form.line for form in forms if form.letter == 'o']
-        self.assertEqual([f'#{made.number} {made.kind}' for made in answer], [' '.join(line.split(' ')[:2]) for line in objects])
+        answer, objects = Objects(made(text)), [form.line for form in forms if form.letter == 'o']
+        self.assertEqual([f'#{each.number} {each.kind}' for each in answer], [' '.join(line.split(' ')[:2]) for line in objects])
         self.assertEqual(answer.end, end_in(forms))
         results = tuple(form.number('result') for form in forms if form.letter == 'T')
-        self.assertEqual((answer.results, results_in(text, 0)), (results, results))
+        self.assertEqual(answer.results, results)
+        self.assertEqual(answer.text, text)
 
     def check_calls(self, answer: Calls, forms: List[Form]) -> None:
         begins = [at for at, form in enumerate(forms) if form.letter == 'H']
@@ -189,6 +194,9 @@ class ClosingLines(unittest.TestCase):
         container = [form.said['container'] for form in forms if form.letter == 'B']
         self.assertEqual([answer.container], container or [None])
         self.assertEqual([answer.mixed], [form.said['mixed'] for form in forms if form.letter == 'M'] or [None])
+        self.assertEqual(answer.mixes, tuple(form.line.strip() for form in forms if form.letter in 'DX') if answer.mixed else ())
+        taken = [form for form in forms if form.letter == 'D']
+        self.assertEqual(len(taken), number_in(forms, 'N', 'taken') or 0)
         self.assertEqual([part.heading for part in answer.parts], [part[0].said['heading'] for part in parts])
         for part, wanted in zip(answer.parts, parts):
             self.check_part(part, wanted)

@@ -19,6 +19,7 @@ import unittest
 import zipfile
 from pathlib import Path
 from typing import Any, List, Tuple
+from unittest import mock
 
 import picklestep
 from dap_client import Client, Failed, framed, messages_in
@@ -63,6 +64,57 @@ class DapCase(unittest.TestCase):
 
 class Moves(DapCase):
     """Forwards and back."""
+
+    def test_pause(self) -> None:
+        """A run that would take minutes is over at once, on both ways, and goes on from where it was."""
+        client = self.launched(b'\x80\x04' + b'N0' * 30_000 + b'N.')
+        client.type('goto 30000')
+        client.type("break if top == 'never'")
+        places = [client.line()]
+        for command in ('continue', 'reverseContinue'):
+            for _ in range(2):
+                client.events.clear()
+                client.ask(command, threadId=1)
+                self.assertEqual(client.ask('pause', threadId=1), {})
+                self.assertEqual(client.events, [])  # (the answer comes first)
+                self.assertEqual(client.event('stopped'), {'reason': 'pause', 'threadId': 1, 'allThreadsStopped': True})
+                places.append(client.line())
+        self.assertEqual((places[:3], places[2:]), (sorted(places[:3]), sorted(places[2:], reverse=True)))
+        client.ask('pause', threadId=1)
+        self.assertEqual((client.line(), client.events), (places[-1], []))  # (nothing goes on)
+        client.ask('continue', threadId=1)
+        self.assertEqual(client.leave(), 0)
+
+    def test_progress(self) -> None:
+        """Only an editor that shows it is told how long something takes: to open a pickle, and to run."""
+        path = self.file(b'\x80\x04' + b'N0' * 30_000 + b'N.')
+        for is_shown in (True, False):
+            client = self.client()
+            client.ask('initialize', adapterID='pickle', supportsProgressReporting=is_shown)
+            with mock.patch('picklestep.waiting._TOLD_AFTER', 0):
+                client.ask('launch', program=path)
+                told = [each for each in client.events if each['event'].startswith('progress')]
+                if not is_shown:
+                    self.assertEqual(told, [])
+                    continue
+                self.assertEqual((told[0]['event'], told[-1]['event']), ('progressStart', 'progressEnd'))
+                self.assertRegex(told[0]['body']['message'], r' \.\. 0 s$')
+                client.event('initialized')
+                client.configured()
+                client.type("break if top == 'never'")
+                client.ask('continue', threadId=1)
+                client.events.clear()  # (those of the request itself)
+                number = client.event('progressStart')['progressId']
+                client.ask('pause', threadId=1)
+                self.assertEqual(client.event('progressEnd')['progressId'], number)
+                self.assertGreater(int(number), int(told[-1]['body']['progressId']))
+            self.assertEqual((client.event('stopped')['reason'], client.leave()), ('pause', 0))
+
+    def test_long_ways_without_conditions(self) -> None:
+        """They end where a short one does."""
+        client = self.launched(b'\x80\x04' + b'N0' * 60_000 + b'K\x01R.')
+        self.assertEqual((client.go('continue')['text'][:2], client.line()), ('S2', 120_003))
+        self.assertEqual((client.go('reverseContinue')['description'], client.line()), ('You are at the start.', 1))
 
     def test_real_pickles_forwards_and_back(self) -> None:
         """It is where `pickletools` has the opcodes."""
@@ -397,7 +449,7 @@ class Looks(DapCase):
         self.assertEqual(client.ask('evaluate', expression='stack[0]', context='hover')['type'], 'global')
         self.fails(client, 'has no value here', 'evaluate', expression='memo[7]', context='watch')
         self.assertEqual(client.type('reduce', 'hover'), 'Takes arguments and a function, and calls it: this runs code.')
-        for line in ('step', 'set 1 to 2', 'save /dev/null', 'quit', 'nonsense'):
+        for line in ('step', 'set 1 to 2', 'save /dev/null', 'quit', 'nonsense', '!step'):
             self.fails(client, '.', 'evaluate', expression=line, context='watch')
         self.assertEqual(client.line(), 5)
         self.fails(client, 'not made yet', 'evaluate', expression='#3')
@@ -406,6 +458,32 @@ class Looks(DapCase):
         labels = [each['label'] for each in client.ask('completions', text='break im', column=9)['targets']]
         self.assertEqual(labels, ['import'])
         self.assertEqual([each['label'] for each in client.ask('completions', text='help', column=1)['targets']][:2], ['step', 'back'])
+
+    def test_the_command_line_of_kate(self) -> None:
+        """Behind a `!` its watch is a line of the console."""
+        client = self.client()
+        client.ask('initialize', adapterID='qdap')
+        client.ask('launch', program=self.file(SAMPLE))
+        client.event('initialized')
+        client.configured()
+        self.assertIn('>       4 ', client.type('!step 4', 'watch'))
+        self.assertEqual((client.event('stopped')['reason'], client.line()), ('step', 5))
+        self.assertIn("'eve'", client.type("! set 1 to 'eve'", 'watch'))
+        client.event('invalidated')
+        self.assertEqual(client.type('top', 'watch'), "'eve'")
+        self.fails(client, 'C4 no such place', 'evaluate', expression='!goto 99', context='watch')
+        for line, context in (('back', 'watch'), ('!back', 'hover')):
+            self.fails(client, 'is evaluated; ! before the line lets it do others', 'evaluate', expression=line, context=context)
+
+    def test_a_line_of_the_pickle_in_kate(self) -> None:
+        """*Print Value* sends what is selected: it may be a text of the pickle."""
+        client = self.client()
+        client.ask('initialize', adapterID='qdap')
+        client.ask('launch', program=self.file(b'X\x0c\0\0\0!save /tmp/x0X\x01\0\0\0a.'))
+        client.event('initialized')
+        client.configured()
+        self.fails(client, 'this line stands in the pickle', 'evaluate', expression='!save /tmp/x', context='watch')
+        self.assertIn('>       1 ', client.type('!step', 'watch'))
 
     def test_ends(self) -> None:
         for ends in (lambda client: client.type('quit'), lambda client: client.ask('terminate')):
@@ -548,6 +626,8 @@ class Messages(DapCase):
             answer = client.answer()
             self.assertFalse(answer['success'])
             self.assertLess(len(answer['command']), 100)
+            client.send(b'{"type": "request", "seq": 1, "command": "disconnect", "arguments": []}')
+            self.assertFalse(client.answer()['success'])
         self.assertEqual(client.offset(), 0)
 
     def test_arguments_of_any_kind(self) -> None:
@@ -584,7 +664,7 @@ class Messages(DapCase):
                 except Failed as error:
                     is_there = 'there is no request' not in str(error)
                 self.assertEqual(is_there, known.get(name, False), command)
-        for command in ('attach', 'pause', 'setHitCount', 'restart', '__init__'):
+        for command in ('attach', 'setHitCount', 'restart', '__init__'):
             self.fails(client, 'there is no request', command)
 
     def test_a_port(self) -> None:
@@ -622,7 +702,7 @@ class Editors(unittest.TestCase):
         self.assertEqual(debugger['type'], 'pickle')
         self.assertFalse({'main', 'browser', 'activationEvents'} & set(package))
         properties = debugger['configurationAttributes']['launch']['properties']
-        self.assertEqual(set(properties), {'program', 'many', 'unframed', 'files', 'stopOnEntry'})
+        self.assertEqual(set(properties), {'program', 'many', 'unframed', 'whole', 'files', 'stopOnEntry'})
 
 
 if __name__ == '__main__':

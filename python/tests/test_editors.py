@@ -1,5 +1,5 @@
-"""Real clients of `picklestep dap`: Emacs with dap-mode, and Google's go-dap. Each steps through a pickle both ways, hits each kind of breakpoint, edits and
-saves. A client that is not installed is skipped."""
+"""Real clients of `picklestep dap`: Emacs with dap-mode, Google's go-dap, and Kate with its debugger plugin. Each steps through a pickle both ways, hits
+each kind of breakpoint, edits and saves. A client that is not installed is skipped."""
 
 from __future__ import annotations
 
@@ -12,8 +12,10 @@ import sys
 import tempfile
 import unittest
 from pathlib import Path
-from typing import Dict, List
+from typing import Dict, List, Tuple
 
+import picklestep
+from kate import Kate
 from pickles import ROOT
 from scan_support import environment
 
@@ -57,6 +59,16 @@ class Clients(unittest.TestCase):
             found[f'{kind} to the end'], found[f'{kind} to the start'] = ' '.join(shown), ' '.join(shown[::-1])
         return found
 
+    def more_wanted(self, of_place: Dict[int, str]) -> Dict[str, str]:
+        """What Emacs and go-dap print besides: of a line of the Python code, and of the object that the pickle makes."""
+        hits = {'code': ('NEWOBJ', 'breakpoint'), 'change': ('BUILD', 'data breakpoint')}
+        return {f'{kind} to the {end}': f'{of_place[_NAMES.index(name)]} ({why})' for kind, (name, why) in hits.items() for end in ('end', 'start')}
+
+    def line_of_code(self) -> str:
+        """The line of the Python code that makes this object."""
+        ends = f'  # {_OPCODES[_NAMES.index("NEWOBJ")][2]}'
+        return str(1 + next(at for at, line in enumerate(picklestep.source(_DATA, full=False).text.split('\n')) if line.endswith(ends)))
+
     def steps(self) -> List[str]:
         """The arguments that are the same for all."""
         called = _NAMES.index('NEWOBJ')
@@ -89,23 +101,92 @@ class Clients(unittest.TestCase):
 
     def test_go(self) -> None:
         program = self.built()
-        said = self.said([program, *self.steps(), str(_EDITED), repr(_NEW), *_ADAPTER])
+        said = self.said([program, *self.steps(), self.line_of_code(), str(_EDITED), repr(_NEW), *_ADAPTER])
         offsets = {place: str(offset) for place, (_, _, offset) in enumerate(_OPCODES)}
         offsets[len(_OPCODES)] = str(len(_DATA))
         refused = said.pop('refused setVariable')
         self.assertTrue(refused.startswith('refused: C5 behind the cursor'), refused)
-        self.assertEqual(said, {'goes back': 'true', 'entry': 'true', **self.wanted(list(offsets), offsets), 'saved': 'true', 'ended': 'true'})
+        self.assertEqual(said, {'goes back': 'true', 'entry': 'true', **self.wanted(list(offsets), offsets), **self.more_wanted(offsets), 'paused': 'true',
+                                'saved': 'true', 'ended': 'true'})
         self.check_saved()
 
     def test_emacs(self) -> None:
         if shutil.which('emacs') is None or not glob.glob('/usr/share/emacs/site-lisp/elpa/dap-mode-*'):
             self.skipTest('there is no emacs, or no dap-mode')
-        said = self.said(['emacs', '-Q', '--batch', '-l', str(_CLIENTS / 'steps.el'), *self.steps(), f'replace {_EDITED} {_NEW!r}', *_ADAPTER])
+        said = self.said(['emacs', '-Q', '--batch', '-l', str(_CLIENTS / 'steps.el'), *self.steps(), self.line_of_code(), f'replace {_EDITED} {_NEW!r}',
+                          *_ADAPTER])
         places = {place: str(place) for place in range(len(_OPCODES) + 1)}
         edited, was = said.pop('said'), _OPCODES[_EDITED][1]
         self.assertEqual(edited, 'saved b.pickle', was)
-        self.assertEqual(said, {'entry': '0', **self.wanted(list(places), places), 'ended': '0'})
+        self.assertEqual(said, {'entry': '0', **self.wanted(list(places), places), **self.more_wanted(places), 'ended': '0'})
         self.check_saved()
+
+    def test_kate(self) -> None:
+        if shutil.which('kate') is None:
+            self.skipTest('there is no kate')
+        kate = Kate(self.folder, os.path.join(self.folder, 'a.pickle'), _ADAPTER, {**environment(), 'HOME': self.folder})
+        try:
+            kate.start()
+            self.assertEqual(kate.go('continue'), ('entry', 1))
+            self.there_and_back(kate)
+            self.hit_breakpoints(kate)
+            self.edit_and_save(kate)
+            self.use_the_menu(kate)
+        finally:
+            kate.close()
+
+    def runs(self, kate: Kate, line: str, end: int) -> List[Tuple[str, int]]:
+        """Each stop where a line is typed until the last one is at an end."""
+        found = [kate.walk(line)]
+        while found[-1][1] != end:
+            found.append(kate.walk(line))
+        return found
+
+    def there_and_back(self, kate: Kate) -> None:
+        """Steps to the end, over what is behind the mark, and back over all that was before."""
+        marked, last = _NAMES.index('MARK') + 1, len(_OPCODES) + 1
+        on = [*range(2, marked + 1), *range(_NAMES.index('SETITEMS') + 2, last + 1)]
+        self.assertEqual(self.runs(kate, 'next', last), [('step', line) for line in on])
+        self.assertEqual(kate.walk('print !reverse-step'), ('step', last - 1))
+        self.assertEqual(kate.walk(f'jump {marked}'), ('goto', marked))
+        self.assertEqual(self.runs(kate, 'print !reverse-step', 1), [('step', line) for line in range(marked - 1, 0, -1)])
+
+    def hit_breakpoints(self, kate: Kate) -> None:
+        """Hits each kind both ways: those of lines by Kate's own words, the others by those of the shell, which have no kind of the protocol."""
+        lines = {place: str(place + 1) for place in range(len(_OPCODES) + 1)}
+        wanted = self.wanted(list(lines), lines)
+        _, _, line, condition, pattern, offset = self.steps()
+        of_kate = {'line': f'b {line}', 'condition': f'b {line} when {{{condition}}}'}
+        of_shell = {'function': (f'import {pattern}', f'call {pattern}'), 'instruction': (f'*{offset}',), 'call': ('call *',), 'data': ('store 0',)}
+        for kind in (*of_kate, *of_shell):
+            if kind in of_kate:
+                self.assertEqual([each['verified'] for each in kate.set_breakpoint(of_kate[kind])], [True])
+            numbers = [kate.say(f'!break {each}').partition(':')[0] for each in of_shell.get(kind, ())]
+            for way, typed, end in (('end', 'continue', len(_OPCODES) + 1), ('start', 'print !run back', 1)):
+                stops = self.runs(kate, typed, end)[:-1]
+                self.assertEqual(' '.join(f'{at} ({why})' for why, at in stops), wanted[f'{kind} to the {way}'].replace(f'{kind} b', 'b'), kind)
+            if kind in of_kate:
+                self.assertEqual(kate.set_breakpoint(f'boff {line}'), [])
+            for number in numbers:
+                kate.say(f'!clear {number}')
+
+    def edit_and_save(self, kate: Kate) -> None:
+        """Edits by the command line, and saves."""
+        self.assertIn(_NEW, kate.say(f'!replace {_EDITED} {_NEW!r}'))
+        path = os.path.join(self.folder, 'b.pickle')
+        self.assertEqual(kate.say(f'!save {path!r}'), f'saved {path}')
+        self.check_saved()
+
+    def use_the_menu(self, kate: Kate) -> None:
+        """Steps and goes back by keys of the menu, and stops at a breakpoint that is set so."""
+        self.assertEqual([kate.go(word) for word in ('step_in', 'step_over', 'step_in')], [('step', 2), ('step', 3), ('step', 4)])
+        self.assertEqual(kate.go('Escape', 'Up', 'Up', 'Up', 'move_pc'), ('goto', 1))  # (Escape leads to the listing)
+        kate.press('Escape', 'Down', 'Down', 'Down', 'Down')
+        self.assertEqual([each['line'] for each in kate.set_breakpoint()], [5])
+        self.assertEqual(kate.go('continue'), ('breakpoint', 5))
+        kate.press('kill')
+        kate.wait(lambda said: any(each.get('command') == 'disconnect' for each in said))
+        self.assertTrue({'setBreakpoints', 'gotoTargets', 'goto', 'next', 'stepIn', 'continue'} <= {each['command'] for each in kate.asked()})
 
 
 if __name__ == '__main__':

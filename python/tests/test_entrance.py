@@ -4,6 +4,7 @@ from __future__ import annotations
 
 import importlib
 import os
+import pickle
 import re
 import shutil
 import signal
@@ -240,6 +241,14 @@ class Streams(EntranceCase):
                 for words in ('source /dev/stdin', 'mend /dev/fd/0', 'diff a.pkl /dev/stdin'):
                     unread = f'picklestep: cannot read {words.split()[-1]}: Bad file descriptor\n'
                     self.assertEqual(self.in_shell(way, f'{words} <&-'), (2, '', unread), words)
+
+    @unittest.skipUnless(sys.platform == 'linux', 'the limit is that of a shell of Linux')
+    def test_too_little_memory(self) -> None:
+        self.file('a.pkl', pickle.dumps([{'name': f'user{n}', 'jobs': [n, str(n)]} for n in range(30_000)], 4))
+        for words in (['size', 'a.pkl'], ['optimize', 'a.pkl', '--save', 'less.pkl']):
+            run = self.start(['sh', '-c', 'ulimit -v 60000; exec "$@"', 'sh', sys.executable, '-I', str(PACKAGE / 'entrance.py'), *words])
+            self.assertEqual((run.returncode, run.stdout, run.stderr), (2, '', 'picklestep: out of memory\n'), words)
+        self.assertFalse((self.folder / 'less.pkl').exists())
 
     def test_an_interrupted_word(self) -> None:
         """Ctrl-C while a word waits for what it reads ends it without a traceback."""

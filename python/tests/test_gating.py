@@ -5,6 +5,7 @@ from __future__ import annotations
 import collections
 import fractions
 import functools
+import gzip
 import io
 import itertools
 import json
@@ -20,14 +21,14 @@ import unittest.mock
 import zipfile
 import zlib
 from pathlib import Path
-from typing import Any, Dict, Iterator, List, Sequence, Tuple
+from typing import Any, Dict, Iterator, List, Optional, Sequence, Tuple
 
 import picklestep
 import test_shapes
 from evasions import framed, short, wrapper
 from picklestep import library
-from picklestep.records import GateAnswer
-from picklestep.replies import gate_answer
+from picklestep.short_records import GateAnswer
+from picklestep.verdicts import gate_answer
 from picklestep.scan import Judge, passing
 from picklestep.scan.allow import read_lines
 from picklestep.scan.blobs import Blob, Budget, PartMet
@@ -111,12 +112,20 @@ class Answers(unittest.TestCase):
             self.assertEqual((bool(answer), answer.kind, answer.offset, answer.reason), (False, 'other form', offset, reason))
 
     def test_lines(self) -> None:
-        answer = gate_answer('refused: S3 no memo entry 7\n')
+        begin = b'{"kind":"verdict","how":'
+        answer = gate_answer(begin + b'"refused","code":"S3","words":"no memo entry","memo":7,"item":2}\n', lambda: 'refused: S3 no memo entry 7')
         self.assertEqual((answer.passes, answer.kind, answer.reason, answer.offset), (False, 'ended', 'S3 no memo entry 7', None))
-        self.assertEqual(gate_answer('fault: F1 ended at 3\n').offset, 3)
-        for line in ('', 'passes', 'passes\n\n', 'passes ', 'in form\n', 'not a list: line 1 is no entry\n'):
-            with self.assertRaises(LinesError):
-                gate_answer(line)
+        self.assertEqual(answer.line, f'refused: {answer.reason}')
+        self.assertEqual(gate_answer(begin + b'"fault","code":"F1","words":"ended","offset":3,"of_frame":false,"text":""}\n', str).offset, 3)
+        for line in (b'', b'passes', begin + b'"passes"}', begin):
+            with self.assertRaises(picklestep.ProgramError):
+                gate_answer(line, str)
+
+    def test_long_names(self) -> None:
+        """The line for people is too long for that of JSON."""
+        answer = picklestep.gate(b'\x80\x02c' + b'm' * 5000 + b'\nf\nq\0.')
+        self.assertEqual((answer.kind, answer.offset, answer.line), ('not allowed', 2, f'2: not allowed: {answer.reason}'))
+        self.assertGreater(len(answer.line), 5000)
 
     def test_uses(self) -> None:
         for line, passes in ((NAME, True), (f'{NAME}: call', True), (f'{NAME}: call made-fill', True), (f'{NAME}: call made-fill made-state  # why', True),
@@ -318,6 +327,78 @@ class Archives(ScanCase):
             self.assertEqual(picklestep.gate(path, allow=['numpy']), answer)
 
 
+class PackedFiles(ScanCase):
+    """What the gate says of files that gzip or zlib packed, and of arrays of numpy."""
+
+    def test_what_they_open_to_is_looked_at(self) -> None:
+        path = self.folder / 'a.pkl.gz'
+        with gzip.open(path, 'wb') as file:  # (its header has the name of the file)
+            file.write(ORDERED)
+        self.assertEqual(path.read_bytes()[3], 8)
+        for content in (path.read_bytes(), *(gzip.compress(ORDERED, level) for level in range(10)), *(zlib.compress(ORDERED, level) for level in range(10))):
+            path.write_bytes(content)
+            self.assertTrue(picklestep.gate(path, names=[NAME]))
+            answer = picklestep.gate(path, names=[f'{NAME}:'])
+            self.assertEqual((answer.kind, answer.member, answer.offset), ('not allowed', '(gzip)' if content[0] == 31 else '(zlib)', 42))
+            self.assertTrue(picklestep.gate(content, names=[NAME]))
+
+    def test_what_does_not_pass(self) -> None:
+        deep, packed = gzip.compress(archive({'a.pkl': b'N.'})), gzip.compress(b'N.')
+        for content, kind, member, offset, reason in (
+            (deep, 'a container', '(gzip)', None, 'it is not looked at'),
+            (packed * 2, 'other form', None, 22, 'bytes behind the end of the stream'),
+            (packed + bytes(4), 'other form', None, 22, 'bytes behind the end of the stream'),
+            (packed[:-1], 'other form', None, 21, 'the end of a packed file is cut'),
+            (packed[:-1] + b'\1', 'other form', None, 18, 'another size than is told'),
+            (packed[:3] + b'\4' + packed[4:], 'other form', None, 3, 'a header with more than a name'),
+            (b'\x78\x9c' + b'\x07' + bytes(5), 'other form', None, 2, 'no block'),
+        ):
+            answer = picklestep.gate(content, names=['**'])
+            self.assertEqual((answer.passes, answer.kind, answer.member, answer.offset, answer.reason), (False, kind, member, offset, reason))
+
+    def test_mutants_open_to_no_other_bytes(self) -> None:
+        """Where a changed file passes, zlib and gzip make of it what the gate looked at."""
+        chosen = random.Random(79)
+        honest = [pack(pickle.dumps('a' * chosen.randrange(60), 4)) for pack in (gzip.compress, zlib.compress) for _ in range(20)]
+        passed = 0
+        for _ in range(200):
+            content = bytearray(chosen.choice(honest))
+            for _ in range(chosen.randrange(3)):
+                content[chosen.randrange(len(content))] ^= 1 << chosen.randrange(8)
+            made = unpacked(bytes(content))
+            answer = picklestep.gate(bytes(content), names=['**'])
+            passed += answer.passes
+            if answer.passes:
+                self.assertIsNotNone(made, content)
+                self.assertTrue(picklestep.gate(made or b'', names=['**']))
+        self.assertGreater(passed, 20)
+
+    def test_arrays(self) -> None:
+        try:
+            import numpy
+        except ImportError:
+            self.skipTest('numpy is not there')
+        kinds = ('?', 'i1', 'u2', '>i4', 'f2', 'f8', 'c16', 'S3', 'U5', 'V4', 'M8[ns]', 'm8[s]', 'M8')
+        for values in (*(numpy.zeros(shape, kind) for kind in kinds for shape in ((), (0,), (3,), (2, 1, 3))), numpy.asfortranarray(numpy.ones((3, 2)))):
+            path = self.folder / 'a.npy'
+            numpy.save(path, values)
+            self.assertTrue(picklestep.gate(path), (values.dtype, values.shape))
+            self.assertTrue(picklestep.gate(gzip.compress(path.read_bytes())))
+            self.assertFalse(picklestep.gate(path.read_bytes() + b'N'))
+        numpy.save(path, numpy.array([Called(print, (1,)), None]), allow_pickle=True)
+        answer = picklestep.gate(path, allow=['numpy'])
+        self.assertEqual((answer.passes, answer.kind, answer.is_behind_header), (False, 'not allowed', True))
+        self.assertTrue(picklestep.gate(path, allow=['numpy'], names=['builtins.print']))
+
+
+def unpacked(content: bytes) -> Optional[bytes]:
+    """What Python's libraries make of a packed file; None where they refuse it."""
+    try:
+        return gzip.decompress(content) if content[0] == 31 else zlib.decompress(content)
+    except (OSError, EOFError, zlib.error):
+        return None
+
+
 class TheWord(ScanCase):
     """The command."""
 
@@ -353,6 +434,13 @@ class Checked(ScanCase):
     def test_without_a_list_nothing_is_asked(self) -> None:
         with unittest.mock.patch.object(passing, '_ask', side_effect=AssertionError):
             self.assertEqual(picklestep.check(ORDERED), ORDERED)
+
+    def test_an_empty_list_allows_no_name(self) -> None:
+        for words in ({'allow': []}, {'names': ()}, {'allow': iter(()), 'names': None}):
+            for content in (ORDERED, b'cmyapp\nf\n.'):
+                self.assertTrue(self.refused(content, **words))
+            self.assertEqual(picklestep.check(b']K\x01a.', **words), b']K\x01a.')  # type: ignore[arg-type]
+        self.assertEqual(picklestep.check(b'cmyapp\nf\n.'), b'cmyapp\nf\n.')
 
     def test_what_a_call_made(self) -> None:
         self.assertEqual(self.refused(ORDERED, names=[f'{NAME}: call made'])[0].partition(' once')[0], f'pickle: made-fill {NAME}')

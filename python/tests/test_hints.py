@@ -21,7 +21,7 @@ from picklestep.hints import Watch
 from picklestep.place import find_program, is_module
 from picklestep.shell.shell import Shell
 from picklestep.view.command import main as view
-from picklestep.view.document import Document
+from picklestep.document import Document
 from pickles import REAL, chosen, known_opcodes
 from scan_support import environment
 from test_entrance import EntranceCase, ways

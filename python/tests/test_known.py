@@ -132,7 +132,7 @@ REACHING: Dict[str, bytes] = {
 NAMES_THAT_REACH = (
     'pickle._Unpickler pickle._Unpickler.dispatch pickle._Unframer pickle._Unframer.load_frame pickle.Unpickler pickle.Unpickler.load _pickle.Unpickler '
     '_pickle.UnpicklerMemoProxy _pickle.load _pickle.loads joblib.numpy_pickle.NumpyUnpickler joblib.numpy_pickle.NumpyUnpickler.dispatch '
-    'joblib.numpy_pickle_compat.ZipNumpyUnpickler dill._dill.Unpickler pandas.compat.pickle_compat.Unpickler '
+    'joblib.numpy_pickle_compat.ZipNumpyUnpickler dill._dill.Unpickler dill._dill.StockUnpickler pandas.compat.pickle_compat.Unpickler '
     'pandas.compat.pickle_compat.Unpickler.dispatch pandas.compat.pickle_compat._class_locations_map torch._weights_only_unpickler.Unpickler '
     'torch._weights_only_unpickler.Unpickler.load gc.get_objects gc.get_referrers gc.get_referents sys._getframe sys._current_frames sys.settrace '
     'sys.setprofile inspect.currentframe inspect.stack inspect.getouterframes traceback.walk_stack logging.currentframe '

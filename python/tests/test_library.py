@@ -160,7 +160,7 @@ class InProcess(unittest.TestCase):
         self.assertIsNone(library.answer(['calls'], SQUARE))
         many = b'N' * 65_000 + b'.'
         self.assertIsNone(library.answer(['objects'], many, 9 * MB))
-        with self.assertRaises(picklestep.OutOfMemory), mock.patch('picklestep.tasks.run_program', side_effect=picklestep.OutOfMemory('out of memory')):
+        with self.assertRaises(picklestep.OutOfMemory), mock.patch('picklestep.program.run_program', side_effect=picklestep.OutOfMemory('out of memory')):
             picklestep.objects(many, memory=9 * MB)
         self.assertEqual(len(picklestep.objects(many)), 65_000)
 
@@ -196,14 +196,14 @@ class Scan(unittest.TestCase):
     """`scan` asks the library within its limits."""
 
     def test_small_pickles_start_nothing(self) -> None:
-        with mock.patch('picklestep.scan.reading.Process', side_effect=AssertionError('a process was started')):
+        with mock.patch('picklestep.program.Process', side_effect=AssertionError('a process was started')):
             for content in (HOSTILE, b'N.' + HOSTILE, HOSTILE[:-1]):
                 found = look_at_bytes('a.pkl', content).pickles[0]
                 self.assertEqual([one.name for one in found.imports], ['posix.system'])
             self.assertEqual(look_at_bytes('a.pkl', b'N0.').pickles[0].end.offset, 2)
 
     def test_what_takes_more_memory_is_asked_of_the_program(self) -> None:
-        with Asked(BytesBlob(SQUARE)) as asked, mock.patch('picklestep.scan.reading.Process', wraps=Process) as started:
+        with Asked(BytesBlob(SQUARE)) as asked, mock.patch('picklestep.program.Process', wraps=Process) as started:
             found = asked.summary(Budget(Limits())).pickle((), len(SQUARE))
             # (the lines are too long for a text in JSON, so they are asked for once more)
             self.assertEqual((started.call_count, len(found.imports), found.imports[0].count), (2, 1, 5000))

@@ -3,18 +3,20 @@ says (crates/pickle_show/specs: Line, ObjectText), is the line. So nothing of a 
 
 from __future__ import annotations
 
+import json
 import re
 import struct
 import unittest
-from typing import Iterable, Iterator
+from typing import Iterable, Iterator, List
 
 import picklestep
 from picklestep import Opcode
-from picklestep.records import Argument, Change, Object
+from picklestep.listing_records import Change, Object
+from picklestep.records import Argument
 from picklestep.answers import Listing
 from picklestep.tasks import Asked, modes
 from picklestep.texts import object_of
-from json_texts import listed
+from json_texts import listed, made
 from pickles import ROOT, real_pickles
 from test_reaches import decimal, quoted
 
@@ -68,6 +70,11 @@ def rows() -> Iterator[str]:
         yield from (ROOT / 'equipment' / name).read_text('ascii').splitlines()
 
 
+def _fields_of(lines: bytes) -> List[object]:
+    """The fields of each line, in their order. (JSON has two spellings of a newline.)"""
+    return [json.loads(line, object_pairs_hook=list) for line in lines.splitlines()]
+
+
 class Lines(unittest.TestCase):
     """What is read of a line is the line."""
 
@@ -100,8 +107,15 @@ class Lines(unittest.TestCase):
 
     def test_reports_of_real_pickles(self) -> None:
         for name, data in real_pickles().items():
-            with self.subTest(name):
-                self.check(match[0] for match in picklestep.objects(data, many=True).matches())
+            for unframed in (False, True):
+                with self.subTest(name, unframed=unframed), Asked(data, None, None) as asked:
+                    text, answer = asked.answer(['objects', *modes(True, unframed)]), picklestep.objects(data, many=True, unframed=unframed)
+                    self.assertEqual(_fields_of(answer.json), _fields_of(made(text)))
+                    self.assertEqual(answer.text, text)
+                    lines = [line for line in text.splitlines() if line.startswith('#')]
+                    self.check(lines)
+                    self.assertEqual([*map(line_of_object, answer)], [*map(decimal, lines)])
+                    self.assertEqual([answer[at] for at in range(0, len(answer), 7)], [*answer][::7])
 
 
 if __name__ == '__main__':

@@ -43,6 +43,7 @@ from picklestep.scan.containers import CONTAINERS, STORES
 from picklestep.scan.looking import Options
 from picklestep.scan.stores.address import SERVERS as READ_BY
 from picklestep.shell.command import main as shell
+from picklestep.unread import kind_of_short
 from picklestep.view.command import main as view
 from pickles import LIST, REAL, chosen
 from scan_support import HARMLESS, HOSTILE, MODELS, Made, environment, tarred, zip_of
@@ -299,6 +300,8 @@ class Plain(OpenerCase):
         for kind in (*CONTAINERS, *STORES):
             if kind.magic:
                 self.assertTrue(any(kind.magic.startswith(magic) or magic.startswith(kind.magic) for offset, magic in BEGINS if not offset), kind.name)
+            elif kind.modules:
+                self.assertIn(kind.name, [kind_of_short(magic) for _, magic in BEGINS])
         self.assertEqual(set(SERVERS), {f'{scheme}://' for scheme in READ_BY})
         for number, (offset, magic) in enumerate(BEGINS):
             self.file(f'begins_{number}', bytes(offset) + magic + b'\x08\0\x01\xff' * 100)
@@ -367,7 +370,7 @@ class WordsOfThePackage(OpenerCase):
 
     def test_mend(self) -> None:
         before = Path('two.zip').read_bytes()
-        self.assertEqual(self.say(functools.partial(mend, ['two.zip > a.pkl', 'out.pkl']))[:2], (0, 'it is whole\nsaved out.pkl\n'))
+        self.assertEqual(self.say(functools.partial(mend, ['two.zip > a.pkl', 'out.pkl']))[:2], (0, 'it is whole\nsaved out.pkl: the pickle alone, and no container\n'))
         self.assertEqual(Path('out.pkl').read_bytes(), HOSTILE)
         for out in ('two.zip', 'two.zip > a.pkl', 'two.zip > new.pkl'):
             self.assertEqual(self.say(functools.partial(mend, ['two.zip > a.pkl', out]))[::2],
@@ -736,7 +739,7 @@ class Pages(OpenerCase):
 
     def test_using(self) -> None:
         shown = ''.join(f'{line}\n' for block in blocks('common') for line in block)
-        found = re.findall(r'^\$ (picklestep .*)\n((?:[^$].*\n)*)', shown, re.MULTILINE)
+        found = re.findall(r'^\$ \./(picklestep .*)\n((?:[^$].*\n)*)', shown, re.MULTILINE)
         self.assertEqual(len(found), 3)
         command = self.file('bin/picklestep', f'#!/bin/sh\nexec {" ".join(ways()["-I -m"])} "$@"\n'.encode())
         command.chmod(0o755)

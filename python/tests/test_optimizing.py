@@ -3,6 +3,7 @@
 from __future__ import annotations
 
 import collections
+import itertools
 import pickle
 import pickletools
 import subprocess
@@ -15,6 +16,7 @@ import picklestep
 from cut_pickles import Loader, shape, whole_pickles
 from pickles import chosen
 from picklestep import NotConverted
+from picklestep.optimizing import framed, in_frames
 from scan_support import environment
 
 
@@ -58,6 +60,14 @@ class Optimized(unittest.TestCase):
                              (b'\x80\x02N\x940]\x94h\x01a.', b'\x80\x02N0]\x94h\x00a.')):  # (a loader takes MEMOIZE in each protocol)
             with self.subTest(data):
                 self.assertEqual(self.assert_optimized(data), wanted)
+
+    def test_frames_are_those_of_a_session(self) -> None:
+        """Opcodes in frames have the bytes that the edits of a session make."""
+        for count, size in itertools.product((0, 1, 40_000), (1, 65_000, 70_000)):
+            data = pickle.dumps([*range(count), 'x' * size], 3)
+            opcodes = list(picklestep.listing(data))
+            parts = [data[opcode.offset:after] for opcode, after in zip(opcodes, [*(each.offset for each in opcodes[1:]), len(data)])]
+            self.assertEqual(in_frames(parts), framed(data), (count, size))
 
     def test_what_is_refused(self) -> None:
         for data, why in ((b'N', 'F1'), (b'N.N.', 'several pickles'), (b'N.\xff', 'F2'), (b'0.', 'S2')):

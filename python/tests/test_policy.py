@@ -17,7 +17,8 @@ from typing import Any, Dict, List
 from json_schema import assert_fit, faults as schema_faults
 from pickles import ROOT
 from picklestep.scan import look
-from picklestep.scan.policy.judging import Given, PolicyJudges
+from picklestep.scan.judges import Given
+from picklestep.scan.policy.judging import PolicyJudges
 from picklestep.scan.policy.index import RuleIndex
 from picklestep.scan.policy.model import Rule, Target
 from picklestep.scan.policy.patterns import PathPattern, PathPatterns

@@ -25,7 +25,7 @@ import test_renames as shells
 from cut_pickles import shape, whole_pickles
 from pickles import chosen
 from picklestep import NotRenamed
-from picklestep.renaming import files, one
+from picklestep.renaming import files, one, small
 from picklestep.renaming.pairs import pairs_in, pairs_of
 from scan_support import environment
 
@@ -54,6 +54,15 @@ class Pickles(unittest.TestCase):
                 changed += self.assert_renamed(data, *random.Random(seed).choice((
                     ('harmless:Plain', 'harmless:Plainer'), ('collections', 'x' * 300), ('collections:OrderedDict', 'b:O')))) != data
         self.assertGreater(changed, len(seeds) * 2 // 3)
+
+    def test_large_pickles(self) -> None:
+        """They are read in another way."""
+        pairs = {'harmless': 'a.b', 'collections': 'x' * 300}
+        for seed in chosen(range(200), 10):
+            data = shells.dumped(seed)
+            made = picklestep.rename(data, pairs)
+            with self.subTest(seed=seed), mock.patch.object(small, 'MOST', 0):
+                self.assertEqual(picklestep.rename(data, pairs), made)
 
     def test_opcodes_at_random(self) -> None:
         """What no pickler writes is renamed as the shell does, or is left."""
@@ -145,8 +154,9 @@ class Pickles(unittest.TestCase):
             """Replaces the text that is data."""
             found = real(*words)
             return found._replace(edits=[found.edits[0]._replace(place=found.stays[0])])
-        with mock.patch.object(one, 'renaming_of', wrong), self.assertRaises(NotRenamed):
-            picklestep.rename(data, {'collections': 'c'})
+        for most in (small.MOST, 0):
+            with self.subTest(most), mock.patch.object(small, 'MOST', most), mock.patch.object(one, 'renaming_of', wrong):
+                self.assertRaisesRegex(NotRenamed, 'object #0 would be another one', picklestep.rename, data, {'collections': 'c'})
 
 
 class Files(unittest.TestCase):

@@ -26,9 +26,10 @@ from unittest import mock
 import picklestep
 from picklestep import OutOfMemory, ProgramError, Session, TimedOut, TooLarge, entrance, library
 from picklestep import place
-from picklestep import program as running
-from picklestep.program import Process, find_program, seconds_of_programs, time_to_wait
+from picklestep import program as running, took
+from picklestep.program import Process, find_program, time_to_wait
 from picklestep.sources import Input, OwnFile, is_opened
+from picklestep.took import seconds_of_programs
 from pickles import HOSTILE, LIST, chosen
 
 PACKAGE = Path(picklestep.__file__).resolve().parent.parent
@@ -482,8 +483,8 @@ class Untold(unittest.TestCase):
     """Where the system neither tells nor limits what processor time a program takes."""
 
     def setUp(self) -> None:
-        for name in ('resource', '_HAS_POLL', '_HAS_LIMITS'):
-            patch = mock.patch.object(running, name, None)
+        for module, name in ((running, 'resource'), (took, 'resource'), (running, '_HAS_POLL'), (running, '_HAS_LIMITS')):
+            patch = mock.patch.object(module, name, None)
             patch.start()
             self.addCleanup(patch.stop)
 

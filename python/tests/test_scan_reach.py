@@ -73,7 +73,7 @@ class Settled(unittest.TestCase):
         """What ends soon is asked about in this process, whatever its size is."""
         chosen = random.Random(76)
         blobs = [BytesBlob(bytes([chosen.randrange(256) for _ in range(64)]) + bytes(100_000)) for _ in range(500)]
-        with unittest.mock.patch.object(asking, 'run_program', side_effect=AssertionError):
+        with unittest.mock.patch('picklestep.program.run_program', side_effect=AssertionError):
             self.assertLess(sum(reach_of(blob) is not None for blob in blobs), 5)
 
     def test_a_stream_whose_first_bytes_do_not_show_it(self) -> None:
@@ -118,7 +118,7 @@ class Behind(ScanCase):
             raise picklestep.TimedOut('the program took too long')
 
         with unittest.mock.patch.object(asking, '_HEADS', (64,)), unittest.mock.patch.object(asking, '_is_settled', return_value=False), \
-                unittest.mock.patch.object(asking, 'run_program', asked):
+                unittest.mock.patch('picklestep.program.run_program', asked):
             result = look(str(path))
         self.assertTrue(waits)
         self.assertNotIn(None, waits)
@@ -126,7 +126,7 @@ class Behind(ScanCase):
 
     def test_a_program_that_does_not_answer_is_told(self) -> None:
         with unittest.mock.patch.object(asking.library, 'reach', return_value=None), \
-                unittest.mock.patch.object(asking, 'run_program', side_effect=picklestep.TimedOut('the program took too long')):
+                unittest.mock.patch('picklestep.program.run_program', side_effect=picklestep.TimedOut('the program took too long')):
             result = self.look('a.bin', b'N0N0')
         self.assertIn('whether a loader gets anywhere', notes_of(result))
         self.assertTrue([note for note in result.notes if note.missed])
@@ -397,6 +397,11 @@ class Hashes(ScanCase):
         shared = [(number, str(number)) for number in range(50)]
         content = pickle.dumps([shared, [tuple(shared[:number]) for number in range(50)]], 4)
         self.assertNotIn('to hash', notes_of(self.look('a.pkl', content)))
+
+    def test_states(self) -> None:
+        """What a state holds is not hashed."""
+        result = self.look('a.pkl', b'N\x85Nb' * 101 + b'.')
+        self.assertEqual((result.error, 'to hash' in notes_of(result)), (None, False))
 
 
 class Deep(ScanCase):

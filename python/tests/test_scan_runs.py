@@ -26,6 +26,7 @@ from pathlib import Path
 from typing import Callable, Dict, Iterator, List, Tuple
 
 from pickles import chosen
+from picklestep import pool as processes
 from picklestep.program import find_program
 from picklestep.scan import Options, Result, cluster, command, look, look_at_bytes, outputs, pool
 from scan_support import HARMLESS, HOSTILE, MODELS, ScanCase, environment, names_of, python_with
@@ -514,8 +515,8 @@ class AFewWorkers(ScanCase):
     def test_a_worker_answers_in_time(self) -> None:
         paths = [str(self.file(f'{number}.pkl', HOSTILE)) for number in range(5)]
         for turn, count in ((0.0, 1), (60.0, 5)):
-            with unittest.mock.patch.object(pool, '_TURN', turn):
-                self.assertEqual([result.path for result in pool._first_results(paths, pool.Looks(Options()))], paths[:count])
+            with unittest.mock.patch.object(processes, '_TURN', turn):
+                self.assertEqual([result.path for result in processes._first_results(paths, pool.Looks(Options()))], paths[:count])
 
     def test_ctrl_c_while_a_copy_is_made(self) -> None:
         """A copy that it reaches ends without a word, and does nothing that the parent would do."""

@@ -325,7 +325,7 @@ class Edits(unittest.TestCase):
         with tempfile.TemporaryDirectory() as folder, Session(b'N.') as session:
             path = Path(folder, os.fsdecode(b'\xff'))
             path.write_bytes(b'old')
-            opened = mock.patch.object(saving, 'open', create=True, side_effect=PermissionError(errno.EACCES, os.strerror(errno.EACCES)))
+            opened = mock.patch.object(saving.os, 'open', side_effect=PermissionError(errno.EACCES, os.strerror(errno.EACCES)))
             with opened as asked:
                 self.assertRaisesRegex(picklestep.ProgramError, 'cannot write: Permission denied', session.save, path)
             self.assertEqual((asked.call_args[0][0], path.read_bytes()), (path, b'old'))

@@ -29,7 +29,7 @@ from picklestep.shell.later import Later
 from picklestep.shell.opened import Opened
 from picklestep.shell.shell import Shell, WordError
 from picklestep.shell.words import OTHERS, SAMPLE, WORDS, whole_word
-from picklestep.view.document import Document
+from picklestep.document import Document
 from pickles import ROOT, changed_pickles, chosen, real_pickles
 from terminals import Terminal, heed_ctrl_c
 
@@ -614,7 +614,7 @@ class Words(unittest.TestCase):
     def test_completions(self) -> None:
         shell = self.shell(SAMPLE)
         for before, wanted in (('ru', ['run']), ('break o', ['opcode']), ('break opcode REDU', ['REDUCE']), ('goto @3', ['@31', '@33', '@35', '@36', '@38', '@39']),
-                               ('break call ', ['oldapp.tasks.send']), ('rename old', ['oldapp.tasks']), ('help who', ['who']), ('replace 3 BINF', ['BINFLOAT'])):
+                               ('break call ', ['oldapp.tasks.send']), ('rename old', ['oldapp.tasks']), ('help wher', ['where']), ('replace 3 BINF', ['BINFLOAT'])):
             self.assertEqual(completions(shell.pickle, before), wanted, before)
 
     def test_the_cursor_stays_at_its_opcode(self) -> None:

@@ -206,11 +206,23 @@ class Displays(unittest.TestCase):
             self.assertIn('`clear 1` takes break 1 away', shell.obey('delete 1'))
             shell.obey('undo')
             self.assertNotIn('clear', shell.obey('delete 2'))
+            before = shell.pickle.content()
+            for line, instead in (('delete', '`clear N`'), ('frame', '`where`'), ('frame 0', '`where`'), ('set var x = 3', 'number of an object')):
+                with self.assertRaisesRegex(WordError, f'^it is: .*{instead}'):
+                    shell.obey(line)
+            self.assertEqual(shell.pickle.content(), before)
+
+    def test_short_words_of_gdb(self) -> None:
+        with Shell(SAMPLE, '') as one, Shell(SAMPLE, '') as other:
+            for line, same in (('break 3', 'break 3'), ('dis 1', 'off 1'), ('en 1', 'on 1'), ('i b', 'break'), ('j 4', 'goto 4'), ('goto 0', 'goto 0'),
+                               ('set var 2 = 41', 'set 2 to 41'), ('set #2=5', 'set 2 to 5')):
+                self.assertEqual(one.obey(line), other.obey(same), line)
+            self.assertEqual(one.pickle.content(), other.pickle.content())
 
     def test_words_of_gdb_that_are_none(self) -> None:
         """What does something of the kind is named."""
         with Shell(SAMPLE, '') as shell:
-            for word, instead in (('tbreak 3', 'until'), ('commands 1', 'display'), ('ignore 1 2', 'condition'), ('d 1', 'clear'), ('up', 'stack')):
+            for word, instead in (('tbreak 3', 'until'), ('tb 3', 'until'), ('commands 1', 'display'), ('ignore 1 2', 'condition'), ('d 1', 'clear'), ('up', 'stack')):
                 with self.assertRaisesRegex(WordError, f'there is no word .*: .*`{instead}'):
                     shell.obey(word)
             shell.obey('goto 8')

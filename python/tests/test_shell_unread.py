@@ -19,7 +19,7 @@ from picklestep import Session
 from picklestep.shell import between
 from picklestep.shell.opened import Opened
 from picklestep.shell.shell import Shell, WordError
-from picklestep.view import document
+from picklestep import document
 from pickles import chosen, real_pickles
 from terminals import Terminal
 

@@ -11,12 +11,14 @@ import subprocess
 import sys
 import tempfile
 import unittest
+from itertools import chain
 from pathlib import Path
 from xml.etree import ElementTree
 
 import picklestep
 from cut_pickles import whole_pickles
 from pickles import chosen
+from picklestep import held
 from scan_support import environment
 
 SHARED = ['shared', 300]
@@ -83,6 +85,27 @@ class Sizes(unittest.TestCase):
         loop: list[object] = []
         loop.append(loop)
         self.assertEqual([each.path for each in picklestep.size(pickle.dumps(loop, 4)).paths], ['result'])
+
+    def test_long_keys(self) -> None:
+        """Each is shown by its first letters, whatever they take in a line."""
+        for letter in ('k', '"', "'", '\\', '\n', '\x7f', '\u00e9', '\u4e2d', '\U0001f600'):
+            for count in (3, 64, 65, 500, 20_000):
+                key = letter * count
+                answer = picklestep.size(pickle.dumps({key: [1] * 20}, 4))
+                self.assertEqual(answer.paths[1].path, f'[{key[:64]!r}{".." * (count > 64)}]', (letter, count))
+        for number in (10**80, -2**2000, 2**3000):
+            self.assertEqual(picklestep.size(pickle.dumps({number: [1] * 20}, 4)).paths[1].path, f'[{str(number)[:64]}..]')
+
+    def test_lines_are_cut_between_letters(self) -> None:
+        for text in ('k', '"', '\\', '\\ud83d', '\x00', '\u4e2d', 'k\U0001f600', '\udc80'):
+            for length in (*range(950, 1100), 5_000, 3_000_000):
+                data = (text * length)[:length].encode('utf-8', 'surrogatepass')
+                field = {'argument_hex': data.hex()} if '\udc80' in text else {'argument': (text * length)[:length]}
+                line = json.dumps({'kind': 'object', 'object': 7, 'is': 'bytearray', **field, 'parts': [1]}, separators=(',', ':')).encode('ascii')
+                cut, = map(json.loads, chain.from_iterable(each.splitlines() for each in held.short_lines([line[:length // 2], line[length // 2:], b'\n'])))
+                name, = field
+                self.assertTrue(field[name].startswith(cut[name]) and len(cut[name]) >= min(len(field[name]), 60), (text, length))
+                self.assertEqual((cut['parts'], 'more' in cut), ([1], cut[name] != field[name]))
 
     def test_memo_and_texts(self) -> None:
         text = b'equal'.decode

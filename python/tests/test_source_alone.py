@@ -19,7 +19,7 @@ from test_source import dumped
 from test_view_alone import MODELS, PAGE
 
 _TOGETHER = 25  # pickles in one input, so that its source is shown whole
-_GENERATED = 1000
+_GENERATED = 250
 # Gives pickles to the worker, one after another, and answers the lines of their sources. It shows none of them.
 _WRITTEN = '''(async () => {
     const written = [];
@@ -125,7 +125,7 @@ class SameSource(unittest.TestCase):
                     made[f'from {first} on'] += dumped(Maker(seed).value(), seed)
         for first in range(0, _GENERATED, _TOGETHER):
             made[f'opcodes from {first} on'] = b''.join(map(opcodes_at_random, range(first, first + _TOGETHER)))
-        self.assertGreater(self.compare(made, (True,)), 20_000)
+        self.assertGreater(self.compare(made, (True,)), 5_000)
 
     def test_edges(self) -> None:
         self.compare({data.hex()[:60]: data for data in _EDGES})

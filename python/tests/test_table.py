@@ -10,7 +10,7 @@ from typing import Any, List
 from scan_support import HARMLESS, HOSTILE, MODELS, Made, ScanCase, zip_of
 from terminals import shown_at
 
-_COUNT = re.compile(r'\r\x1b\[K(?:\d+ of \d+ files)?')  # (the line that counts, which is wiped out)
+_COUNT = re.compile(r'\r\x1b\[K(?:\d+ of \d+ files \.\. \d+ s \(Ctrl-C ends it\))?')  # (the line that counts, which is wiped out)
 
 
 class AtATerminal(ScanCase):

@@ -25,11 +25,11 @@ from unittest import mock
 from urllib.parse import urlsplit
 
 import picklestep
-from picklestep import Refused, Session
+from picklestep import Refused, Session, lines
 from pickles import real_pickles
-from picklestep.view import export, lines
+from picklestep.view import export
 from picklestep.view.command import main
-from picklestep.view.document import Document
+from picklestep.document import Document
 from picklestep.view.opcodes import opcode_table
 from picklestep.view.server import IDLE, SCRIPTS, Viewer
 
@@ -111,14 +111,14 @@ class Documents(unittest.TestCase):
             document.move('goto', 5)
             state = document.state()
             self.assertEqual((state['stack']['words'], state['memo']['words']), (['(0', '#0'], ['5=#0']))
-            self.assertEqual(document.objects(0, 10), [('list +#1', ''), ('int 7', '')])
-            self.assertEqual(document.holds(0), {'parts': [['append', 1, 'int 7', '']], 'more': 0})
+            self.assertEqual(document.objects(0, 10), [('list +#1', None), ('int 7', None)])
+            self.assertEqual(document.holds(0), {'parts': [['append', 1, 'int 7', None]], 'more': 0})
             about = document.about(0)
             self.assertEqual((about['maker'], about['stack'], about['memo'], about['held']), (1, [1], [5], []))
             self.assertEqual(document.about(1)['held'], [0])
             document.move('goto', 3)
             document.state()
-            self.assertEqual(document.objects(0, 10), [('list', '')])
+            self.assertEqual(document.objects(0, 10), [('list', None)])
 
     def test_holders_are_not_read_out_of_texts(self) -> None:
         with opened(pickle.dumps([('(#1 #2)', "' #1"), {'#0': 1}], 2)) as document:
@@ -135,13 +135,14 @@ class Documents(unittest.TestCase):
     def test_what_is_imported_and_called(self) -> None:
         with opened(pickle.dumps([len, len], 4) + b'(.') as document, opened(SYSTEM) as other:
             place = next(place for place in range(len(document.lines)) if document.lines.at(place).code == '\\x93')
-            imported = "import 'builtins' 'len' as #3"
+            imported = {'kind': 'import', 'offset': 31, 'module': 'builtins', 'name': 'len', 'object': 3, 'text': ''}
             self.assertEqual(document.reached(0, 9), [[place, document.lines.offset(place), 'import', imported]])
             self.assertEqual(document.slice(place, 1)[0][8], imported)
             document.move('goto', place + 1)
             document.state()
-            self.assertEqual((document.thing(3), document.thing(2)), (('stack-global (#1 #2)', imported), ("text 'len'", '')))
-            self.assertEqual([row[3] for row in other.reached(0, 9)], ["import 'posix' 'system' as #0", "call 'posix' 'system' ('id') as #3"])
+            self.assertEqual((document.thing(3), document.thing(2)), (('stack-global (#1 #2)', imported), ("text 'len'", None)))
+            self.assertEqual([(row[3]['kind'], row[3].get('args')) for row in other.reached(0, 9)],
+                             [('import', None), ('call', [{'kind': 'text', 'value': 'id'}])])
             self.assertEqual((other.reached(1, 9)[0][0], other.reached(2, 9)), (4, []))
 
     def test_finding(self) -> None:

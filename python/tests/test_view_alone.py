@@ -27,7 +27,7 @@ import firefox
 from chromium import ACCESSIBILITY, CONTRASTS, FILLED, FOCUS_LINE, PROGRAM, READY, SEEN, SETTLED, Browser
 from pickles import REAL, ROOT, known_opcodes, real_pickles
 from picklestep.python_source import source
-from picklestep.view.document import Document
+from picklestep.document import Document
 from picklestep.view.server import Viewer
 
 PAGE = ROOT / 'dist' / 'picklestep.html'
@@ -688,10 +688,11 @@ class Alone(InChromium):
     def test_out_of_memory(self) -> None:
         """It is said, and the page goes on: where nothing was opened, in a step, in an edit, and while the rest is read."""
         self.load()
-        self.limit_memory('module', 600)
+        self.limit_memory('module', 300)  # (fewer bytes than the pickle has)
         large = b'(' + b'K\x01' * 200_000 + b't.'
         self.choose(self.file('largest.pickle', b'(' + b'K\x01' * 10_000_000 + b't.'))
         self.said('not done: out of memory')
+        self.limit_memory('module', 600)
         self.give(self.file('large.pickle', large))
         self.browser.key('Delete')
         self.said('edited 0')
@@ -722,7 +723,7 @@ class Alone(InChromium):
         self.load()
         name = b'X' + (500_000).to_bytes(4, 'little') + b'n' * 500_000 + b'q\0'
         self.give(self.file('names.pickle', name + b'(' + b'h\0h\0\x93' * 1000 + b't.'))
-        self.assertIn('imports and calls: the first 67 alone, long as they are (picklestep calls shows all)', self.texts('#closing')[0])
+        self.assertIn('imports and calls: the first 201 alone, long as they are (picklestep calls shows all)', self.texts('#closing')[0])
         self.assertLess(max(map(len, self.texts('.row .reach'))), 5000)
         self.browser.js("showPane('result')")
         self.browser.js(SETTLED)

@@ -1,5 +1,7 @@
-"""The page of a pickle in a real browser: steps, breakpoints, edits, hostile texts, and a million opcodes.
+"""The page of a pickle in a real browser: steps, breakpoints, edits, and a million opcodes.
 
+The page without a server is compared with this one in test_view_alone, which also looks for texts, reads several pickles, shows hostile texts in
+both pages, and tries widths.
 With PICKLESTEP_LARGE set, a pickle of 200 MB is opened and edited too.
 """
 
@@ -16,11 +18,10 @@ import unittest
 from pathlib import Path
 from typing import Any, List
 
-import picklestep
 from chromium import CONTRASTS, FILLED, PROGRAM, Browser
 from picklestep import Ref, Session
 from picklestep.view.command import _leading_to, main
-from picklestep.view.document import Document
+from picklestep.document import Document
 from picklestep.view.server import Viewer
 
 REAL = Path(__file__).resolve().parent / 'data' / 'models' / 'sklearn_tree.pkl'
@@ -41,9 +42,9 @@ class InBrowser(unittest.TestCase):
         cls.browser = Browser()
         cls.addClassCleanup(cls.browser.close)
 
-    def open(self, source: Any, many: bool = False) -> Viewer:
+    def open(self, source: Any) -> Viewer:
         """Opens the page of a pickle, and waits until it is shown."""
-        document = Document(source, 'a pickle', many)
+        document = Document(source, 'a pickle')
         self.addCleanup(document.close)
         viewer = Viewer(document)
         thread = threading.Thread(target=viewer.serve, daemon=True)
@@ -226,16 +227,6 @@ class InBrowser(unittest.TestCase):
         self.said('refused: ')
         self.assertTrue(self.browser.js("document.querySelector('#said').classList.contains('failed')"))
 
-    def test_hostile_texts_stay_text(self) -> None:
-        self.open(HOSTILE)
-        self.press('End', 5)
-        self.browser.wait("document.querySelectorAll('#objects .thing').length === 4")
-        self.assertIn(f"'{HOSTILE_NAME}' '<b>&amp;'", self.texts('.row .value'))
-        self.assertIn(f"→ '{HOSTILE_NAME}'.'<b>&amp;'", self.texts('.row .reach'))
-        self.assertIn(f"#0 '{HOSTILE_NAME}'.'<b>&amp;'", self.texts('#objects .thing'))
-        self.assertEqual(self.browser.js("document.querySelectorAll('img, b, script:not([src])').length"), 0)
-        self.assertEqual(self.browser.js('document.title'), 'a pickle: picklestep')
-
     def test_the_page_that_leads_to_the_address(self) -> None:
         viewer = self.open(b'N.')
         self.browser.go('about:blank')
@@ -245,37 +236,6 @@ class InBrowser(unittest.TestCase):
             self.browser.wait(READY)
             self.assertEqual(self.browser.js('location.href'), viewer.address)
         self.assertFalse(path.parent.exists())
-
-    def find(self, text: str, place: int) -> None:
-        """Looks for a text from the keyboard, and waits until a place is selected."""
-        self.browser.key('Escape')  # (where the last text was looked for)
-        self.browser.key('/')
-        self.browser.wait("document.activeElement.id === 'sought'")
-        self.browser.type(text)
-        self.found_next(place)
-
-    def found_next(self, place: int) -> None:
-        """Presses Enter, and waits until a place is selected."""
-        self.browser.key('Enter')
-        self.said(f'found at place {place}')
-        self.browser.wait(f"document.querySelector('.row.selected').dataset.place === '{place}'")
-
-    def test_find(self) -> None:
-        self.open(REAL)
-        names = [opcode.name for opcode in picklestep.listing(REAL)]
-        self.find('BUILD', names.index('BUILD'))
-        self.browser.wait("document.querySelector('.row.selected .name').textContent === 'BUILD'")
-        self.find('87', 18)
-        self.assertEqual(self.browser.js("document.querySelector('.row.selected .offset').textContent"), '87')
-        self.find('90', 18)  # (an offset within an opcode is found in it)
-        self.find("'max_", 22)
-        self.found_next(34)
-        self.found_next(37)
-        self.browser.type('absent')
-        self.browser.key('Enter')
-        self.said('not found: ')
-        self.browser.key('Escape')
-        self.assertEqual(self.browser.js('document.activeElement.id'), 'listing')
 
     def test_the_bar_is_dragged(self) -> None:
         self.open(REAL)
@@ -313,13 +273,6 @@ class InBrowser(unittest.TestCase):
         self.assertTrue(self.browser.js("document.querySelector('#read-on').hidden"))
         self.press('n', 6)
 
-    def test_several_pickles(self) -> None:
-        self.open(b'N.' + SYSTEM, many=True)
-        self.press('n', 6)
-        self.press('End', 8)
-        self.assertRegex(self.texts('#where')[0], 'end stopped, result #0 #4$')
-        self.press('ArrowLeft', 7)
-
     def test_the_keyboard_and_a_screen_reader(self) -> None:
         self.open(REAL)
         self.browser.key('?')
@@ -338,12 +291,6 @@ class InBrowser(unittest.TestCase):
         for role in ('listbox', 'option', 'toolbar', 'slider', 'searchbox', 'tree', 'status', 'heading', 'main'):
             self.assertIn(role, roles)
         self.assertEqual((roles['listbox'], roles['tree'], roles['slider']), ('Opcodes', 'Objects', 'Place in the pickle'))
-
-    def test_nothing_is_wider_than_the_page(self) -> None:
-        self.open(REAL)
-        for width in (1280, 600, 360):
-            self.browser.size(width, 900)
-            self.assertLessEqual(self.browser.js('document.documentElement.scrollWidth'), width)
 
     def test_the_page_of_its_own(self) -> None:
         with tempfile.TemporaryDirectory() as folder:

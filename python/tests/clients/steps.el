@@ -1,7 +1,7 @@
 ;;; steps.el --- steps through a pickle with dap-mode  -*- lexical-binding: t -*-
 ;;; Commentary:
 ;; It hits each kind of breakpoint both ways, edits and saves.  Arguments: the pickle, the file to save to, a line of the listing, a condition, a pattern
-;; of names, an offset, an edit and the command of the adapter.  It prints a line for each thing that it did.
+;; of names, an offset, a line of the Python code, an edit and the command of the adapter.  It prints a line for each thing that it did.
 ;;; Code:
 
 (require 'package)
@@ -68,11 +68,11 @@
         (setq place (steps-move (cdr way)))))
     (princ "\n")))
 
-(defun steps-set (kind breakpoints)
-  "Set BREAKPOINTS of KIND, hit them both ways and take them away."
+(defun steps-set (kind breakpoints &optional name)
+  "Set BREAKPOINTS of KIND, hit them both ways and take them away.  They are called NAME, or KIND where there is none."
   (let ((command (format "set%sBreakpoints" (capitalize kind))))
     (steps-ask command (list :breakpoints (vector breakpoints)))
-    (steps-both-ways kind)
+    (steps-both-ways (or name kind))
     (steps-ask command (list :breakpoints []))))
 
 (defun steps-lines (line condition)
@@ -87,24 +87,33 @@
     (steps-both-ways kind)
     (dap-breakpoint-delete-all)))
 
-(defun steps-data ()
-  "Set a breakpoint on the first key of the memo."
+(defun steps-code (line)
+  "Set a breakpoint on LINE of the Python code, as a user does."
+  (find-file (gethash "path" (elt (gethash "sources" (steps-ask "loadedSources" nil)) 1)))
+  (goto-char (point-min))
+  (forward-line (1- line))
+  (dap-breakpoint-add)
+  (steps-both-ways "code")
+  (dap-breakpoint-delete-all))
+
+(defun steps-data (kind name)
+  "Set a breakpoint on the first of the data that the scope NAME has at the end.  It is of this KIND."
   (steps-move "continue")
   (let* ((scopes (gethash "scopes" (steps-ask "scopes" '(:frameId 1))))
-         (memo (seq-find (lambda (scope) (equal (gethash "name" scope) "Memo")) scopes))
-         (rows (gethash "variables" (steps-ask "variables" (list :variablesReference (gethash "variablesReference" memo)))))
-         (datum (steps-ask "dataBreakpointInfo" (list :variablesReference (gethash "variablesReference" memo)
+         (found (seq-find (lambda (scope) (equal (gethash "name" scope) name)) scopes))
+         (rows (gethash "variables" (steps-ask "variables" (list :variablesReference (gethash "variablesReference" found)))))
+         (datum (steps-ask "dataBreakpointInfo" (list :variablesReference (gethash "variablesReference" found)
                                                       :name (gethash "name" (elt rows 0))))))
     (steps-move "reverseContinue")
-    (steps-set "data" (list :dataId (gethash "dataId" datum) :accessType "write"))))
+    (steps-set "data" (list :dataId (gethash "dataId" datum) :accessType "write") kind)))
 
 (defun steps-edit (edit path)
   "Make EDIT at the prompt, and save to PATH."
   (dolist (line (list edit (format "save '%s'" path)))
     (princ (format "said: %s\n" (gethash "result" (steps-ask "evaluate" (list :expression line :context "repl")))))))
 
-(defun steps-main (program path line condition pattern offset edit &rest adapter)
-  "Do all of it with ADAPTER and PROGRAM; the rest is as the page of this file says: PATH, LINE, CONDITION, PATTERN, OFFSET and EDIT."
+(defun steps-main (program path line condition pattern offset code edit &rest adapter)
+  "Do all of it with ADAPTER and PROGRAM; the rest is as the page of this file says: PATH, LINE, CONDITION, PATTERN, OFFSET, CODE and EDIT."
   (advice-add 'dap--on-event :before
               (lambda (_ event) (when (equal (gethash "event" event) "stopped") (setq steps-stopped (gethash "body" event)))))
   (advice-add 'dap--go-to-stack-frame :after (lambda (&rest _) (setq steps-shown t)))
@@ -114,12 +123,14 @@
   (steps-walk "forwards" "stepIn" "end")
   (steps-walk "back" "stepBack" "start")
   (steps-lines (string-to-number line) condition)
+  (steps-code (string-to-number code))
   (steps-set "function" (list :name pattern))
   (steps-set "instruction" (list :instructionReference offset))
   (steps-ask "setExceptionBreakpoints" '(:filters ["call"]))
   (steps-both-ways "call")
   (steps-ask "setExceptionBreakpoints" '(:filters []))
-  (steps-data)
+  (steps-data "data" "Memo")
+  (steps-data "change" "Result")
   (steps-edit edit path)
   (dap-disconnect (dap--cur-session-or-die))
   (let ((process (dap--debug-session-proc (dap--cur-session))))

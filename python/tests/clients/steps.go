@@ -1,7 +1,7 @@
 // A client of Google's go-dap: it steps through a pickle, hits each kind of breakpoint, edits and saves.
 //
-// Arguments: the pickle, the file to save to, a line of the listing, a condition, a pattern of names, an offset, the name of an opcode's row and its new
-// value, and the command of the adapter. It prints a line for each thing that it did.
+// Arguments: the pickle, the file to save to, a line of the listing, a condition, a pattern of names, an offset, a line of the Python code, the name of an
+// opcode's row and its new value, and the command of the adapter. It prints a line for each thing that it did.
 package main
 
 import (
@@ -161,16 +161,19 @@ func (c *client) walk(program string) {
 }
 
 // Sets each kind of breakpoint, hits it both ways, and takes it away.
-func (c *client) breaks(line int, condition string, pattern string, offset string) {
+func (c *client) breaks(line int, condition string, pattern string, offset string, code int) {
 	sources := c.ask("loadedSources", &dap.LoadedSourcesRequest{}).(*dap.LoadedSourcesResponse).Body.Sources
-	lines := func(breakpoints []dap.SourceBreakpoint) {
-		c.ask("setBreakpoints", &dap.SetBreakpointsRequest{Arguments: dap.SetBreakpointsArguments{Source: sources[0], Breakpoints: breakpoints}})
+	lines := func(source int, breakpoints []dap.SourceBreakpoint) {
+		c.ask("setBreakpoints", &dap.SetBreakpointsRequest{Arguments: dap.SetBreakpointsArguments{Source: sources[source], Breakpoints: breakpoints}})
 	}
-	lines([]dap.SourceBreakpoint{{Line: line}})
+	lines(0, []dap.SourceBreakpoint{{Line: line}})
 	c.stops("line")
-	lines([]dap.SourceBreakpoint{{Line: line, Condition: condition}})
+	lines(0, []dap.SourceBreakpoint{{Line: line, Condition: condition}})
 	c.stops("condition")
-	lines(nil)
+	lines(0, nil)
+	lines(1, []dap.SourceBreakpoint{{Line: code}})
+	c.stops("code")
+	lines(1, nil)
 	functions := func(breakpoints []dap.FunctionBreakpoint) {
 		c.ask("setFunctionBreakpoints", &dap.SetFunctionBreakpointsRequest{Arguments: dap.SetFunctionBreakpointsArguments{Breakpoints: breakpoints}})
 	}
@@ -190,15 +193,34 @@ func (c *client) breaks(line int, condition string, pattern string, offset strin
 	exceptions([]string{"call"})
 	c.stops("call")
 	exceptions([]string{})
+	c.data("data", "Memo")
+	c.data("change", "Result")
+}
+
+// Sets a breakpoint on the first of the data that a scope has at the end, hits it both ways, and takes it away.
+func (c *client) data(kind string, scope string) {
 	c.run()
-	reference, memo := c.scope("Memo")
+	reference, rows := c.scope(scope)
 	datum := c.ask("dataBreakpointInfo", &dap.DataBreakpointInfoRequest{Arguments: dap.DataBreakpointInfoArguments{
-		VariablesReference: reference, Name: memo[0].Name}}).(*dap.DataBreakpointInfoResponse).Body
+		VariablesReference: reference, Name: rows[0].Name}}).(*dap.DataBreakpointInfoResponse).Body
 	c.reverse()
 	c.ask("setDataBreakpoints", &dap.SetDataBreakpointsRequest{Arguments: dap.SetDataBreakpointsArguments{
 		Breakpoints: []dap.DataBreakpoint{{DataId: datum.DataId.(string), AccessType: "write"}}}})
-	c.stops("data")
+	c.stops(kind)
 	c.ask("setDataBreakpoints", &dap.SetDataBreakpointsRequest{Arguments: dap.SetDataBreakpointsArguments{Breakpoints: []dap.DataBreakpoint{}}})
+}
+
+// Begins to run to a condition that is never true, and pauses that.
+func (c *client) pause(offset string) {
+	c.ask("setInstructionBreakpoints", &dap.SetInstructionBreakpointsRequest{Arguments: dap.SetInstructionBreakpointsArguments{
+		Breakpoints: []dap.InstructionBreakpoint{{InstructionReference: offset, Condition: "top == 'nowhere'"}}}})
+	c.reverse()
+	c.events = nil
+	c.ask("continue", &dap.ContinueRequest{Arguments: dap.ContinueArguments{ThreadId: 1}})
+	c.ask("pause", &dap.PauseRequest{Arguments: dap.PauseArguments{ThreadId: 1}})
+	fmt.Println("paused:", c.event("stopped").(*dap.StoppedEvent).Body.Reason == "pause")
+	c.ask("setInstructionBreakpoints", &dap.SetInstructionBreakpointsRequest{
+		Arguments: dap.SetInstructionBreakpointsArguments{Breakpoints: []dap.InstructionBreakpoint{}}})
 }
 
 // Edits an opcode: not behind the cursor, but ahead of it. Then it saves.
@@ -218,7 +240,7 @@ func (c *client) edit(row string, value string, path string) {
 
 func main() {
 	given := os.Args[1:]
-	adapter := exec.Command(given[8], given[9:]...)
+	adapter := exec.Command(given[9], given[10:]...)
 	adapter.Stderr = os.Stderr
 	writer, err := adapter.StdinPipe()
 	must(err)
@@ -227,8 +249,9 @@ func main() {
 	must(adapter.Start())
 	c := &client{reader: bufio.NewReader(reader), writer: writer}
 	c.walk(given[0])
-	c.breaks(number(given[2]), given[3], given[4], given[5])
-	c.edit(given[6], given[7], given[1])
+	c.breaks(number(given[2]), given[3], given[4], given[5], number(given[6]))
+	c.pause(given[5])
+	c.edit(given[7], given[8], given[1])
 	must(adapter.Wait())
 	fmt.Println("ended: true")
 }
