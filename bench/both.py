@@ -8,7 +8,8 @@ import os
 import sys
 import tempfile
 
-from measure import FILES, RUNS, SMALL, Writer, heading, instructions, made, measure, verdict
+from bars import at_most, heading, verdict
+from measure import FILES, RUNS, SMALL, Writer, instructions, made, measure, when
 
 TASKS = ('list', 'calls', 'debug')
 # the lines of a conversation: so many steps, and as many back
@@ -39,16 +40,16 @@ def rows(folder: str, programs: tuple[str, str], letter: str, write: Writer, cou
         seconds, other = shortest_by_turns(programs, task, whole, script)
         counted, of_other = (instructions([program, task, small], short) for program in programs)
         longer, more = seconds / other, counted / of_other
-        print('| (%s) %s | %.2f s | %.2f s | %.3f | %.3f | %s | %s |' % (
-            letter, task, seconds, other, longer, more, AS_OTHER, verdict(longer <= AS_OTHER and more <= AS_OTHER)), flush=True)
+        bars = verdict({'times as long': at_most(longer, AS_OTHER, seconds, other), 'times the instructions': at_most(more, AS_OTHER)})
+        print('| (%s) %s | %.2f s | %.2f s | %.3f | %.3f | %s |' % (letter, task, seconds, other, longer, more, bars), flush=True)
     os.unlink(whole)
 
 
 def main() -> None:
     programs, scale = (sys.argv[1], sys.argv[2]), fractions.Fraction(sys.argv[3])
-    print(heading(scale))
-    print('| by turns | the first | the other | times | instructions, times | bar | |')
-    print('|---|---|---|---|---|---|---|')
+    print(when(scale))
+    print(heading('Two programs by turns', f'Bar: {AS_OTHER} times for both.', 'File and command', 'the first', 'the other', 'times as long',
+                  'times the instructions'))
     with tempfile.TemporaryDirectory() as folder:
         for letter, _, write, count in FILES:
             rows(folder, programs, letter, write, int(count * scale), int(STEPS * scale))

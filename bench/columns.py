@@ -1,4 +1,4 @@
-"""Prints tables as docs/why/measured.md has them: rows with bars, from standard input, as columns of text. All else stays as it is."""
+"""Prints tables of Markdown, from standard input, as columns of text. All else stays as it is."""
 
 from __future__ import annotations
 
@@ -7,8 +7,8 @@ import sys
 
 
 def cells(row: str) -> list[str]:
-    """The cells of a row, without the bars between them."""
-    return [cell.strip().replace('`', '').replace('\\|', '|') for cell in re.split(r'(?<!\\)\|', row.strip()[1:-1])]
+    """The cells of a row, without the bars between them, and without what only Markdown needs."""
+    return [cell.strip().replace('`', '').replace('**', '').replace('\\|', '|') for cell in re.split(r'(?<!\\)\|', row.strip()[1:-1])]
 
 
 def show(rows: list[list[str]]) -> None:
@@ -24,7 +24,7 @@ def main() -> None:
     rows: list[list[str]] = []
     for line in [*sys.stdin, '']:
         if line.startswith('|'):
-            if not re.fullmatch(r'[|\-\s]+', line):
+            if not re.fullmatch(r'[|\-:\s]+', line):
                 rows.append(cells(line))
             continue
         if rows:

@@ -20,7 +20,7 @@ from pathlib import Path
 from typing import Any, Callable, Dict, List, Tuple
 
 import chromium
-from scan_and_view import family
+from processes import family
 
 ROOT = Path(__file__).resolve().parent.parent
 ITEMS = 2_000_000

@@ -14,8 +14,11 @@ import struct
 import subprocess
 import sys
 import tempfile
+import textwrap
 from collections.abc import Callable, Sequence
 from typing import BinaryIO, NamedTuple
+
+from bars import at_least, at_most, heading, verdict
 
 # the bars: instructions for each opcode, and how many times as many for twice the file
 INSTRUCTIONS = {'a': 270, 'b': 290, 'c': 180, 'e': 230, 'f': 1500}
@@ -27,8 +30,8 @@ AS_LONG = {'a': 1.3, 'b': 1.3, 'c': 0.8, 'e': 1.1}
 FASTER, BYTES_AN_OPCODE, AS_COPY = 80, 2.6, 2.5
 # how many times as long as `objects` `calls` may take
 AS_OBJECTS = 1.5
-# how many times the instructions of `list` `list --json` may take
-AS_LIST = 2.2
+# how many times the instructions of `list` `list --json` may take, and how many times those of `calls` `gate`
+AS_LIST, AS_CALLS = 2.2, 1.3
 # the most memory on 256 MiB of one-byte opcodes
 MOST_MEMORY = 700_000_000
 # instructions are counted on files of a twenty-fifth of the size
@@ -160,19 +163,15 @@ def megabytes(count: float) -> str:
     return '%.1f' % (count / 1e6)
 
 
-def verdict(holds: bool) -> str:
-    return 'holds' if holds else '**does not hold**'
-
-
 def counted_row(folder: str, program: str, plain: str, letter: str, what: str, write: Writer, count: int) -> str:
     """A line of the table of instructions."""
     once, twice = made(folder, letter, write, count), made(folder, letter, write, 2 * count)
     opcodes, listing = opcodes_of(once), instructions([program, 'list', once])
     factor = instructions([program, 'list', twice]) / listing
-    bar = INSTRUCTIONS.get(letter)
-    good = (bar is None or listing / opcodes <= bar) and factor <= TWICE
-    return '| (%s) %s | %d | %.0f | %s | %.0f | %.3f | %s |' % (
-        letter, what, opcodes, listing / opcodes, bar or '', instructions([plain, once]) / opcodes, factor, verdict(good))
+    bar = INSTRUCTIONS[letter]
+    good = verdict({'`list`': at_most(listing / opcodes, bar), 'twice the file': at_most(factor, TWICE)})
+    return '| (%s) %s | %s | %.0f | %s | %.0f | %.3f | %s |' % (
+        letter, what, format(opcodes, ','), listing / opcodes, bar, instructions([plain, once]) / opcodes, factor, good)
 
 
 def timed_row(folder: str, program: str, plain: str, letter: str, what: str, write: Writer, count: int) -> str:
@@ -183,11 +182,12 @@ def timed_row(folder: str, program: str, plain: str, letter: str, what: str, wri
     theirs = measure([sys.executable, '-m', 'pickletools', path])
     beside = (listing.memory - length) / opcodes
     longer, faster = listing.seconds / bare.seconds, theirs.seconds / listing.seconds
-    good = longer <= AS_LONG[letter] and faster >= FASTER and beside <= BYTES_AN_OPCODE and (listing.status, theirs.status) == (0, 0)
+    good = verdict({'times as long': at_most(longer, AS_LONG[letter], listing.seconds, bare.seconds), 'times faster': at_least(faster, FASTER),
+                    'bytes an opcode': at_most(beside, BYTES_AN_OPCODE), 'status': at_most(max(abs(listing.status), abs(theirs.status)), 0)})
     os.unlink(path)
     return '| (%s) %s | %s | %.2f s | %.2f s | %.2f | %s | %.1f s | %.0f | %s | %.1f | %s |' % (
         letter, what, megabytes(length), listing.seconds, bare.seconds, longer, AS_LONG[letter], theirs.seconds, faster,
-        megabytes(listing.memory), beside, verdict(good))
+        megabytes(listing.memory), beside, good)
 
 
 def called_row(folder: str, program: str, letter: str, what: str, write: Writer, count: int) -> str:
@@ -199,9 +199,9 @@ def called_row(folder: str, program: str, letter: str, what: str, write: Writer,
     theirs, ours = shortest([program, 'objects', whole]), shortest([program, 'calls', whole])
     opcodes, longer = opcodes_of(once), ours.seconds / theirs.seconds
     os.unlink(whole)
-    good = longer <= AS_OBJECTS and growth <= TWICE
+    good = verdict({'twice the file': at_most(growth, TWICE), 'times as long': at_most(longer, AS_OBJECTS, theirs.seconds, ours.seconds)})
     return '| (%s) %s | %.0f | %.0f | %.3f | %.2f s | %.2f s | %.2f | %s |' % (
-        letter, what, calls / opcodes, objects / opcodes, growth, ours.seconds, theirs.seconds, longer, verdict(good))
+        letter, what, calls / opcodes, objects / opcodes, growth, ours.seconds, theirs.seconds, longer, good)
 
 
 def lines_row(folder: str, program: str, letter: str, what: str, write: Writer, count: int) -> str:
@@ -209,8 +209,18 @@ def lines_row(folder: str, program: str, letter: str, what: str, write: Writer, 
     path = made(folder, letter, write, count)
     opcodes, lines, listing = opcodes_of(path), instructions([program, 'list', '--json', path]), instructions([program, 'list', path])
     factor = lines / listing
-    return '| (%s) %s | %.0f | %.0f | %.2f | %s | %s |' % (
-        letter, what, lines / opcodes, listing / opcodes, factor, AS_LIST, verdict(factor <= AS_LIST))
+    return '| (%s) %s | %.0f | %.0f | %.2f | %s |' % (
+        letter, what, lines / opcodes, listing / opcodes, factor, verdict({'times as many': at_most(factor, AS_LIST)}))
+
+
+def gate_row(folder: str, program: str, letter: str, what: str, write: Writer, count: int) -> str:
+    """A line of the table of `gate` against `calls`, with a list of a thousand lines."""
+    path, names = made(folder, letter, write, count), os.path.join(folder, 'names.txt')
+    with open(names, 'w') as file:
+        file.writelines('app.module%d.Name: call(text number) made-state\n' % n for n in range(1000))
+    opcodes, gate, calls = opcodes_of(path), instructions([program, 'gate', names, path]), instructions([program, 'calls', path])
+    return '| (%s) %s | %.0f | %.0f | %.2f | %s |' % (
+        letter, what, gate / opcodes, calls / opcodes, gate / calls, verdict({'times as many': at_most(gate / calls, AS_CALLS)}))
 
 
 def long_string(folder: str, program: str, count: int) -> str:
@@ -223,8 +233,9 @@ def long_string(folder: str, program: str, count: int) -> str:
     factor = listing.seconds / copy.seconds
     os.unlink(path)
     os.unlink(listed)
-    return '(d) One BINBYTES8 of %s MB: %.2f s and %s MB of memory; `cat TEXT | cat` on its listing %.2f s: %.1f times, bar %s: %s.' % (
-        megabytes(count), listing.seconds, megabytes(listing.memory), copy.seconds, factor, AS_COPY, verdict(factor <= AS_COPY))
+    return '| (d) one BINBYTES8 of %s MB, beside `cat` of its listing | %.2f s beside %.2f s: %.1f times as long; %s MB | %s times | %s |' % (
+        megabytes(count), listing.seconds, copy.seconds, factor, megabytes(listing.memory), AS_COPY,
+        verdict({'times as long': at_most(factor, AS_COPY, listing.seconds, copy.seconds)}))
 
 
 def several_row(folder: str, program: str, letter: str, what: str, write: Writer, count: int) -> str:
@@ -236,9 +247,11 @@ def several_row(folder: str, program: str, letter: str, what: str, write: Writer
     counted = instructions([*command, made(folder, letter, write, 2 * count // 25)]) / instructions([*command, made(folder, letter, write, count // 25)])
     os.unlink(once)
     os.unlink(twice)
-    good = factor <= SEVERAL_TWICE and counted <= SEVERAL_TWICE and beside <= BYTES_A_PICKLE and listing.status == 0
-    return '| (%s) %s | %d | %.2f s | %.2f | %.3f | %s | %.1f | %s |' % (
-        letter, what, count, listing.seconds, factor, counted, megabytes(listing.memory), beside, verdict(good))
+    good = verdict({'times as long for twice as many': at_most(factor, SEVERAL_TWICE, listing.seconds),
+                    'times as many instructions for twice as many': at_most(counted, SEVERAL_TWICE),
+                    'bytes a pickle': at_most(beside, BYTES_A_PICKLE), 'status': at_most(abs(listing.status), 0)})
+    return '| (%s) %s | %s | %.2f s | %.2f | %.3f | %s | %.1f | %s |' % (
+        letter, what, format(count, ','), listing.seconds, factor, counted, megabytes(listing.memory), beside, good)
 
 
 def full_file(folder: str, program: str, count: int) -> str:
@@ -246,8 +259,9 @@ def full_file(folder: str, program: str, count: int) -> str:
     path = made(folder, 'n', one_byte_opcodes, count)
     length, listing = os.path.getsize(path), measure([program, 'list', path])
     os.unlink(path)
-    return '(n) %d bytes of `N0`: %.2f s, %s MB of memory, bar %s: %s.' % (
-        length, listing.seconds, megabytes(listing.memory), megabytes(MOST_MEMORY), verdict(listing.memory <= MOST_MEMORY))
+    return '| (n) memory for %s MB of `N0` | %s MB, in %.2f s | %s MB | %s |' % (
+        megabytes(length), megabytes(listing.memory), listing.seconds, megabytes(MOST_MEMORY),
+        verdict({'MB': at_most(listing.memory / 1e6, MOST_MEMORY / 1e6)}))
 
 
 def processor() -> str:
@@ -256,39 +270,57 @@ def processor() -> str:
         return next((line.split(':', 1)[1].strip() for line in file if line.startswith('model name')), platform.machine())
 
 
-def heading(scale: fractions.Fraction) -> str:
-    """When and where it is measured."""
-    return '%s, %d processors (%s), Python %s, scale %s, load %.1f at the start. MB of 1,000,000 bytes.\n' % (
-        datetime.date.today(), os.cpu_count() or 1, processor(), platform.python_version(), scale, os.getloadavg()[0])
+def when(scale: fractions.Fraction) -> str:
+    """When and where it is measured, and what counts under this load and at this scale."""
+    processors, load = os.cpu_count() or 1, os.getloadavg()[0]
+    busy = 'The machine was busy: no time counts.' if load >= processors / 2 else 'The times count if nothing else ran meanwhile.'
+    small = '' if scale == 1 else ' The bars are for scale 1: only compare this with another run of the same scale.'
+    return textwrap.fill('Measured on %s at scale %s, with a load of %.1f at the start, on %d processors (%s) with Python %s. %s%s' % (
+        datetime.date.today(), scale, load, processors, processor(), platform.python_version(), busy, small), 100)
 
 
 def main() -> None:
     program, plain, scale = sys.argv[1], sys.argv[2], fractions.Fraction(sys.argv[3])
-    print(heading(scale))
+    print(when(scale))
     with tempfile.TemporaryDirectory() as folder:
-        print('| Instructions for each opcode | opcodes | list | bar | bare loop | twice the file | |')
-        print('|---|---|---|---|---|---|---|')
+        print(heading('Instructions of `list`', 'How many instructions `list` and the bare loop take for each opcode. It takes long to count them, so the '
+                      'files (a) to (e) are 25 times smaller here than in the next table. (f) is only here. '
+                      f'Bars: the column *bar* for `list`; {TWICE} for twice the file.',
+                      'File', 'opcodes', '`list`', 'bar', 'bare loop', 'twice the file'))
         for letter, what, write, count in FILES:
             print(counted_row(folder, program, plain, letter, what, write, int(count * scale * SMALL)), flush=True)
         print(counted_row(folder, program, plain, 'f', '`N0` above 1,000 marks', under_marks, int(MARKED * scale)), flush=True)
-        print('\n| Time and memory | MB | list | bare loop | times as long | bar | pickletools | times faster | memory, MB | bytes an opcode | |')
-        print('|---|---|---|---|---|---|---|---|---|---|---|')
+        print(heading('Time and memory of `list`', '*Times as long* compares `list` with the bare loop, and *times faster* with `python3 -m pickletools`. '
+                      '*Bytes an opcode* is the memory besides the file. Bars: the column *bar* for times as long; at least '
+                      f'{FASTER} times faster; {BYTES_AN_OPCODE} bytes an opcode.', 'File', 'MB', '`list`', 'bare loop', 'times as long', 'bar',
+                      'pickletools', 'times faster', 'memory, MB', 'bytes an opcode'))
         for letter, what, write, count in FILES:
             print(timed_row(folder, program, plain, letter, what, write, int(count * scale)), flush=True)
-        print('\n| `calls`: instructions for each opcode | calls | objects | twice the file | time, calls | time, objects | times as long | |')
-        print('|---|---|---|---|---|---|---|---|')
+        print(heading('`calls` beside `objects`', 'The first three columns are instructions for each opcode, and for twice the file, counted with files that are '
+                      '25 times smaller than those of the times. '
+                      f'`calls` makes the same objects and prints less. Bars: {AS_OBJECTS} times as long as `objects`; {TWICE} for twice the file.',
+                      'File', '`calls`', '`objects`', 'twice the file', 'time of `calls`', 'time of `objects`', 'times as long'))
         for letter, what, write, count in [*FILES, ('r', 'REDUCE again and again', calls, CALLED)]:
             print(called_row(folder, program, letter, what, write, int(count * scale)), flush=True)
-        print('\n| `list --json`: instructions for each opcode | lines of JSON | list | times as many | bar | |')
-        print('|---|---|---|---|---|---|')
+        print(heading('`list --json` beside `list`', f'Instructions for each opcode, with the small files of the first table. Bar: {AS_LIST} times as many.',
+                      'File', '`list --json`', '`list`', 'times as many'))
         for letter, what, write, count in FILES:
             print(lines_row(folder, program, letter, what, write, int(count * scale * SMALL)), flush=True)
-        print('\n| `list --many` | small pickles | list | twice as many | in instructions | memory, MB | bytes a pickle beside the file | |')
-        print('|---|---|---|---|---|---|---|---|')
+        print(heading('`gate` beside `calls`', 'Instructions for each opcode, with the small files of the first table and a list of 1,000 lines. '
+                      f'Bar: {AS_CALLS} times as many.', 'File', '`gate`', '`calls`', 'times as many'))
+        for letter, what, write, count in FILES:
+            if letter != 'c':  # (that is not in form)
+                print(gate_row(folder, program, letter, what, write, int(count * scale * SMALL)), flush=True)
+        print(heading('`list --many`', 'Many small pickles in one file. Two columns are about a file with twice as many pickles: its time, and its '
+                      'instructions, divided by those of this file. *Bytes a pickle* is the memory besides the file. '
+                      f'Bars: {SEVERAL_TWICE} for twice as many; {BYTES_A_PICKLE} bytes a pickle.',
+                      'File', 'pickles', 'time', 'times as long for twice as many', 'times as many instructions for twice as many', 'memory, MB',
+                      'bytes a pickle'))
         print(several_row(folder, program, 's', '`N.` again and again', small_pickles, int(SEVERAL * scale)), flush=True)
         print(several_row(folder, program, 't', 'the same behind a large pickle', behind_a_large_one, int(SEVERAL * scale)), flush=True)
-        print('\n' + long_string(folder, program, int(LONG_STRING * scale)))
-        print('\n' + full_file(folder, program, int(FULL * scale)))
+        print(heading('Large inputs of `list`', 'One opcode with a long text, and a large file in which each byte is an opcode.', 'Input', 'measured', 'bar'))
+        print(long_string(folder, program, int(LONG_STRING * scale)))
+        print(full_file(folder, program, int(FULL * scale)))
 
 
 if __name__ == '__main__':

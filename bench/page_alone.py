@@ -14,7 +14,7 @@ from pathlib import Path
 from typing import Dict
 
 from chromium import Browser
-from scan_and_view import family, memory
+from processes import family, memory
 
 PAGE = Path(__file__).resolve().parent.parent / 'dist' / 'picklestep.html'
 SIZE = 50_000_000

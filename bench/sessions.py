@@ -1,4 +1,4 @@
-"""sessions.py PROGRAM TESTS SCALE: runs long conversations, and the tests of many edits, and prints the tables."""
+"""sessions.py PROGRAM SCALE: runs long conversations, and many edits, and prints the tables."""
 
 from __future__ import annotations
 
@@ -10,15 +10,14 @@ import tempfile
 import time
 from collections.abc import Sequence
 
+from bars import at_least, at_most, heading, verdict
+from inputs import inserts
+
 # commands a second, how many times as long for twice the way, how many times as long for places by offset, seconds for 10,000 edits at
 # one place and 1,000 at random ones, bytes of memory for each opcode besides the file
 A_SECOND, TWICE, BY_OFFSET, ONE_PLACE, RANDOM_PLACES, BYTES_AN_OPCODE = 2_000_000, 2.3, 2, 0.1, 5, 90
 # microseconds for a line over a pipe and its answer
 A_LINE = 20
-
-
-def verdict(holds: bool) -> str:
-    return 'holds' if holds else '**does not hold**'
 
 
 def measure(command: Sequence[str], script: bytes = b'') -> tuple[float, int]:
@@ -44,9 +43,9 @@ def conversation_row(program: str, what: str, once: tuple[str, bytes], twice: tu
     """A line of the table of conversations: each a file and a script; the second has twice as many commands, or opcodes."""
     (first, memory), (second, _) = (min(measure([program, 'debug', path, *options], script) for _ in range(3)) for path, script in (once, twice))
     first, rate = max(first, 0.01), commands / max(first, 0.01)
-    good = second / first <= TWICE and (commands == 0 or rate >= A_SECOND)
+    good = verdict({**({'commands a second': at_least(rate, A_SECOND)} if commands else {}), 'twice as many': at_most(second / first, TWICE, first)})
     return '| %s | %.2f s | %s | %.2f | %.0f | %s |' % (
-        what, first, '%.0f' % rate if commands else '', second / first, memory / 1e6, verdict(good))
+        what, first, format(int(rate), ',') if commands else '', second / first, memory / 1e6, good)
 
 
 def near_places(program: str, path: str, middle: int) -> str:
@@ -55,8 +54,8 @@ def near_places(program: str, path: str, middle: int) -> str:
     ways = b'goto %d\n' % middle + (b'goto %d\n' % (middle + 1000) + b'goto %d\n' % middle) * 500
     number, offset = (min(measure([program, 'debug', path], script)[0] for _ in range(3)) for script in (ways, ways.replace(b' ', b' @')))
     times = offset / max(number, 0.01)
-    return 'A thousand gotos over the same 1,000 opcodes: by number %.2f s, by offset %.2f s, %.2f times, bar %s: %s.' % (
-        number, offset, times, BY_OFFSET, verdict(times <= BY_OFFSET))
+    return '| 1,000 gotos over the same 1,000 opcodes: by offset, beside by number | %.2f s beside %.2f s: %.2f times as long | %s times | %s |' % (
+        offset, number, times, BY_OFFSET, verdict({'times as long': at_most(times, BY_OFFSET, offset, number)}))
 
 
 def seconds_over_a_pipe(program: str, path: str, count: int) -> float:
@@ -73,23 +72,38 @@ def seconds_over_a_pipe(program: str, path: str, count: int) -> float:
 def over_a_pipe(program: str, path: str, count: int) -> str:
     """What is said of a `step` line from another program."""
     line = min(seconds_over_a_pipe(program, path, count) for _ in range(3)) / count * 1e6
-    return 'A `step` line over a pipe and its answer: %.1f microseconds, bar %s: %s.' % (line, A_LINE, verdict(line <= A_LINE))
+    good = verdict({'microseconds': at_most(line, A_LINE)})
+    return '| a line `step` over a pipe, until its answer is there | %.1f microseconds | %s microseconds | %s |' % (line, A_LINE, good)
 
 
-def edits_row(tests: str, what: str, name: str, bar: float, base: float) -> str:
-    """A line of the table of edits; the tests also open and write the document, which takes as long as the base."""
-    seconds = min(measure([tests, 'document::' + name])[0] for _ in range(3)) - base
-    return '| %s | %.2f s | %s s | %s |' % (what, seconds, bar, verdict(seconds <= bar))
+def edits_row(program: str, path: str, what: str, lines: bytes, bar: float, base: float) -> str:
+    """A line of the table of edits. To open the pickle and to end takes as long as the base."""
+    seconds = min(measure([program, 'debug', path], lines)[0] for _ in range(3)) - base
+    return '| %s | %.2f s | %s s | %s |' % (what, seconds, bar, verdict({'time': at_most(seconds, bar)}))
+
+
+def edits_table(program: str, path: str, million: int) -> str:
+    """The table of edits."""
+    base = min(measure([program, 'debug', path])[0] for _ in range(3))
+    one_place, at_random = b'insert %d NONE\n' % (million // 2) * 10_000, inserts(1000, million)
+    rows = [edits_row(program, path, '10,000 in its middle', one_place, ONE_PLACE, base),
+            edits_row(program, path, 'these 10,000, undone and made again', one_place + b'undo\n' * 10_000 + b'redo\n' * 10_000, 2 * ONE_PLACE, base),
+            edits_row(program, path, '1,000 at random places', at_random, RANDOM_PLACES, base),
+            edits_row(program, path, 'these 1,000, undone and made again', at_random + b'undo\n' * 1000 + b'redo\n' * 1000, 3 * RANDOM_PLACES, base)]
+    title = heading('Edits', f'Edits by `debug` of a pickle of {million:,} opcodes, in seconds of a processor.', 'Edits', 'time', 'bar')
+    return '\n'.join([title, *rows])
 
 
 def main() -> None:
-    program, tests, scale = sys.argv[1], sys.argv[2], fractions.Fraction(sys.argv[3])
+    program, scale = sys.argv[1], fractions.Fraction(sys.argv[2])
     million = int(1_000_000 * scale)
     half = million // 2
     with tempfile.TemporaryDirectory() as folder:
         one, two = one_byte_opcodes(folder, million), one_byte_opcodes(folder, 2 * million)
-        print('| Conversations over %d opcodes | processor | commands a second | twice as many | memory, MB | |' % million)
-        print('|---|---|---|---|---|---|')
+        print(heading('Conversations', f'Many commands to `debug` over a pickle of {million:,} opcodes. *Twice as many* is the time for twice as '
+                      'many commands, divided by the time for these. (The last row has as many commands for twice as many opcodes.) '
+                      f'Bars: at least {A_SECOND:,} commands a second; {TWICE} for twice as many.',
+                      'Commands', 'time', 'commands a second', 'twice as many', 'memory, MB'))
         print(conversation_row(program, 'steps', (one, b'step\n' * million), (two, b'step\n' * 2 * million), million), flush=True)
         print(conversation_row(program, 'steps, and back again', (one, b'step\n' * half + b'back\n' * half),
                                (two, b'step\n' * million + b'back\n' * million), million), flush=True)
@@ -98,19 +112,14 @@ def main() -> None:
         ways = b'goto %d\ngoto 0\n' * 10
         print(conversation_row(program, 'to the end and to the start by goto, ten times', (one, ways.replace(b'%d', b'%d' % million)),
                                (two, ways.replace(b'%d', b'%d' % (2 * million))), 0), flush=True)
-        print('\n' + near_places(program, one, half), flush=True)
-        print('\n' + over_a_pipe(program, one, half // 10), flush=True)
+        print(heading('Single values of `debug`', 'Each has a bar of its own.', 'What', 'measured', 'bar'))
+        print(near_places(program, one, half), flush=True)
+        print(over_a_pipe(program, one, half // 10), flush=True)
         _, memory = measure([program, 'debug', one], b'run\n')
         each = (memory - os.path.getsize(one)) / million
-        print('\nMemory of `run` to the end: %.0f bytes for each opcode besides the file, bar %d: %s.' % (
-            each, BYTES_AN_OPCODE, verdict(each <= BYTES_AN_OPCODE)))
-    print('\n| Edits of a document of a million items | processor | bar | |')
-    print('|---|---|---|---|')
-    base = min(measure([tests, 'document::a_million_items'])[0] for _ in range(3))
-    print(edits_row(tests, '10,000 in its middle', 'edits_at_one_place', ONE_PLACE, base))
-    print(edits_row(tests, '10,000 in its middle, each swapped back and forth', 'edits_and_swaps_at_one_place', ONE_PLACE, base))
-    print(edits_row(tests, '1,000 at random places', 'edits_at_random_places', RANDOM_PLACES, base))
-    print(edits_row(tests, '1,000 at random places, each swapped back and forth', 'edits_and_swaps_at_random_places', RANDOM_PLACES, base))
+        print('| memory of `run` to the end, for each opcode besides the file | %.0f bytes | %d bytes | %s |' % (
+            each, BYTES_AN_OPCODE, verdict({'bytes': at_most(each, BYTES_AN_OPCODE)})))
+        print(edits_table(program, one, million))
 
 
 main()

@@ -20,7 +20,7 @@ import time
 from collections.abc import Iterator
 from pathlib import Path
 
-from scan_and_view import family, memory
+from processes import family, memory
 
 PIECE = 1 << 20
 VALUES = 100_000

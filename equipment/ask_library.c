@@ -87,7 +87,7 @@ static uint8_t ask_with(const char *task, memory given, memory out, picklestep_w
     if (begins(task, "list"))
         return picklestep_list_with(o.options, given.bytes, given.size, out.bytes, out.size, written);
     if (begins(task, "objects"))
-        return picklestep_objects_with(o.options, given.bytes, given.size, out.bytes, out.size, written);
+        return (strstr(task, " --json") ? picklestep_objects_json : picklestep_objects_with)(o.options, given.bytes, given.size, out.bytes, out.size, written);
     if (begins(task, "calls"))
         return (strstr(task, " --json") ? picklestep_calls_json : picklestep_calls_with)(o.options, o.holes, o.count, given.bytes, given.size, out.bytes,
                                                                                          out.size, written);
@@ -135,8 +135,10 @@ static uint8_t ask_session(const char *task, memory given, memory out, pickleste
 }
 
 static uint8_t ask_gate(const char *path, memory given, memory out, picklestep_written *written) {
-    memory list = content_of(path);
-    uint8_t found = picklestep_gate(list.bytes, list.size, given.bytes, given.size, out.bytes, out.size, written);
+    const char *json = "--json ";
+    bool is_json = begins(path, json);
+    memory list = content_of(path + (is_json ? strlen(json) : 0));
+    uint8_t found = (is_json ? picklestep_gate_json : picklestep_gate)(list.bytes, list.size, given.bytes, given.size, out.bytes, out.size, written);
     free(list.bytes);
     return found;
 }
@@ -169,6 +171,8 @@ static uint8_t ask(const char *task, memory given, memory out, picklestep_writte
         return picklestep_form(given.bytes, given.size, out.bytes, out.size, written);
     if (!strcmp(task, "members"))
         return picklestep_members(given.bytes, given.size, out.bytes, out.size, written);
+    if (!strcmp(task, "assemble"))
+        return picklestep_assemble(given.bytes, given.size, out.bytes, out.size, written);
     if (!strcmp(task, "form --json"))
         return picklestep_form_json(given.bytes, given.size, out.bytes, out.size, written);
     if (begins(task, "gate "))

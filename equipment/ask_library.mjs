@@ -12,6 +12,7 @@ const TASKS = {
     'form': ['picklestep_form'],
     'form --json': ['picklestep_form_json'],
     'members': ['picklestep_members'],
+    'assemble': ['picklestep_assemble'],
     'debug': ['picklestep_debug', 0],
     'debug --many': ['picklestep_debug', 1],
 };
@@ -26,9 +27,10 @@ if (WebAssembly.Module.imports(module).length) throw new Error('it has imports')
 function asked(task, library) {
     if (TASKS[task]) return TASKS[task];
     if (task.startsWith('gate ')) {
-        const list = readFileSync(task.slice('gate '.length)), place = library.take(BigInt(list.length + 1));
+        const json = task.startsWith('gate --json ') ? '--json ' : '';
+        const list = readFileSync(task.slice(`gate ${json}`.length)), place = library.take(BigInt(list.length + 1));
         if (place) new Uint8Array(library.memory.buffer).set(list, Number(place));
-        return ['picklestep_gate', place, BigInt(list.length)];
+        return [json ? 'picklestep_gate_json' : 'picklestep_gate', place, BigInt(list.length)];
     }
     const words = task.split(' '), sum = (values) => words.map((word) => values[word] ?? 0).reduce((all, one) => all | one);
     const options = sum(words[0] === 'reach' ? GRANTED : OPTIONS);

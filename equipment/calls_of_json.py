@@ -161,6 +161,14 @@ def lines(objects: Iterable[Fields]) -> Iterator[str]:
             yield HEADINGS[fields["frames"]]
         elif kind == "unsure":
             yield f"unsure: {fields['code']} {fields['words']} at {fields['offset']}"
+        elif kind == "mixes":
+            yield "a loader that mixes frames may take:"
+        elif kind == "taken":
+            yield fields["text"]
+        elif kind == "opcodes":
+            yield f"{fields['count']} opcodes"
+        elif kind == "too_many_ways":
+            yield "too many ways to mix frames"
         elif kind == "hole":
             yield f"refused: hole {fields['offset']}:{fields['size']} ends behind the last of {fields['bytes']} bytes"
         else:

@@ -2,7 +2,7 @@
 
     python3 -B equipment/costs.py COMMAND..        runs the command, say ./test, and prints the table when it has ended
     python3 -B equipment/costs.py --of PID         the same of a command that runs already, from now on
-    python3 -B equipment/costs.py --functions NAME checks a crate anew, and prints its ten dearest functions and what a check without a change takes
+    python3 -B equipment/costs.py --functions NAME checks a crate anew, with its tests, and prints its ten dearest functions and what a check without a change takes
 
 `rt ci` prints no times, so this looks twice a second at what the system says of each process. What a process used after the last look at it,
 and a process that began and ended between two looks, stand in the line `between two looks`: the system adds them to the parent of the process.
@@ -156,7 +156,8 @@ def watch(costs: Costs) -> None:
 def check(crate: str) -> tuple[float, dict[str, float]]:
     """Checks a crate over what is kept of it. Returns processor seconds, and the seconds of the wall of each function that was checked."""
     folder, before = ROOT / "crates" / crate, resource.getrusage(resource.RUSAGE_CHILDREN)
-    started = subprocess.Popen(["rt", "check", "--jobs", "1", "--progress"], cwd=folder, stdout=subprocess.PIPE, stderr=subprocess.STDOUT, text=True)
+    tests = ["--test"] if any("#[test]" in file.read_text() for file in (folder / "src").rglob("*.rt")) else []
+    started = subprocess.Popen(["rt", "check", *tests, "--jobs", "1", "--progress"], cwd=folder, stdout=subprocess.PIPE, stderr=subprocess.STDOUT, text=True)
     last, functions = time.monotonic(), {}
     assert started.stdout is not None
     for line in started.stdout:

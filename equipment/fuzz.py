@@ -63,7 +63,7 @@ IMPORT_LINE = re.compile(r"^ *\d+: (?:import|inst) ", re.M)
 HEADING = re.compile(r"^a loader .*may go on:$", re.M)
 # (a STOP inside a frame, where the strict lines end and `objects` goes on)
 UNSURE_LINE = re.compile(r"^unsure: U[12] .*\n", re.M)
-MIXED_LINE = re.compile(r"^unsure: U3 .*\n\Z", re.M)
+MIXED_LINE = re.compile(r"^unsure: U3 (?s:.*)\Z", re.M)
 WARNING_LINE = re.compile(r"^warning: #\d+ .*\n", re.M)
 CALL_LINE = re.compile(r"^ *\d+: (?:inst|call|new|state|append|set|add) ", re.M)
 WHERE = re.compile(r"at (\d+) of (\d+), offset (\d+), buffers (\d+), result (none|#\d+(?: #\d+)*), end (.*)")
@@ -471,6 +471,9 @@ class Case:
             closing.append(f"fault: {where[6]}")
         if report.splitlines() != shown[1:-1] + closing or status != (not closing[-1].startswith("result")):
             raise Broken("another report of the objects")
+        lines, ended = self.answers(["objects", "--json", str(self.file)])
+        if [*map(json.loads, lines.splitlines())] != [*json_of_texts.of_objects(report)] or not lines.isascii() or ended != status:
+            raise Broken("the lines of JSON say something else than the report")
         if listing and self.items_of(listing)[: int(where[1])] != self.items_of(listing)[: len(self.items_of(listing)) - bool(refused)]:
             raise Broken("the listing and the conversation end at other places")
         if not self.is_unframed:

@@ -1,15 +1,12 @@
-"""Gives the program and the library inputs that are cut short, deep or long, with a stack of 256 KiB.
+"""Gives the program and the library inputs that are deep or long, with a stack of 256 KiB. The library answers in this process.
 
-The library, which answers in this process, lists each real pickle cut at each of its first 2,000 bytes, and at some of them with --unframed. The
-program, of which each answer is a process, lists one cut in ten. What a listing of a cut says follows from the listing of the whole: the opcodes that are whole in it, and the fault of what is left, by the sizes that pickletools gives.
+(Inputs that are cut short have a law of fuzz.py.)
 """
 
 from __future__ import annotations
 
-import concurrent.futures
 import dataclasses
 import functools
-import os
 import pathlib
 import pickletools
 import re
@@ -20,9 +17,6 @@ from collections.abc import Callable
 from fuzz import Library
 from trials.trial import Trial
 
-MOST = 2000
-UNFRAMED_STEP = 7
-STEP_OF_PROGRAM = 10
 STACK = 256 * 1024
 OPCODES = {opcode.name: opcode for opcode in pickletools.opcodes}
 ITEM = re.compile(r" *(\d+): \S+ +(\S+)(?: +(\d+))?")
@@ -46,85 +40,6 @@ def answer(program: str, words: list[str], script: str = "") -> tuple[str, int]:
     if done.stderr:
         raise ValueError(f"errors {done.stderr[:100]!r}")
     return done.stdout.decode(), done.returncode
-
-
-class Listing:
-    """The listing of whole bytes, in parts."""
-
-    def __init__(self, text: str, size: int, is_unframed: bool = False) -> None:
-        parts = [part for part in map(ITEM.match, text.splitlines()) if part]
-        self.lines = [part.string for part in parts]
-        self.closing = text.splitlines()[len(self.lines) :]
-        self.starts = [int(part[1]) for part in parts]
-        self.names = [part[2] for part in parts]
-        self.frames = [int(part[3]) if part[2] == "FRAME" and not is_unframed else 0 for part in parts]
-        fault = [line for line in self.closing if line.startswith("fault: ")]
-        kept = [line for line in self.closing if line.startswith("kept: ")]
-        self.refused = [line for line in self.closing if line.startswith("refused: ")]
-        self.left = [line for line in self.closing if line.startswith("left: ")]
-        self.fault = fault[0] if fault else None
-        if fault:
-            self.end = int(fault[0].rsplit(" ", 1)[1])
-        elif kept:
-            self.end = size - int(kept[0].split()[1])
-        else:
-            self.end = size
-
-    def closed(self, count: int, lines: list[str]) -> str:
-        protocols = [OPCODES[name].proto for name in self.names[:count]]
-        if count:
-            lines = lines + [f"highest protocol among opcodes = {max(protocols)}"]
-        return "".join(f"{line}\n" for line in self.lines[:count] + lines)
-
-    def of_cut(self, cut: int) -> list[tuple[str, int]]:
-        """What may be listed of the first `cut` bytes, with the status; more than one where the whole listing does not decide."""
-        ends = self.starts[1:] + [self.end]
-        for k, start in enumerate(self.starts):
-            if self.refused and k + 1 == len(self.starts):
-                # (the sizes of what comes after it are not listed)
-                whole = self.closed(len(self.lines), self.refused)
-                return [(whole, 1), *((self.closed(k, [f"fault: {why} at {start}"]), 1) for why in self.cut_faults(start, cut))]
-            if cut < ends[k]:
-                return [(self.closed(k, [f"fault: {why} at {start}"]), 1) for why in self.cut_faults(start, cut)]
-            if ends[k] + self.frames[k] > cut:
-                return [(self.closed(k, [f"fault: F7 frame past the end at {start}"]), 1)]
-        if self.fault is None:
-            kept = [f"kept: {cut - self.end} bytes after STOP"] if cut > self.end else []
-            return [(self.closed(len(self.lines), self.left + kept), 0)]
-        faults = [f"fault: {why} at {self.end}" for why in self.cut_faults(self.end, cut)]
-        return [(self.closed(len(self.lines), [line]), 1) for line in [*faults, *([self.fault] if cut > self.end else [])]]
-
-    def cut_faults(self, start: int, cut: int) -> list[str]:
-        return ["F1 ended" if cut == start else "F3 truncated"]
-
-
-def try_pickle(program: str, folder: pathlib.Path, path: pathlib.Path, number: int) -> tuple[int, str]:
-    """How many cuts of a pickle were listed, and what was wrong. The pickle's number says where the first of them is."""
-    pickled = path.read_bytes()
-    cut = folder / f"{os.getpid()}.pickle"
-    count = 0
-    for options, step in ([], 1), (["--unframed"], UNFRAMED_STEP):
-        text, _ = answer(program, ["list", *options, str(path)])
-        listing = Listing(text, len(pickled), bool(options))
-        step *= 1 if is_library(program) else STEP_OF_PROGRAM
-        for size in range(number % step, min(len(pickled), MOST), step):
-            count += 1
-            cut.write_bytes(pickled[:size])
-            found = answer(program, ["list", *options, str(cut)])
-            if found not in listing.of_cut(size):
-                return count, f"{path.name} cut at {size}, {options}: {found!r} and not {listing.of_cut(size)!r}"[:600]
-    return count, ""
-
-
-def try_pickles(program: str, folder: pathlib.Path, pickles: pathlib.Path) -> tuple[int, str]:
-    paths = sorted(pickles.glob("*.pickle"), key=lambda path: -path.stat().st_size)
-    count = 0
-    with concurrent.futures.ProcessPoolExecutor(os.cpu_count()) as pool:
-        for tried, why in pool.map(try_pickle, [program] * len(paths), [folder] * len(paths), paths, range(len(paths))):
-            count += tried
-            if why:
-                return count, why
-    return count, ""
 
 
 def debug(program: str, file: pathlib.Path, script: str) -> tuple[str, int, bool]:
@@ -262,7 +177,6 @@ class Hostile:
     program: str
     library: str
     folder: pathlib.Path
-    pickles: pathlib.Path
     inputs: int = 0
 
     def row_fault(self, program: str, row: Callable[[str, pathlib.Path], bool], count: int) -> str:
@@ -270,20 +184,12 @@ class Hostile:
         self.inputs += count
         return "" if row(program, self.folder / "hostile.pickle") else "something else is answered"
 
-    def cuts_fault(self, program: str) -> str:
-        self.folder.mkdir(exist_ok=True)
-        count, why = try_pickles(program, self.folder, self.pickles)
-        self.inputs += count
-        return why
-
     def closing(self) -> str:
         return f"{self.inputs} inputs, by hostile.py"
 
 
 def trials_of(hostile: Hostile, program: str, by: str) -> list[Trial]:
-    rows = [Trial(f"{name}{by}", functools.partial(hostile.row_fault, program, row, count)) for name, row, count in ROWS]
-    cuts = "cut at each byte" if is_library(program) else "cut at one byte in ten"
-    return [*rows, Trial(f"the real pickles, {cuts}{by}", functools.partial(hostile.cuts_fault, program))]
+    return [Trial(f"{name}{by}", functools.partial(hostile.row_fault, program, row, count)) for name, row, count in ROWS]
 
 
 def trials(hostile: Hostile) -> list[Trial]:

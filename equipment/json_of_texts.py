@@ -7,10 +7,11 @@ from __future__ import annotations
 
 import re
 from collections.abc import Iterator
-from typing import Dict, Union
+from typing import Any, Dict, Union
 
 Value = Union[int, str, bool]
 Fields = Dict[str, Value]  # (the package's tests import this in older versions)
+Nested = Dict[str, Any]
 
 QUOTED = r"'(?:[^'\\]|\\.)*'"
 # (the names of opcodes are in capitals; behind the argument stands what the opcode says besides)
@@ -19,6 +20,11 @@ COLUMNS = re.compile(r" *\d+: .{4} ( *)")
 LEFT = re.compile(r"left: (\d+) objects, (\d+) marks")
 FAULT = re.compile(r"fault: (F\d+) (.*?)(?: 0x([0-9a-f]{2}))? at (\d+)")
 REFUSED = re.compile(r"refused: (S\d+|M) (.*?)(?: (#?)(-?\d+))?")
+GIVEN = rf"{QUOTED}(?: {QUOTED})?|-?\d+|le:[0-9a-f]*|f8:[0-9a-f]{{16}}"
+OBJECT = re.compile(rf"#(\d+) ([a-z-]+)(?: ({GIVEN}))?(?: \(([^)]*)\))?((?: (?:[+&!]|\[#\d+\]=)#\d+)*)")
+CHANGE = re.compile(r"(?:([+&!])|\[#(\d+)\]=)#(\d+)")
+CHANGES = {"+": "append", "&": "add", "!": "state", "": "set"}
+REFUSED_ITEM = re.compile(r"refused: item (\d+): (.*)")
 KEPT = re.compile(r"kept: (\d+) bytes after STOP")
 PROTOCOL = re.compile(r"highest protocol among opcodes = (\d+)")
 ESCAPE = re.compile(r"\\(?:x([0-9a-f]{2})|(.))")
@@ -28,6 +34,23 @@ NAMES = {"MARK at": "mark", "as": "memo"}
 OTHER_FORM = re.compile(r"not in form: item (\d+) at (\d+): (.*)\n")
 NOTHING_REACHED = re.compile(r"nothing reached: every loader ends by (\d+)(, whatever follows)?\n")
 REACHED = re.compile(rf"reached at (\d+): ([A-Z][A-Z0-9_]*)(?: ({QUOTED}(?: {QUOTED})?|\d+))?\n")
+# What `gate` says.
+MEMBER, BEHIND = re.compile(rf"({QUOTED}): (.*\n)"), "behind its header: "
+SAID = {
+    how: re.compile(f"{pattern}\n")
+    for how, pattern in {
+        "passes": "passes",
+        "not_a_list": r"not a list: line (?P<line>\d+) is no entry",
+        "not_allowed": r"(?P<offset>\d+): not allowed: (?P<words>.*)",
+        "other_form": r"not in form: item (?P<item>\d+) at (?P<offset>\d+): (?P<words>.*)",
+        "not_in_form": r"not in form: (?P<offset>\d+): (?P<words>.*)",
+        "broken": r"(?:not deflated: (?:(?P<offset>\d+): )?|(?=another checksum))(?P<words>.*)",
+        "archive": "an archive itself: .*",
+        "container": "a container itself: .*",
+        "same_names": "two names .*",
+        "too_large": "it unpacks to .*",
+    }.items()
+}
 # What opcodes reach, but for imports.
 REACHES = {"EXT1": "extension", "EXT2": "extension", "EXT4": "extension", "PERSID": "persistent", "BINPERSID": "persistent", "NEXT_BUFFER": "buffer"}
 # The faults of frames.
@@ -104,6 +127,37 @@ def of_listing(text: str) -> Iterator[Fields]:
     yield of_end(closing)
 
 
+def of_object(line: str) -> Nested:
+    """The object of an object's line."""
+    found = OBJECT.fullmatch(line)
+    if found is None:
+        raise ValueError(line)
+    number, kind, given, parts, changes = found.groups()
+    fields: Nested = {"kind": "object", "object": int(number), "is": kind}
+    if given is not None:
+        fields.update({"number": int(given)} if kind == "buffer" else of_argument(given))
+    if parts is not None:
+        fields["parts"] = [int(part[1:]) for part in parts.split()]
+    if changes:
+        fields["changes"] = [{"kind": CHANGES[sign], **({"key": int(key)} if key else {}), "value": int(value)} for sign, key, value in CHANGE.findall(changes)]
+    return fields
+
+
+def of_objects(text: str) -> Iterator[Nested]:
+    """The objects of a report."""
+    end: Nested = {"kind": "end", "how": "stopped"}
+    for line in text.splitlines():
+        if line.startswith("#"):
+            yield of_object(line)
+        elif line.startswith("result #"):
+            yield {"kind": "result", "object": int(line[len("result #"):])}
+        elif refused := REFUSED_ITEM.fullmatch(line):
+            end = {**of_end([f"refused: {refused[2]}"]), "item": int(refused[1])}
+        else:
+            end = {**of_end([line])}
+    yield end
+
+
 def of_reach(text: str) -> Fields:
     """The object of what is reached. Which loader reaches it no text says."""
     fields: Fields = {"kind": "end"}
@@ -114,6 +168,20 @@ def of_reach(text: str) -> Fields:
         return {**fields, "how": "reached", "offset": whole(offset), "opcode": name, **(of_argument(argument) if argument else {}),
                 "reach": REACHES.get(name, "import")}
     return {**fields, "how": "too_many_ways"}
+
+
+def of_gate(text: str) -> Fields:
+    """The object of what the gate says, with the text in it. How a reason of form is named no text says."""
+    fields: Fields = {"kind": "verdict"}
+    said = text
+    if match := MEMBER.fullmatch(said):
+        fields.update(of_bytes("member", unquoted(match[1])))
+        said = match[2]
+    if said.startswith(BEHIND):
+        fields["behind_header"], said = True, said[len(BEHIND) :]
+    found = next((how, match) for how, pattern in SAID.items() if (match := pattern.fullmatch(said)))
+    values = {name: whole(value) if name != "words" else value for name, value in found[1].groupdict().items() if value is not None}
+    return {**fields, "how": found[0], **values, "text": text[:-1]}
 
 
 def of_form(text: str) -> Fields:

@@ -41,6 +41,7 @@ TASKS = (
     ("list", "--many", "--json"),
     ("list", "--many", "--unframed", "--json"),
     ("objects", "--many", "--unframed"),
+    ("objects", "--many", "--json"),
     ("calls", "--full"),
     ("calls", "--skip", "3:2"),
     ("calls", "--memo", "kept", "--skip", "3:2", "--skip", "9:40"),
@@ -163,7 +164,7 @@ class Libraries(Machines):
     def at_gate(self) -> list[Asked]:
         """The lists and pickles of the trial of the gate."""
         lists = self.in_files("lists", (((), case.listed) for case in CASES))
-        return self.in_files("gate", ((("gate", str(listed.file)), case.pickle) for listed, case in zip(lists, CASES)))
+        return self.in_files("gate", ((("gate", *json, str(listed.file)), case.pickle) for listed, case in zip(lists, CASES) for json in ((), ("--json",))))
 
     @functools.cached_property
     def of_reach(self) -> list[Asked]:

@@ -5,14 +5,15 @@
 
 CASES has pickles, each behind its length (4 bytes). Each line of OUT is JSON: for each unpickler its name and its acts, each as what is
 done, to which thing (by the number of the act that brought it), and with what. With --one the same unpickler loads again and again, with
---bytes what STRING, BINSTRING and SHORT_BINSTRING make is bytes, with --all there are all readers and not four of them. It runs in each Python
-from 3.8 on.
+--bytes what STRING, BINSTRING and SHORT_BINSTRING make is bytes, with --all there are all readers and not four of them, and behind the acts
+stands how much of the bytes was read at each, where that is known. It runs in each Python from 3.8 on.
 """
 
 from __future__ import annotations
 
 import _compat_pickle
 import copyreg
+import ctypes
 import json
 import pickle
 import resource
@@ -28,8 +29,13 @@ MOST_ACTS = 3000
 MOST_MEMORY = 3 << 30
 MOST_IN_PIECES = 5000
 EXTENSIONS = (-1, 0, 1, 2, 256, 0x7FFFFFFF)
+# An unpickler in C has in this word, from its own address on, how much of its input it has read, and in the next how much of that its file gave away.
+READ = 20 if sys.version_info >= (3, 13) else 21
 
 acts: list[list[Any]] = []
+ends: list[Optional[int]] = []
+# The unpickler that loads, and its file.
+at_work: list[Any] = []
 
 
 class TooMany(BaseException):
@@ -41,7 +47,20 @@ def act(what: str, target: Optional[int], *rest: Any) -> int:
     if len(acts) >= MOST_ACTS:
         raise TooMany
     acts.append([what, target, *rest])
+    ends.append(read_up_to(*at_work) if at_work else None)
     return len(acts) - 1
+
+
+def read_up_to(unpickler: Any, file: Any) -> Optional[int]:
+    """How much of the bytes an unpickler has read; None where its file does not tell where it is."""
+    if not file.seekable():
+        return None
+    place: int = file.tell()
+    if isinstance(unpickler, pickle.Unpickler):
+        read, given = (ctypes.c_ssize_t * 2).from_address(id(unpickler) + READ * ctypes.sizeof(ctypes.c_ssize_t))
+        return place - given + read
+    frame = unpickler._unframer.current_frame
+    return place - frame.getbuffer().nbytes + frame.tell() if frame else place
 
 
 def number_of(thing: Any) -> Optional[int]:
@@ -154,6 +173,8 @@ class FromPython(pickle._Unpickler):
 def load_all(name: str, data: bytes, is_one: bool, encoding: str) -> list[list[Any]]:
     """What an unpickler does with all pickles of some bytes; `pickle.loads` only with the first."""
     acts.clear()
+    ends.clear()
+    at_work.clear()
     copyreg._extension_cache.clear()  # type: ignore[attr-defined]
     try:
         if name == load_readers.LOADS:
@@ -174,10 +195,12 @@ def _load_file(name: str, data: bytes, is_one: bool, encoding: str) -> None:
     kind = kind_of(name)
     with load_readers.READERS[name](data) as file:
         unpickler = kind(file, buffers=buffers(), encoding=encoding)
+        at_work[:] = unpickler, file
         unpickler.load()
         while is_one or load_readers.has_more(file, len(data)):  # (one unpickler may still hold bytes where its file has no more)
             if not is_one:
                 unpickler = kind(file, buffers=buffers(), encoding=encoding)
+                at_work[:] = unpickler, file
             unpickler.load()
 
 
@@ -205,7 +228,8 @@ def main() -> None:
     with open(sys.argv[2], "w") as out:
         for data in cases_of(sys.argv[1]):
             names = readers_for(len(data), is_one, is_all)
-            print(json.dumps([[name, load_all(name, data, is_one, encoding)] for name in names]), file=out)
+            done = [[name, load_all(name, data, is_one, encoding), list(ends)] for name in names]
+            print(json.dumps(done if is_all else [load[:2] for load in done]), file=out)
 
 
 if __name__ == "__main__":

@@ -252,8 +252,8 @@ class Loads:
             return ""
         return done.stdout.decode("ascii")
 
-    def done(self, name: str, cases: Sequence[bytes], options: Sequence[str], python: str = sys.executable) -> Iterator[list[tuple[str, list[Any]]]]:
-        """What the unpicklers of a Python do with each case. The options are those of load_worker.py."""
+    def done(self, name: str, cases: Sequence[bytes], options: Sequence[str], python: str = sys.executable) -> Iterator[list[Any]]:
+        """What the unpicklers of a Python do with each case, as load_worker.py writes it, whose options these are."""
         given, out = self.folder / f"{name}.cases", self.folder / f"{name}.acts"
         given.write_bytes(b"".join(struct.pack("<I", len(case)) + case for case in cases))
         words = [python, "-X", "utf8", "-W", "ignore", "-B", str(ROOT / "equipment" / "load_worker.py"), str(given), str(out)]

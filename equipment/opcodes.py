@@ -1,4 +1,4 @@
-"""Compares the table of opcodes with Python's pickletools, and with it each other list of opcodes that is no part of the proofs.
+"""Compares the table of opcodes with Python's pickletools, and with it the lists of opcodes of the package and of the tests.
 
 The table is the macro `opcodes!` in crates/pickle_ops/src/opcode.rt. The proofs say that it is the table of crates/pickle_ops/specs/Table.antt;
 that both are right is what is tried here.
@@ -6,18 +6,15 @@ that both are right is what is tried here.
 
 from __future__ import annotations
 
-import ast
 import functools
 import pickletools
 import re
 import subprocess
 import sys
-from collections.abc import Iterator
 from dataclasses import dataclass
 from pathlib import Path
 from random import Random
 
-import count_calls
 import fuzz
 from picklestep.opcodes import TABLE as TABLE_OF_PACKAGE
 
@@ -35,16 +32,6 @@ FORMS = {
     "decimalnl_short": "Line", "decimalnl_long": "Line", "floatnl": "Line",
 }
 FORMS_OF = {"GET": "Decimal", "PUT": "Decimal"}
-
-# The files that name opcodes, with their other words in capitals.
-NAMED = {
-    "equipment/fuzz.py": {"STEP", "F1", "F3", "F7"},
-    "equipment/count_calls.py": set(),
-    "equipment/real_pickles/answers.py": {"F2", "S3"},
-    "python/picklestep/scan/canonical/pickles.py": set(),
-    "python/picklestep/scan/walk.py": {"CHECKSUM", "FIXED", "MOST"},
-    "python/tests/test_answers.py": {"F1", "F2", "F5", "S10", "S2", "S3", "U1"},
-}
 
 SEED = 1
 
@@ -82,10 +69,6 @@ def code_of(written: str) -> int:
 def records(root: Path) -> list[Record]:
     text = (root / TABLE).read_text(encoding="utf-8")
     return [Record(*COLUMN.findall(columns)) for columns in RECORD.findall(text)]
-
-
-def first_word(column: str) -> str:
-    return column.strip("()").split()[0]
 
 
 def difference(found: object, wanted: object) -> str:
@@ -140,20 +123,6 @@ def fault_of_program(program: str, folder: Path) -> str:
 # --- Other lists ---
 
 
-def texts(file: Path) -> Iterator[str]:
-    """The literal texts of a Python file."""
-    for node in ast.walk(ast.parse(file.read_text(encoding="utf-8"))):
-        if isinstance(node, ast.Constant) and isinstance(node.value, (str, bytes)):
-            yield node.value if isinstance(node.value, str) else node.value.decode("ascii", "replace")
-
-
-def fault_of_names(root: Path, file: str, others: set[str]) -> str:
-    """Texts that look like names of opcodes are names of opcodes."""
-    names = {record.name for record in records(root)} | others
-    words = {word for text in texts(root / file) if re.fullmatch(r"[A-Z][A-Z0-9_ ]+", text) for word in text.split()}
-    return difference(sorted(words - names), [])
-
-
 def fault_of_rows(root: Path) -> str:
     """The unit tests have a row for each row of the table, with each kind and each form that go with it: a comment names the opcode."""
     text = (root / "crates/unit_tests/src/machine/rows.rt").read_text(encoding="utf-8")
@@ -161,16 +130,6 @@ def fault_of_rows(root: Path) -> str:
     table = {record.name: (record.row, record.kind, record.form) for record in records(root)}
     shapes = {table.get(name) for name in tested}
     return difference(sorted(tested - set(table)), []) or difference([name for name, shape in table.items() if shape not in shapes], [])
-
-
-def fault_of_sets(root: Path) -> str:
-    """What count_calls.py says of opcodes is what the rows and kinds of the table say."""
-    table = records(root)
-    # The kinds that come from elsewhere or from a call have lines as '(StackGlobal) => { Class::Opaque };'.
-    kinds = set(re.findall(r"\((\w+)\) => \{ Class::Opaque \};", (root / "crates/pickle_ops/src/class.rt").read_text(encoding="utf-8")))
-    opaque = {record.name for record in table if first_word(record.kind) in kinds or record.row == "Buffer"}
-    fills = {record.name for record in table if first_word(record.row) in ("Change", "CutChange")}
-    return difference(count_calls.OPAQUE, opaque) or difference(count_calls.FILLS | {"BUILD"}, fills)
 
 
 def fault_of_package(root: Path) -> str:
@@ -197,8 +156,6 @@ def trials(root: Path, program: str, folder: Path) -> list[Trial]:
         Trial("the table of opcodes, against pickletools", functools.partial(fault_of_table, root)),
         Trial("each opcode as it is listed and put in, against pickletools", functools.partial(fault_of_program, program, folder)),
         Trial("the rows of the unit tests, for each row, kind and form", functools.partial(fault_of_rows, root)),
-        Trial("the opcodes that count_calls.py knows of", functools.partial(fault_of_sets, root)),
         Trial("the table of the package", functools.partial(fault_of_package, root)),
         Trial("the arguments that the fuzzer makes", functools.partial(fault_of_fuzzer, root)),
-        *(Trial(f"the names of opcodes in {file}", functools.partial(fault_of_names, root, file, others)) for file, others in NAMED.items()),
     ]

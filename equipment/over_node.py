@@ -5,7 +5,7 @@
 Without classes all of them. Each module (or each class `--alone`, or that is named) is an interpreter of its own, at most four at once; each
 prints how many of its tests passed, were skipped and failed, and its processor time. What cannot run there is in `NOT_THERE`, with its reason. The
 gate runs a sample of the others, and so does this with `--gate`. A test is in the sample where it names what no test before it named: a word, an
-option or a code, or what it takes of the package or of the system. Status 1 where a test failed.
+option or a code. Status 1 where a test failed.
 """
 
 from __future__ import annotations
@@ -105,8 +105,6 @@ DEAR = {
 }
 HELP, TESTS = ROOT / "python/picklestep/help", ROOT / "python/tests"
 NAMED = re.compile(r"--[a-z][a-z-]+|\b[CEFSUVX]\d+\b")
-# The modules whose members count by their names.
-TAKEN = frozenset(("picklestep", "os", "signal", "subprocess", "tempfile", "stat", "sys", "select", "threading", "socket"))
 # (the clock counts as processor time there: with more of them than processors, files would be noted for their time)
 AT_ONCE = min(4, os.cpu_count() or 1)
 SECONDS = 7200
@@ -144,17 +142,13 @@ def words_of_help() -> set[str]:
     return {page.stem for page in pages} | {option for page in pages for option in re.findall(r"(?m)^  (--[a-z][a-z-]+)", page.read_text("utf-8"))}
 
 
-def named_by(test: ast.AST, words: set[str], taken: frozenset[str]) -> set[str]:
-    """What the code of a test names."""
+def named_by(test: ast.AST, words: set[str]) -> set[str]:
+    """What the texts in the code of a test name."""
     found: set[str] = set()
     for node in ast.walk(test):
         if isinstance(node, ast.Constant) and isinstance(node.value, (str, bytes)):
             text = node.value if isinstance(node.value, str) else node.value.decode("latin-1")
             found.update(NAMED.findall(text), words & {text})
-        elif isinstance(node, ast.Name) and node.id in taken:
-            found.add(node.id)
-        elif isinstance(node, ast.Attribute) and isinstance(node.value, ast.Name) and node.value.id in taken:
-            found.add(f"{node.value.id}.{node.attr}")
     return found
 
 
@@ -162,15 +156,12 @@ def tests_with_names() -> Iterator[tuple[str, set[str]]]:
     """Each test that can be in the sample, with what it names."""
     words = words_of_help()
     for file in sorted(TESTS.glob("test_*.py")):
-        tree = ast.parse(file.read_text("utf-8"))
-        imports = [node for node in tree.body if isinstance(node, ast.ImportFrom) and (node.module or "").startswith("picklestep")]
-        taken = TAKEN | {alias.asname or alias.name for node in imports for alias in node.names}
-        for case in tree.body:
+        for case in ast.parse(file.read_text("utf-8")).body:
             if isinstance(case, ast.ClassDef):
                 for test in (node for node in case.body if isinstance(node, ast.FunctionDef) and node.name.startswith("test")):
                     name = f"{file.stem}.{case.name}.{test.name}"
                     if not any(f"{name}.".startswith(f"{beginning}.") for beginning in (*NOT_THERE, *DEAR)):
-                        yield name, named_by(test, words, taken)
+                        yield name, named_by(test, words)
 
 
 def sample() -> list[str]:

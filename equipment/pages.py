@@ -80,7 +80,7 @@ CHECKLISTS = [
             "equipment/surface.txt": "names of the specification",
             "equipment/trials/begins.py": "scan has a field of that name",
             "equipment/trials/large.py": "asks it of a large pickle",
-            "python/picklestep/scan/folder.py": "scan has a field of that name",
+            "python/picklestep/scan/folders.py": "scan has a field of that name",
             "python/picklestep/scan/policy/baseline.py": "scan has a field of that name",
             "python/picklestep/scan/results.py": "scan has a field of that name",
             "python/picklestep/shell/words.py": "the shell has words of its own",
@@ -93,21 +93,20 @@ CHECKLISTS = [
     ),
     Checklist(
         "To add a text or a command",
-        r"(?m)\b(?:Text|Task)::Calls\b|\btext\.Calls\b|\bIsCallsText\b|\bpub fn calls<|\bcalls\(alloc, pickles\b|[\"']calls[\"':]|Cm calls|objects calls|\bpicklestep_calls\b|^usage: picklestep calls|^  calls  |objects, calls, form",
+        r"(?m)\b(?:Text|Task)::Calls\b|\btext\.Calls\b|\bIsCalls(?:Text)?\b|\bpub fn calls<|\bcalls\(alloc, pickles\b|[\"']calls[\"':]|Cm calls|objects calls|\bpicklestep_calls\b|^usage: picklestep calls|^  calls  |objects, calls, form",
         ["crates/*/src/**/*.rt", "crates/*/specs/**/*.antt", *OUTSIDE, *PACKAGE, "python/tests/*.py"],
         {
             "equipment/trials/begins.py": "asks it what bytes begin like",
             "equipment/reference.py": "a table has that name",
             "equipment/trials/examples.py": "a page has that name",
-            "equipment/trials/groups.py": "a group of trials has that name",
             "python/picklestep/scan/reading.py": "scan asks it",
             "python/picklestep/scan/report.py": "scan has a field of that name",
             "python/picklestep/scan/results.py": "scan has a field of that name",
             "python/picklestep/shell/words.py": "the shell has words of its own",
             "python/picklestep/view/alone/document.js": "the page shows it",
-            "python/picklestep/view/document.py": "the page shows it",
+            "python/picklestep/document.py": "the page shows it",
             "python/picklestep/view/export.py": "the page shows it",
-            "python/picklestep/view/lines.py": "the page asks it",
+            "python/picklestep/lines.py": "the page asks it",
             "python/tests/test_gate.py": "scan has a field of that name",
             "python/tests/test_other_systems.py": "asks it of files on other drives",
             "python/tests/test_shell.py": "the shell has words of its own",
@@ -121,6 +120,9 @@ CHECKLISTS = [
 CHECKLISTS_OF_PACKAGE = [
     Checklist("To add a container", r"(?i)(?<!t)zfile", SCAN),
     Checklist("To add a source", r"(?i)memcached(?!_vanish)", SCAN),
+    Checklist("To add a known name", r"(?m)^uuid\._popen\b", ["python/picklestep/scan/**/*", "python/tests/*.py", "python/tests/data/*.txt"]),
+    Checklist("To add a name to a set", r"CubicSpline", ["python/picklestep/**/*", "python/tests/*.py"]),
+    Checklist("To add an option of scan", r"write[-_]allow", [*OUTSIDE, *PACKAGE]),
     Checklist(
         "To add a word of the package",
         r"(?m)['\"]mend['\":]|prog='picklestep mend'|Cm mend|diff mend |^  mend ",
@@ -496,10 +498,10 @@ def fault_of_site(root: Path, folder: Path) -> str:
     return "" if done.returncode == 0 else (done.stdout + done.stderr).strip()[-300:]
 
 
-def fault_of_index(root: Path) -> str:
-    """Each file of definitions has a head."""
-    index = subprocess.run([sys.executable, str(root / "tools" / "definitions.py")], capture_output=True, text=True, timeout=600)
-    return "" if index.returncode == 0 else index.stderr.strip()[:200]
+def fault_of_script(root: Path, *words: str) -> str:
+    """A script of the repository finds nothing wrong."""
+    done = subprocess.run([sys.executable, "-B", *words], cwd=root, capture_output=True, text=True, timeout=600)
+    return "" if done.returncode == 0 else done.stderr.strip()[:200]
 
 
 def trials(root: Path, program: str, folder: Path) -> list[Trial]:
@@ -524,7 +526,8 @@ def trials(root: Path, program: str, folder: Path) -> list[Trial]:
     found.append(Trial("the sorts of the change log", functools.partial(fault_of_change_log, root / "CHANGELOG.md")))
     found.append(Trial("the notices of third parties", functools.partial(fault_of_notices, root)))
     found.append(Trial("the bodies of commits", functools.partial(fault_of_bodies, root)))
-    found.append(Trial("the index of definitions", functools.partial(fault_of_index, root)))
+    found.append(Trial("the index of definitions", functools.partial(fault_of_script, root, "tools/definitions.py")))
+    found.append(Trial("the numbers of the page Measured", functools.partial(fault_of_script, root, "bench/measured_page.py", "--check")))
     found.append(Trial("the laws of PROVED", functools.partial(fault_of_laws, root)))
     found.append(Trial("the picture of PROVED", functools.partial(fault_of_picture, root)))
     return found

@@ -57,11 +57,6 @@ class Source:
     def crates(self) -> list[str]:
         return re.findall(r"(?m)^(\w+)", (self.root / "crates.txt").read_text(encoding="utf-8"))
 
-    @functools.cached_property
-    def product(self) -> list[str]:
-        before, _, _ = (self.root / "crates.txt").read_text(encoding="utf-8").partition("# Test equipment")
-        return re.findall(r"(?m)^(\w+)", before)
-
     @functools.cache
     def files(self, crate: str) -> dict[Path, str]:
         return {path: path.read_text(encoding="utf-8") for path in sorted((self.root / "crates" / crate / "src").rglob("*.rt"))}
@@ -152,16 +147,6 @@ class Surface:
         lost = [f"{kind}::{name}" for kind, name in sorted(calls) if not any(self.source.call(crate, kind, name) for crate in self.source.crates)]
         return f"docs/DECISIONS.md names what is not there: {', '.join(edits + lost)}" if edits or lost else ""
 
-    def fault_of_imports(self) -> str:
-        """Inside the product a name comes from the crate that makes it, by no second path."""
-        second = [
-            f"{crate} takes {name} from {module}, made in {maker}"
-            for crate in self.source.product
-            for public, module, name in self.source.uses(crate)
-            if not public and module in self.source.crates and (maker := self.source.maker(module, name)) not in (module, None)
-        ]
-        return "; ".join(sorted(set(second)))
-
 
 def trials(root: Path) -> list[Trial]:
     surface = Surface(Source(root))
@@ -169,7 +154,6 @@ def trials(root: Path) -> list[Trial]:
         Trial("each name of the specification is found", surface.fault_of_names),
         Trial("each wrong body of the specification has an edit or a test", surface.fault_of_wrong_bodies),
         Trial("what docs/DECISIONS.md names is there", surface.fault_of_page),
-        Trial("the product imports from where a thing is made", surface.fault_of_imports),
     ]
 
 

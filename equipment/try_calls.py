@@ -242,7 +242,7 @@ def try_pickle(events: Events, program: Program, tally: Tally, data: bytes) -> N
 
 
 def trials(program: pathlib.Path, folder: pathlib.Path, pickles: pathlib.Path) -> list[Trial]:
-    run = functools.partial(try_lines.run, __file__, program, folder, sorted(pickles.glob("*.pickle")))
+    run = functools.partial(try_lines.run, __file__, program, folder, try_lines.some_of(pickles))
     return [Trial("lines of calls beside their definition", run)]
 
 

@@ -38,10 +38,12 @@ sys.path.append(str(ROOT / "python"))
 import conversations  # noqa: E402
 import fuzz  # noqa: E402
 import json_of_texts  # noqa: E402
-from picklestep import listed  # noqa: E402
-from picklestep.records import Change, End, Mark, Object, Opcode, Ref  # noqa: E402
+from picklestep import listed, made  # noqa: E402
+from picklestep.listing_records import Change, Object, Opcode  # noqa: E402
+from picklestep.records import End, Ref  # noqa: E402
+from picklestep.session_records import Mark  # noqa: E402
 from picklestep.replies import memo_of, stack_of  # noqa: E402
-from picklestep.texts import Closing, closing_of, object_of, results_in  # noqa: E402
+from picklestep.texts import object_of  # noqa: E402
 from trials.trial import Noted, Trial  # noqa: E402
 
 OPS = "Rattle.pickle_ops.specs"
@@ -126,8 +128,13 @@ def operation_of(front: Made) -> dict[str, Value]:
     return {"opcode": front.parts[0], "arg": front.parts[1]}
 
 
-def closing_in(line: str) -> Closing:
-    return Closing(closing_of([line]))
+def reported_in(line: str, refused: Optional[int]) -> End:
+    """How reading ended, as the package reads it of the line of JSON that says the same as this line of a report."""
+    return made.end_of([*json_of_texts.of_objects(line)][-1], refused)
+
+
+def results_of(line: str) -> Sequence[int]:
+    return made.results_in(b"".join(json.dumps(fields, separators=(",", ":")).encode() + b"\n" for fields in json_of_texts.of_objects(line)))
 
 
 def opcode_in(line: str) -> Opcode:
@@ -255,13 +262,13 @@ class Lines:
         """How a listing and a report close where this opcode is refused."""
         end = self.end("refused", text_of(self.words.refusal_text(refusal)), offset, place)
         listed = self.closing("refused_line", end, lambda line: end_in(line, offset, place), refusal)
-        return Closings(listed, self.closing("refused_item_line", end, lambda line: closing_in(line).end(offset), place, refusal))
+        return Closings(listed, self.closing("refused_item_line", end, lambda line: reported_in(line, offset), place, refusal))
 
     def of_fault(self, fault: Made, offset: int) -> Closings:
         """The same where the bytes cannot be read on."""
         end = self.end("fault", text_of(self.words.fault_at(fault, offset)), offset)
         listed = self.closing("fault_line", end, lambda line: end_in(line, None, None), fault, offset)
-        return Closings(listed, self.closing("fault_line", end, lambda line: closing_in(line).end(None), fault, offset))
+        return Closings(listed, self.closing("fault_line", end, lambda line: reported_in(line, None), fault, offset))
 
     def of_stop(self, state: dict[str, Value]) -> list[Line]:
         """What STOP left, behind its line."""
@@ -278,7 +285,7 @@ class Lines:
         return self.closing("protocol_line", of, lambda line: json_of_texts.of_end([line]).get("protocol"), highest)
 
     def of_results(self, state: dict[str, Value]) -> list[Line]:
-        return [line for number in state["results"] for line in self.closing("result_line", (number,), lambda line: results_in(line, 0), number)]
+        return [line for number in state["results"] for line in self.closing("result_line", (number,), results_of, number)]
 
     # --- Texts ---
 
@@ -396,7 +403,12 @@ def run(script: str, program: pathlib.Path, folder: pathlib.Path, pickles: Seque
 
 
 def trials(program: pathlib.Path, folder: pathlib.Path, pickles: pathlib.Path) -> list[Trial]:
-    return [Trial("lines beside their definitions", functools.partial(run, __file__, program, folder, sorted(pickles.glob("*.pickle"))))]
+    return [Trial("lines beside their definitions", functools.partial(run, __file__, program, folder, some_of(pickles)))]
+
+
+def some_of(pickles: pathlib.Path) -> list[pathlib.Path]:
+    """Every fourth real pickle, since a definition takes long to evaluate. (All are compared with `pickletools` and with their lines of JSON.)"""
+    return sorted(pickles.glob("*.pickle"))[::4]
 
 
 class Shows(Protocol):

@@ -1,8 +1,10 @@
 """Has the unpicklers of each Python that is there load from all that programs load from: bytes, files, gzip, zip, sockets, and reads that come short.
 
 Each act has to have its line, but for two kinds that docs/why/loaders.md names, which are counted: from a file that shows some bytes ahead, where
-`calls` says by U3 that frames may be mixed, and behind the place that U3 tells; and from reads that come short, in Python's unpickler. The
-Pythons are the one that runs this and, where the environment variable PYTHONS names a folder, all in it from 3.8 on (as pyenv has them:
+`calls` says by U3 that frames may be mixed, and behind the place that U3 tells; and from reads that come short, in Python's unpickler. Where there
+is U3, the opcode that does an act has to be among those that a loader may take which mixes frames, whatever is loaded from, but for short reads:
+the one at the offset where the unpickler stands, where its file tells that, and else one of its kind, in the order of the acts. The Pythons are
+the one that runs this and, where the environment variable PYTHONS names a folder, all in it from 3.8 on (as pyenv has them:
 FOLDER/VERSION/bin/python3). How many lines are noticed when they are taken away is tried too: of a check that sees nothing no one would hear.
 
 What a loader does first has to be reached, as `reach` says it: of a loader that was given no more than what this needs. The cases are pickles that
@@ -46,6 +48,18 @@ LINES = 400
 # The kinds of acts without a line that the pages name.
 MIXES, SHORT = "mixes of frames", "short reads"
 Acts = Sequence[Sequence[Any]]
+# Up to where an unpickler has read at each of its acts, where that is known.
+Ends = Sequence[Optional[int]]
+# Which opcodes do acts of each kind.
+CALLING = frozenset(["REDUCE", "NEWOBJ", "NEWOBJ_EX", "OBJ", "INST"])
+DOING: dict[str, frozenset[str]] = {
+    "import": frozenset(["GLOBAL", "INST", "STACK_GLOBAL", "EXT1", "EXT2", "EXT4"]), "call": CALLING, "new": CALLING,
+    "persistent": frozenset(["PERSID", "BINPERSID"]), "buffer": frozenset(["NEXT_BUFFER"]), "state": frozenset(["BUILD"]),
+    "append": frozenset(["APPEND", "APPENDS"]), "set": frozenset(["SETITEM", "SETITEMS"]), "add": frozenset(["ADDITEMS"]),
+}
+# How many lines an argument of these has, and how many bytes one of the others.
+LINES_OF, BYTES_OF = {"GLOBAL": 2, "INST": 2, "PERSID": 1}, {"EXT1": 1, "EXT2": 2, "EXT4": 4}
+TOO_MANY = "too many ways"
 # What a loader has to be given for an act to be its first one.
 GIVEN = {"persistent": ("--persistent-ids",), "buffer": ("--buffers",), "extension": ("--extensions",)}
 # No module has such a sign in its name. (A loader that imports from one raises, if no point stands before that.)
@@ -104,31 +118,77 @@ def mixed_at(calls: bytes) -> Optional[int]:
     return int(said.rpartition(" ")[2]) if said is not None else None
 
 
+@dataclass(frozen=True)
+class Mixed:
+    """The lines of what a loader may take that mixes frames, beside what the unpicklers do."""
+
+    case: bytes
+    lines: Sequence[str]
+
+    @property
+    def is_untold(self) -> bool:
+        """Whether there are too many ways, so that no opcode has a line."""
+        return bool(self.lines) and self.lines[0].startswith(TOO_MANY)
+
+    def lacks(self, acts: Acts, ends: Ends) -> str:
+        """The first act whose opcode is not among the lines, behind that of the act before; an empty text where there is none."""
+        at = 0
+        for act, end in zip(acts, ends):
+            while at < len(self.lines) and not self._does(self.lines[at], act[0], end):
+                at += 1
+            if at == len(self.lines):
+                return f"{act} is of no opcode{f' that ends at {end}' if end is not None else ''} among {len(self.lines)} that may be taken"
+        return ""
+
+    def _does(self, line: str, what: str, end: Optional[int]) -> bool:
+        offset, _, said = line.partition(": ")
+        opcode = said.partition(" ")[0]
+        return opcode in DOING[what] and (end is None or end in self._ends(int(offset), opcode))
+
+    def _ends(self, offset: int, opcode: str) -> range:
+        """Where an opcode may end with its argument. (Of a number that crosses the end of a frame some bytes may be lost.)"""
+        end = offset + 1
+        for _ in range(LINES_OF.get(opcode, 0)):
+            end = self.case.find(b"\n", end) + 1
+        width = BYTES_OF.get(opcode, 0)
+        return range(end + width, end + max(1, 2 * width))
+
+
 @dataclass
 class Tally:
-    """What was tried. Of `known` the kinds are those that the pages name; `told` counts the cases with U3, `mixes` those in which one is seen."""
+    """What was tried. Of `known` the kinds are those that the pages name; `told` counts the cases with U3, `untold` those of them with too many ways, and
+    `mixes` those in which a mix is seen. `taken` counts the acts that are among what mixes may take, and `placed` those of which the offset is known."""
 
     loads: int = 0
     acts: int = 0
     told: int = 0
+    untold: int = 0
     mixes: int = 0
+    taken: int = 0
+    placed: int = 0
     known: collections.Counter[str] = field(default_factory=collections.Counter)
     found: list[str] = field(default_factory=list)
 
-    def add(self, calls: bytes, loads: Sequence[tuple[str, Acts]], case: bytes) -> None:
+    def add(self, calls: bytes, loads: Sequence[tuple[str, Acts, Ends]], case: bytes) -> None:
         """Judges what the readers do with one case. Most do the same."""
         judged: dict[str, str] = {}
         place = mixed_at(calls) if calls else None
+        mixed = Mixed(case, Calls(calls).mixes) if place is not None else None
         before = self.known[MIXES]
-        for reader, acts in loads:
+        for reader, acts, ends in loads:
             self.loads, self.acts = self.loads + 1, self.acts + len(acts)
             key = json.dumps(acts)
             if key not in judged:
                 judged[key] = without_line(calls, acts) if calls else "the program gives no answer"
+            if mixed is not None and not mixed.is_untold and reader != CUT_SHORT:
+                self.taken, self.placed = self.taken + len(acts), self.placed + len(ends) - ends.count(None)
+                lacks = mixed.lacks(acts, ends)
+                self.found += [f"{reader}: {lacks}: {case.hex()[:6000]}"] if lacks else []
             why = self._unknown(reader, calls, acts, place) if judged[key] and calls else ""
             if judged[key] and (why or not calls):
                 self.found.append(f"{reader}: {judged[key]}{why}: {case.hex()[:6000]}")
         self.told += place is not None
+        self.untold += mixed is not None and mixed.is_untold
         self.mixes += self.known[MIXES] > before
 
     def _unknown(self, reader: str, calls: bytes, acts: Acts, place: Optional[int]) -> str:
@@ -143,8 +203,10 @@ class Tally:
         return ""
 
     def note(self) -> str:
-        mixes = f"{self.known[MIXES]} loads of {self.mixes} cases with mixes, behind a U3 each ({self.told} cases have one)"
-        return f"{self.loads} loads, {self.acts} acts; without a line, as the pages say: {mixes}, {self.known[SHORT]} loads with short reads"
+        told = f"{self.told} cases have one, {self.untold} of them with too many ways"
+        mixes = f"{self.known[MIXES]} loads of {self.mixes} cases with mixes, behind a U3 each ({told})"
+        taken = f"of cases with U3 {self.taken} acts are among what mixes may take, {self.placed} by their offset"
+        return f"{self.loads} loads, {self.acts} acts; without a line, as the pages say: {mixes}, {self.known[SHORT]} loads with short reads; {taken}"
 
 
 def try_python(loads: Loads, version: str, python: str, seed: int, count: int, real: Sequence[bytes]) -> Noted:
@@ -161,6 +223,7 @@ def try_python(loads: Loads, version: str, python: str, seed: int, count: int, r
     why = f"{len(tally.found)} differences, first {shown}" if tally.found else ""
     # (A trial that never meets a mix would not see one that is new.)
     why = why or "; ".join(f"no case has {what}" for what in (MIXES, SHORT) if count >= COUNT and not tally.known[what])
+    why = why or ("no act of a mix has its offset" if count >= COUNT and not tally.placed else "")
     return Noted(why, f": {cases} cases, {tally.note()}")
 
 
@@ -174,9 +237,9 @@ class Reached:
     loaded: int = 0
     found: list[str] = field(default_factory=list)
 
-    def add(self, case: bytes, done: Sequence[tuple[str, Acts]]) -> None:
+    def add(self, case: bytes, done: Sequence[tuple[str, Acts, Ends]]) -> None:
         """Judges what the readers do first with one case."""
-        first = {given for reader, acts in done if reader != CUT_SHORT for given in _given(acts)}
+        first = {given for reader, acts, _ in done if reader != CUT_SHORT for given in _given(acts)}
         self.loaded += len(done)
         self.begun += bool(first)
         # (where no loader does anything `reach` may say so, and is to be asked to see that it does)
@@ -184,7 +247,7 @@ class Reached:
             said = self.loads.said(case, ["reach", *given])
             self.nothing += said.startswith("nothing reached: ")
             if not said.startswith(("reached at ", "too many ways")) and (first or not said.startswith("nothing reached: ")):
-                readers = ", ".join(reader for reader, acts in done if given in _given(acts))
+                readers = ", ".join(reader for reader, acts, _ in done if given in _given(acts))
                 self.found.append(f"{readers}: {said.strip() or 'no answer'}: {case.hex()[:6000]}")
 
 

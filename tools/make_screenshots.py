@@ -15,7 +15,7 @@ ROOT = Path(__file__).resolve().parent.parent
 sys.path[:0] = [str(ROOT / 'python'), str(ROOT / 'python' / 'tests')]
 
 from chromium import PROGRAM, Browser  # noqa: E402
-from picklestep.view.document import Document  # noqa: E402
+from picklestep.document import Document  # noqa: E402
 from picklestep.view.server import Viewer  # noqa: E402
 
 MODELS = ROOT / 'python' / 'tests' / 'data' / 'models'

@@ -1,16 +1,20 @@
-"""Whether a pickle or an archive passes a list: a list, a file and the one line for both, and what is said where a file cannot be read."""
+"""Whether a pickle or another file passes a list: a list, a file and the one line for both, and what is said where a file cannot be read."""
 
 from __future__ import annotations
 
 import functools
+import gzip
+import json
 import pickle
 import struct
 import zipfile
 import zlib
 from dataclasses import dataclass
 
+import json_of_texts
+
 from .members import CHECKSUM, METHOD, NO_END, SIZE, in_both, zipped
-from .room import Room, run
+from .room import Room, Run, run
 from .row import CLOSED, FULL, LITTLE_MEMORY, MISSING, Row, fails, trials_of
 from .samples import NOT_ALLOWED, SEVERAL
 from .trial import Trial
@@ -54,9 +58,6 @@ FILL = "43: not allowed: set 1 in #2\n"
 NEW = "10: not allowed: new 'm' 'C' () as #2\n"
 ENCODE = "46: not allowed: call '_codecs' 'encode' ('abc', 'latin1') as #4\n"
 STATE = "27: not allowed: state #3 to #2\n"
-# `.npy` files before what is behind their headers: the length of a header has two bytes, and from the second version on four.
-ARRAY = b"\x93NUMPY\x01\x00\x06\x00{'a'}\n"
-WIDE_ARRAY = b"\x93NUMPY\x02\x00\x06\x00\x00\x00{'a'}\n"
 # Where the header of a member and its row of the directory tell these.
 CHECKSUMS, SIZES = (CHECKSUM, CHECKSUM + 2), (SIZE, SIZE + 2)
 # `N.` as one block of deflate that stores it: the last block, the length, its complement, the bytes.
@@ -78,7 +79,15 @@ def broken(why: str) -> str:
     return f"'a.pkl': {why}\n"
 
 
-PACKED = zipped(("a.pkl", ORDERED), ("b.npy", ARRAY + bytes(640)), method=zipfile.ZIP_DEFLATED)
+def array(items: str, shape: str, width: int = 2) -> bytes:
+    """The header of an `.npy` file, as numpy writes it. Its length has two bytes, and from the second version on four."""
+    text = f"{{'descr': {items}, 'fortran_order': False, 'shape': {shape}, }}".encode().ljust(119 - width) + b"\n"
+    return b"\x93NUMPY" + bytes((width // 2, 0)) + len(text).to_bytes(width, "little") + text
+
+
+ARRAY, WIDE_ARRAY = array("'|O'", "()"), array("'|O'", "()", 4)
+OTHER_SIZE = "not in form: 128: more or fewer bytes than the header of the array tells\n"
+PACKED = zipped(("a.pkl", ORDERED), ("b.npy", array("'<f8'", "(80,)") + bytes(640)), method=zipfile.ZIP_DEFLATED)
 MODEL = zipped(("archive/data.pkl", ORDERED), ("archive/data/0", bytes(64)), ("archive/version", b"3\n"))
 
 
@@ -100,7 +109,14 @@ class Case:
         folder.mkdir(parents=True, exist_ok=True)
         (folder / "list").write_bytes(self.listed)
         (folder / "pickle").write_bytes(self.pickle)
-        return run([room.program, "gate", "list", "pickle"], folder).difference(self.status, self.output, "")
+        words = [room.program, "gate", "list", "pickle"]
+        return run(words, folder).difference(self.status, self.output, "") or self.fault_of_json(run([*words, "--json"], folder))
+
+    def fault_of_json(self, found: Run) -> str:
+        fields = json.loads(found.output)
+        fields.pop("reason", None)
+        wanted = json_of_texts.of_gate(self.output)
+        return "" if (list(fields.items()), found.status, found.errors) == (list(wanted.items()), self.status, b"") else f"with --json: {found.output!r}"
 
 
 CASES = (
@@ -189,7 +205,6 @@ CASES = (
     Case("a member that ends too early", b"**", zipped(("a.pkl", ORDERED[:-1])), "'a.pkl': not in form: item 10 at 44: no opcode can be read\n"),
     Case("packed members", b"collections.OrderedDict: call made-fill", PACKED, PASSES),
     Case("a packed member that is not allowed", b"", PACKED, f"'a.pkl': {IMPORT}"),
-    Case("a packed array of objects", b"", zipped(("a.npy", ARRAY + SYSTEM), method=zipfile.ZIP_DEFLATED), "'a.npy': behind its header: 0: not allowed: import 'posix' 'system' as #0\n"),
     Case("a packed archive", b"**", zipped(("a.zip", zipped(("a.pkl", b"N."))), method=zipfile.ZIP_DEFLATED), "'a.zip': an archive itself: it is not looked at\n"),
     Case("a stored member with another checksum", b"", in_both(zipped(("a.pkl", b"N.")), CHECKSUMS, number(1)), broken("another checksum than is told")),
     Case("one of many bytes", b"", in_both(zipped(("a.pkl", bytes(9000))), CHECKSUMS, number(1)), broken("another checksum than is told")),
@@ -207,7 +222,15 @@ CASES = (
     Case("names that differ in case alone", b"", zipped(("a.pkl", b"N."), ("A.pkl", b"N.")), "two names that differ in case alone: it is not looked at\n"),
     Case("an archive in an archive", b"**", zipped(("a.zip", zipped(("a.pkl", b"N.")))), "'a.zip': an archive itself: it is not looked at\n"),
     Case("an archive without members in an archive", b"**", zipped(("a.zip", zipped())), "'a.zip': an archive itself: it is not looked at\n"),
-    Case("arrays of numbers", b"", zipped(("a.npy", ARRAY + bytes(16)), ("b.npy", WIDE_ARRAY + bytes(16))), PASSES),
+    Case("arrays of numbers", b"", zipped(("a.npy", array("'<f8'", "(2,)") + bytes(16)), ("b.npy", array("'<U2'", "(1, 2)", 4) + b"c" * 16)), PASSES),
+    Case("an array of fewer bytes than are told", b"", zipped(("a.npy", array("'<f8'", "(2,)") + bytes(13))), f"'a.npy': {OTHER_SIZE}"),
+    Case("an array in a file", b"", array("'<M8[ns]'", "(3, 2)") + b"c" * 48, PASSES),
+    Case("one of fields", b"**", array("[('a', '<f8')]", "(1,)") + bytes(8), "not in form: 20: items of an array that are no plain numbers, texts, times, bytes or objects\n"),
+    Case("a file of gzip", b"collections.OrderedDict: call made-fill", gzip.compress(ORDERED), PASSES),
+    Case("a packed pickle that is not allowed", b"", zlib.compress(ORDERED), f"'(zlib)': {IMPORT}"),
+    Case("bytes behind a packed file", b"**", gzip.compress(b"N.") * 2, "not in form: 22: bytes behind the end of the stream\n"),
+    Case("a packed file with another checksum", b"**", zlib.compress(b"N.")[:-1] + b"?", "not in form: 6: another checksum than is told\n"),
+    Case("a packed file in a packed file", b"**", gzip.compress(zlib.compress(b"N.")), "'(gzip)': a container itself: it is not looked at\n"),
     Case("a command behind a persistent id", b"persistent\n", zipped(("a.pkl", PERSISTENT[:-1] + SYSTEM)), "'a.pkl': 11: not allowed: import 'posix' 'system' as #2\n"),
     Case("a persistent id in a member", b"", zipped(("a.pkl", PERSISTENT)), "'a.pkl': 10: not allowed: persistent 'a' as #1\n"),
     Case("numbers that begin as a persistent id of nothing", b"", zipped(("data/0", b"Q" + SYSTEM)), PASSES),

@@ -9,7 +9,6 @@ import sys
 from collections.abc import Callable, Iterator, Sequence, Set
 from typing import Optional, Protocol
 
-import count_calls
 import crate_rows
 import devices
 import hostile
@@ -112,13 +111,11 @@ def of_program(room: Room) -> list[AnyGroup]:
 
 def of_pickles(room: Room) -> list[AnyGroup]:
     """What it does with the real pickles, and with large inputs."""
-    counts = count_calls.Counts(str(room.program), room.listings)
     inputs = several.Inputs(str(room.program), room.folder / "several")
     return [
         group("listings", listings.trials, room),
         group("json", json_lines.trials, room),
         group("lines", line_trials, room),
-        Group("calls", functools.partial(count_calls.trials, counts, room.pickles), counts.closing),
         group("there-and-back", listings.there_and_back, room),
         group("assembled", listings.assembled, room),
         Group("several", functools.partial(several.trials, inputs, room.pickles, room.listings), inputs.closing),
@@ -130,7 +127,7 @@ def of_surroundings(room: Room) -> list[AnyGroup]:
     """Inputs that lie, devices that break, files in the way, and how the program is released."""
     breaking = {name: functools.partial(room.of(name).library, "break_devices") for name in ("devices", "saves", "machines")}
     shared = room.root / "dist" / libraries.X86 / "lib/libpicklestep.so"
-    cut = hostile.Hostile(str(room.program), str(shared), room.folder / "hostile", room.pickles)
+    cut = hostile.Hostile(str(room.program), str(shared), room.folder / "hostile")
     broken = devices.Devices(str(room.proved), breaking["devices"], room.folder / "devices")
     saved = saves.Saves(str(room.proved), breaking["saves"], room.folder / "saves")
     released = releases.Releases(room.root, room.program, room.folder / "releases")

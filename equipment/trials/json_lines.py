@@ -3,11 +3,13 @@
 from __future__ import annotations
 
 import functools
+import itertools
 import json
 import re
 import shutil
-from collections.abc import Iterable, Iterator, Sequence
+from collections.abc import Callable, Iterable, Iterator, Sequence
 from pathlib import Path
+from typing import Any
 
 import calls_of_json
 import conversations
@@ -16,10 +18,12 @@ import json_of_texts
 from .listings import start_of
 from .room import Room, beginning, lines_of, run
 from .row import CLOSED, FULL, Row, fails, trials_of
-from .samples import PAIR_JSON
+from .samples import PAIR_JSON, PAIR_OBJECTS_JSON
 from .trial import Lack, Trial
 
+WORDS: dict[str, Callable[[str], Iterator[Any]]] = {"list": json_of_texts.of_listing, "objects": json_of_texts.of_objects}
 MODES: Sequence[Sequence[str]] = ((), ("--many",), ("--unframed",), ("--many", "--unframed"))
+TOGETHER = 20  # pickles whose lines Node reads in one start
 CALLS_MODES: Sequence[Sequence[str]] = ((), ("--first",), ("--memo", "kept"), ("--full",), ("--memo", "kept", "--full"))
 # Reads lines of JSON, and writes each again without white space.
 NODE = """
@@ -42,11 +46,10 @@ def of_python(lines: bytes) -> bytes:
     return b"".join(json.dumps(json.loads(line), ensure_ascii=False, separators=(",", ":")).encode() + b"\n" for line in lines_of(lines))
 
 
-def fault_of_lines(lines: bytes, text: bytes) -> str:
+def fault_of_lines(lines: bytes, wanted: Sequence[Any]) -> str:
     """Each line is an object in ASCII, which says what the text says."""
     if not lines.isascii() or not lines.endswith(b"\n"):
         return f"no lines in ASCII, but: {beginning(lines)}"
-    wanted = list(json_of_texts.of_listing(text.decode()))
     found = [json.loads(line) for line in lines_of(lines)]
     for number, (one, other) in enumerate(zip(found, wanted), 1):
         if list(one.items()) != list(other.items()):
@@ -54,14 +57,14 @@ def fault_of_lines(lines: bytes, text: bytes) -> str:
     return "" if len(found) == len(wanted) else f"{len(found)} lines and not {len(wanted)}"
 
 
-def fault_of(room: Room, pickle: Path) -> str:
-    """In each mode. Node is started once for all of them."""
+def fault_of(room: Room, pickles: Iterable[Path]) -> str:
+    """Of pickles, in each mode. Node is started once for all of them."""
     printed = b""
-    for mode in MODES:
-        text, lines = (room.observe(start_of(room, pickle), "list", *mode, *options, pickle) for options in ((), ("--json",)))
-        why = lines.fault_of_status(text.status) or fault_of_lines(lines.output, text.output)
+    for pickle, word, mode in itertools.product(pickles, WORDS, MODES):
+        text, lines = (room.observe(start_of(room, pickle), word, *mode, *options, pickle) for options in ((), ("--json",)))
+        why = lines.fault_of_status(text.status) or fault_of_lines(lines.output, list(WORDS[word](text.output.decode())))
         if why or lines.errors:
-            return f"{' '.join(mode)}: {why or beginning(lines.errors)}"
+            return f"{pickle.stem}: {word} {' '.join(mode)}: {why or beginning(lines.errors)}"
         printed += lines.output
     return "" if of_node(room, printed) == of_python(printed) else "Node reads other values than Python"
 
@@ -83,19 +86,25 @@ def fault_of_calls(room: Room, asked: Iterable[tuple[Path, Sequence[str]]]) -> s
     for pickle, mode in asked:
         lines, why = calls_as_lines(room, pickle, mode)
         if why:
-            return f"{pickle.read_bytes()[:100].hex()}: {why}"
+            return f"{pickle.stem}, {pickle.read_bytes()[:100].hex()}: {why}"
         printed += lines
     return "" if of_node(room, printed) == of_python(printed) else "Node reads other values than Python"
 
 
 def rows_of_calls(room: Room) -> Iterator[tuple[Path, Sequence[str]]]:
-    """Each pickle of calls.txt, with the options of each of its rows."""
+    """Each pickle of calls.txt, with the options of each of its rows; and calls whose lines are as long as those that have a text, or longer."""
     rows = (room.equipment / "calls.txt").read_text()
     for number, found in enumerate(re.finditer(r"^pickle (.*)\n((?:.+\n)*)", rows, re.MULTILINE)):
         pickle = room.files / f"row_{number}.pickle"
         pickle.write_bytes(bytes.fromhex(found[1]))
         for options in re.findall(r"^\$ calls(.*)$", found[2], re.MULTILINE):
             yield pickle, options.split()
+    # (the call's line has so many bytes without its newline: the most that have a text, one more, and more than the program holds)
+    for size in (calls_of_json.LONG - 1, calls_of_json.LONG, 4351, 4352):
+        text = b"a" * (size - len("%5d: call 'm' 'n' ('') as #3" % size))
+        pickle = room.files / f"line_{size}.pickle"
+        pickle.write_bytes(b"cm\nn\n(X" + len(text).to_bytes(4, "little") + text + b"tR.")
+        yield pickle, ["--full"]
 
 
 def fault_of_forms(room: Room, page: Path) -> str:
@@ -128,6 +137,7 @@ TWICE = "".join(
 ROWS = (
     Row("JSON of a pair", ("list", "--json", "pair.pickle"), output=PAIR_JSON),
     Row("JSON of a pair, by the option behind it", ("list", "pair.pickle", "--json"), output=PAIR_JSON),
+    Row("JSON of the objects of a pair", ("objects", "--json", "pair.pickle"), output=PAIR_OBJECTS_JSON),
     Row("JSON of two pickles", ("list", "--many", "--json", "twice.pickle"), output=TWICE),
     Row("JSON of an argument that is cut", ("list", "--json", "cut_short.pickle"), status=1,
         output='{"kind":"end","how":"fault","code":"F3","words":"truncated","offset":0,"of_frame":false}\n'),
@@ -138,13 +148,13 @@ ROWS = (
 
 
 def trials(room: Room) -> list[Trial]:
+    pickles = sorted(room.pickles.glob("*.pickle"))
+    parts = [pickles[at : at + TOGETHER] for at in range(0, len(pickles), TOGETHER)]
+    named = {f"{part[0].stem} to {part[-1].stem}": part for part in parts}
     return [
         *trials_of(ROWS, room),
         Trial("JSON of forms", functools.partial(fault_of_forms, room, room.equipment / "conversations.txt")),
-        *(Trial(f"JSON of {pickle.stem}", functools.partial(fault_of, room, pickle)) for pickle in sorted(room.pickles.glob("*.pickle"))),
-        *(
-            Trial(f"JSON of the calls of {pickle.stem}", functools.partial(fault_of_calls, room, [(pickle, mode) for mode in CALLS_MODES]))
-            for pickle in sorted(room.pickles.glob("*.pickle"))
-        ),
+        *(Trial(f"JSON of {name}", functools.partial(fault_of, room, part)) for name, part in named.items()),
+        *(Trial(f"JSON of the calls of {name}", functools.partial(fault_of_calls, room, [*itertools.product(part, CALLS_MODES)])) for name, part in named.items()),
         Trial("JSON of the rows of calls.txt", lambda: fault_of_calls(room, rows_of_calls(room))),
     ]

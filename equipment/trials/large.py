@@ -9,7 +9,7 @@ from collections.abc import Callable, Iterator
 
 from .room import Room, Word, beginning
 from .row import Row, fails, trials_of
-from .samples import LARGE, LARGEST
+from .samples import LARGE
 from .trial import Skip, Trial
 
 WHERE = "at 0 of {}, offset 0, buffers 0, result none, end {}\n"
@@ -65,9 +65,10 @@ def zeros_between(before: str, count: int, behind: str) -> Iterator[bytes]:
     yield f"'{behind}".encode()
 
 
-def writes(room: Room, task: str, file: str, pieces: Iterator[bytes]) -> str:
-    """A task writes this text, and ends well."""
-    words: list[Word] = ["timeout", str(MOST_SECONDS), room.start, task, file]
+def shows_large(room: Room) -> str:
+    """The objects of a large input are the bytes, which are the result. It ends well."""
+    words: list[Word] = ["timeout", str(MOST_SECONDS), room.start, "objects", "large.pickle"]
+    pieces = zeros_between("#0 bytes ", LARGE - 6, "\nresult #0\n")
     with subprocess.Popen(words, cwd=room.files, stdin=subprocess.DEVNULL, stdout=subprocess.PIPE, stderr=subprocess.PIPE) as writer:
         assert writer.stdout and writer.stderr
         is_same = all(writer.stdout.read(len(piece)) == piece for piece in pieces)
@@ -81,21 +82,10 @@ def writes(room: Room, task: str, file: str, pieces: Iterator[bytes]) -> str:
     return "" if status == 0 else f"status {status}, with errors that begin: {beginning(errors)}"
 
 
-def lists_largest(room: Room) -> str:
-    closing = f"\n{LARGEST - 1}: .    STOP\nhighest protocol among opcodes = 3\n"
-    return writes(room, "list", "largest.pickle", zeros_between("    0: B    BINBYTES   ", LARGEST - 6, closing))
-
-
-def shows_large(room: Room) -> str:
-    """The objects of a large input: the bytes, which are the result."""
-    return writes(room, "objects", "large.pickle", zeros_between("#0 bytes ", LARGE - 6, "\nresult #0\n"))
-
-
 def trials(room: Room) -> list[Trial]:
     return [
         Trial("a large input", functools.partial(reads_large, room)),
         *trials_of((*EDITS, FORM), room),
         Trial("the objects of a large input", functools.partial(shows_large, room)),
         *(Trial(row.name, functools.partial(with_gigabytes, room, row.fault)) for row in (LONGER, *PIPES)),
-        Trial("the listing of the largest input", functools.partial(with_gigabytes, room, lists_largest)),
     ]

@@ -7,6 +7,7 @@ import re
 from collections.abc import Sequence
 from pathlib import Path
 from pickle import decode_long, encode_long
+from struct import pack
 
 from python_listing import ITEM, NOTE, Read, behind, expected, kept_lines, outline, refusal_of
 from real_pickles.answers import closing_of, document_of, lenient
@@ -186,15 +187,15 @@ REFUSED = (
     ("BINIT1 1", "no opcode has this name"),
     ("BININT1 one", "the opcode wants a whole number"),
     ("BININT1 256", "the number does not fit into the opcode's bytes"),
-    ("BINUNICODE 'a", "the opcode wants a text in single quotes"),
+    ("BINUNICODE 'a", "the opcode wants a text in quotes"),
     (f"SHORT_BINBYTES '{'a' * 256}'", "the text is too long for the opcode"),
-    ("BINFLOAT 1.5", "the opcode wants f8: and hexadecimal digits"),
+    ("BINFLOAT 1,5", "the opcode wants a number, or f8: and hexadecimal digits"),
     ("raw: 7g", "these are no pairs of hexadecimal digits"),
     ("BININT1 hex: 0102", "the bytes are no argument of the opcode"),
-    ("NONE 'a'", "the line goes on behind the argument"),
+    ("NONE (a note", "the line goes on behind the argument"),
 )
-GIVEN = "4: K BININT1 7 (a note) # a comment\n\nraw: 7F00\nGET 007\nLONG1 255\nLONG1 -128\nBINUNICODE '\xe9\\x0a'\nSHORT_BINBYTES hex: 0107\nSTOP"
-MADE = b"K\x07\x7f\0g007\n\x8a\2\xff\0\x8a\1\x80X\3\0\0\0\xc3\xa9\nC\1\7."
+GIVEN = "4: K BININT1 7 (a note) # a comment\n5: # another\nraw: 7F00\nGET 007\nLONG1 255\nLONG1 -128\nBINUNICODE '\xe9\\x0a'\nSHORT_BINBYTES hex: 0107\nSHORT_BINBYTES b\"'\\n\"\nINT -7\nFLOAT 1e3\nBINFLOAT 0.1\nSTOP"
+MADE = b"K\x07\x7f\0g007\n\x8a\2\xff\0\x8a\1\x80X\3\0\0\0\xc3\xa9\nC\1\7C\2'\nI-7\nF1e3\nG" + pack(">d", 0.1) + b"."
 ROWS = (
     *(Row(f"no line: {line[:20]}", ("assemble", "/dev/stdin"), f"STOP\n{line}\n", 1, f"refused: line 2: {why}\n") for line, why in REFUSED),
     Row("lines of each kind", ("assemble", "/dev/stdin"), GIVEN, output=MADE.hex(), through='"$@" | od -An -v -tx1 | tr -d " \\n"'),

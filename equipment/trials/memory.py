@@ -14,7 +14,7 @@ from dataclasses import dataclass, field
 from pathlib import Path
 
 from .room import Room, Run, Word, beginning
-from .samples import HOSTILE_CALLS, MEMBERS, NOT_ALLOWED, PAIR_JSON, PAIR_LISTING, PAIR_OBJECTS, REACHED, SEVERAL, TWICE_OBJECTS
+from .samples import HOSTILE_CALLS, MEMBERS, NOT_ALLOWED, PAIR_JSON, PAIR_LISTING, PAIR_OBJECTS, PAIR_OBJECTS_JSON, REACHED, SEVERAL, TWICE_OBJECTS
 from .trial import Noted, Trial
 
 LIBRARY = "refuse_memory"
@@ -54,11 +54,13 @@ COMMANDS = (
     PAIR,
     Command("JSON of a pair", ("list", "--json", "pair.pickle"), PAIR_JSON, is_part),
     Command("the objects of a pair", ("objects", "pair.pickle"), PAIR_OBJECTS, is_nothing),
+    Command("JSON of the objects of a pair", ("objects", "--json", "pair.pickle"), PAIR_OBJECTS_JSON, is_nothing),
     Command("the calls of a pickle", ("calls", "hostile.pickle"), HOSTILE_CALLS, is_part),
     Command("the objects of two pickles", ("objects", "--many", "twice.pickle"), TWICE_OBJECTS, is_nothing),
     Command("what a list does not allow", ("gate", "names.list", "hostile.pickle"), NOT_ALLOWED, is_nothing, status=1),
     Command("what a list says of an archive", ("gate", "names.list", "two.zip"), "passes\n", is_nothing),
     Command("what a list says of several files", ("gate", "names.list", "none.pickle", "hostile.pickle"), SEVERAL, is_part, status=1),
+    Command("JSON of what a list says of an archive", ("gate", "--json", "names.list", "two.zip"), '{"kind":"verdict","how":"passes","text":"passes"}\n', is_nothing),
     Command("what is reached", ("reach", "hostile.pickle"), REACHED, is_nothing, status=1),
     Command("the members of an archive", ("members", "two.zip"), MEMBERS, is_nothing),
     Command(

@@ -24,6 +24,8 @@ PAIR_JSON = """\
 {"kind":"opcode","offset":7,"opcode":"STOP","marks":0}
 {"kind":"end","how":"stopped","kept":0,"protocol":2}
 """
+PAIR_OBJECTS_JSON = ('{"kind":"object","object":0,"is":"int","argument":1}\n{"kind":"object","object":1,"is":"int","argument":2}\n'
+                     '{"kind":"object","object":2,"is":"tuple","parts":[0,1]}\n{"kind":"result","object":2}\n{"kind":"end","how":"stopped"}\n')
 PAIR_OBJECTS = "#0 int 1\n#1 int 2\n#2 tuple (#0 #1)\nresult #2\n"
 DOUBLED = b"K\x012\x86."
 TWICE_OBJECTS = "#0 int 1\n#1 tuple (#0 #0)\n#2 int 1\n#3 tuple (#2 #2)\nresult #1\nresult #3\n"

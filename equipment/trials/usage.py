@@ -129,7 +129,7 @@ ASSEMBLE_DOES = ("assemble", "Writes the pickle whose opcodes stand in FILE as `
 GATE_FILES = (("<LIST>", "the list of names, and of what may be done with each"), ("<FILE>...", "a pickle or a zip archive, or several"))
 OPTIONS = {
     "list": (("    --many", MANY_HELP), ("    --unframed", UNFRAMED_HELP), JSON_HELP),
-    "objects": (("    --many", MANY_HELP), ("    --unframed", UNFRAMED_HELP)),
+    "objects": (("    --many", MANY_HELP), ("    --unframed", UNFRAMED_HELP), JSON_HELP),
     "form": (("    --many", "changes nothing: FILE is to be one pickle"), JSON_HELP),
     "reach": (
         ("    --extensions", "the loader knows extension codes"),
@@ -182,7 +182,7 @@ HELPS = (
         "the help of gate",
         ("gate", "--help"),
         status=2,
-        errors=f"{GATE_DOES[1]}\n\nUsage: picklestep {GATE}\n\n" + columns("Arguments:\n", GATE_FILES) + columns("\nOptions:\n", (NO_MORE_HELP,)),
+        errors=f"{GATE_DOES[1]}\n\nUsage: picklestep {GATE.replace(' ', ' [OPTIONS] ', 1)}\n\n" + columns("Arguments:\n", GATE_FILES) + columns("\nOptions:\n", (JSON_HELP, NO_MORE_HELP)),
         is_bare=True,
     ),
     *(
