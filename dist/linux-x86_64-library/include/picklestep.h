@@ -64,6 +64,10 @@ uint8_t picklestep_form_json(const uint8_t *bytes, size_t length, uint8_t *out, 
 uint8_t picklestep_gate(const uint8_t *list, size_t list_length, const uint8_t *bytes, size_t length, uint8_t *out, size_t room,
                         picklestep_written *written);
 
+/* The same as a line of JSON (`picklestep gate --json LIST FILE`). Where a line of the list is no entry, it says which, and the status is 2. */
+uint8_t picklestep_gate_json(const uint8_t *list, size_t list_length, const uint8_t *bytes, size_t length, uint8_t *out, size_t room,
+                             picklestep_written *written);
+
 /* What a loader was given besides the bytes: the sum of these, or 0, as `pickle.load` with nothing but a file. */
 enum {
     PICKLESTEP_EXTENSIONS = 1,     /* it knows extension codes (--extensions) */
@@ -80,6 +84,10 @@ uint8_t picklestep_reach_json(uint32_t granted, const uint8_t *bytes, size_t len
 /* The members of the zip archive that the bytes are, in the form in which usual writers write, or the first rule that they break, and where
  * (`picklestep members FILE`). */
 uint8_t picklestep_members(const uint8_t *bytes, size_t length, uint8_t *out, size_t room, picklestep_written *written);
+
+/* The bytes that a text of opcodes is assembled to, which has lines as `picklestep list` prints them (`picklestep assemble FILE`). Where a line
+ * gives none, its number and the reason are the text, and the status is 1. */
+uint8_t picklestep_assemble(const uint8_t *text, size_t length, uint8_t *out, size_t room, picklestep_written *written);
 
 /* The answers of a conversation: those to all lines of a script, of `script_length` bytes, in a session of a pickle, or with `many` of several
  * (`picklestep debug FILE [--many]`, with the script as its standard input). A conversation that goes on is asked with all lines so far. */
@@ -107,6 +115,8 @@ uint8_t picklestep_list_with(uint32_t options, const uint8_t *bytes, size_t leng
 /* The listing as JSON Lines (`picklestep list --json FILE`), with PICKLESTEP_MANY and PICKLESTEP_UNFRAMED as options. */
 uint8_t picklestep_list_json(uint32_t options, const uint8_t *bytes, size_t length, uint8_t *out, size_t room, picklestep_written *written);
 uint8_t picklestep_objects_with(uint32_t options, const uint8_t *bytes, size_t length, uint8_t *out, size_t room, picklestep_written *written);
+/* The objects as JSON Lines (`picklestep objects --json FILE`), with PICKLESTEP_MANY and PICKLESTEP_UNFRAMED as options. */
+uint8_t picklestep_objects_json(uint32_t options, const uint8_t *bytes, size_t length, uint8_t *out, size_t room, picklestep_written *written);
 uint8_t picklestep_calls_with(uint32_t options, const picklestep_hole *holes, size_t count, const uint8_t *bytes, size_t length, uint8_t *out,
                               size_t room, picklestep_written *written);
 /* What is imported and called as JSON Lines (`picklestep calls --json FILE`), with the options and the holes of picklestep_calls_with. */
