@@ -54,12 +54,15 @@ is_put_together() {
 is_told_more() {
     command -v python3 >/dev/null || return 1
     [ "$1" != calls ] || return 0
-    case " $* " in ' assemble '*' --save'*) return 0 ;; esac # (Python saves)
+    case " $* " in ' assemble '*' --save'* | ' assemble '*' --frame '*) return 0 ;; esac # (Python saves, and frames)
     opens=1
     if [ "$1" = gate ]; then
         case " $*" in *' --explain'* | *' --list'*) return 0 ;; esac
-        ! is_put_together "$2" || return 0
-        [ $# -le 3 ] || opens='' # (among several files none is opened)
+        listed=$2 files=$#
+        case " $* " in *' --json '*) files=$((files - 1)) ;; esac
+        [ "$2" != --json ] || listed=${3-}
+        ! is_put_together "$listed" || return 0
+        [ "$files" -le 3 ] || opens='' # (among several files none is opened)
     fi
     shift
     for word in "$@"; do
