@@ -26,9 +26,9 @@ COLUMN = re.compile(r"""b'.'|b?"[^"]*"|\([^)]*\)|[^\s"(]+""")
 
 # The form of each argument of pickletools, as the enum `Form` of the table names it. The lines of GET and PUT are digits here, and quotes are asked for in STRING alone.
 FORMS = {
-    "uint1": "U1", "uint2": "U2", "uint4": "U4", "uint8": "U8", "int4": "S4", "float8": "R8", "long1": "B1", "long4": "Bs4", "string1": "B1",
-    "string4": "Bs4", "bytes1": "B1", "bytes4": "B4", "bytes8": "B8", "bytearray8": "B8", "unicodestring1": "B1", "unicodestring4": "B4",
-    "unicodestring8": "B8", "stringnl": "Quoted", "stringnl_noescape": "Line", "stringnl_noescape_pair": "Two", "unicodestringnl": "Line",
+    "uint1": "Uint1", "uint2": "Uint2", "uint4": "Uint4", "uint8": "Uint8", "int4": "Int4", "float8": "Float8", "long1": "Bytes1", "long4": "String4", "string1": "Bytes1",
+    "string4": "String4", "bytes1": "Bytes1", "bytes4": "Bytes4", "bytes8": "Bytes8", "bytearray8": "Bytes8", "unicodestring1": "Bytes1", "unicodestring4": "Bytes4",
+    "unicodestring8": "Bytes8", "stringnl": "Quoted", "stringnl_noescape": "Line", "stringnl_noescape_pair": "Two", "unicodestringnl": "Line",
     "decimalnl_short": "Line", "decimalnl_long": "Line", "floatnl": "Line",
 }
 FORMS_OF = {"GET": "Decimal", "PUT": "Decimal"}

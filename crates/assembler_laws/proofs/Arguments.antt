@@ -235,24 +235,24 @@ same_text f arg s t e r = let same : s ≡ t = cc in subst (IsRead (form_first f
 
 of_form : (f : Form) (arg t : List ℕ) → IsArg f arg → value_fault f arg ≡ None → IsBytes arg → HasPlainDigits f arg → form_text f arg ≡ Some t → IsRead (form_first f) arg t
 of_form form.Empty arg t a v h p e = absurd cc
-of_form form.U1 arg t a v h p e = same_text form.U1 arg _ t e (record { head = fixed_head 1 arg h (omega arith); back = λ gap rest g s. fixed_read form.U1 gap arg rest g s h a refl (omega arith) })
-of_form form.U2 arg t a v h p e = same_text form.U2 arg _ t e (record { head = fixed_head 2 arg h (omega arith); back = λ gap rest g s. fixed_read form.U2 gap arg rest g s h a refl (omega arith) })
-of_form form.U4 arg t a v h p e = same_text form.U4 arg _ t e (record { head = fixed_head 4 arg h (omega arith); back = λ gap rest g s. fixed_read form.U4 gap arg rest g s h a refl (omega arith) })
-of_form form.U8 arg t a v h p e = same_text form.U8 arg _ t e (record { head = fixed_head 8 arg h (omega arith); back = λ gap rest g s. fixed_read form.U8 gap arg rest g s h a refl (omega arith) })
-of_form form.S4 arg t a v h p e = same_text form.S4 arg _ t e (record { head = signed_head arg h; back = λ gap rest g s. signed_read gap arg rest g s h a })
-of_form form.R8 arg t a v h p e = same_text form.R8 arg _ t e (record { head = float_head arg; back = λ gap rest g s. float_read gap arg rest g h (omega (arith, a)) s })
+of_form form.Uint1 arg t a v h p e = same_text form.Uint1 arg _ t e (record { head = fixed_head 1 arg h (omega arith); back = λ gap rest g s. fixed_read form.Uint1 gap arg rest g s h a refl (omega arith) })
+of_form form.Uint2 arg t a v h p e = same_text form.Uint2 arg _ t e (record { head = fixed_head 2 arg h (omega arith); back = λ gap rest g s. fixed_read form.Uint2 gap arg rest g s h a refl (omega arith) })
+of_form form.Uint4 arg t a v h p e = same_text form.Uint4 arg _ t e (record { head = fixed_head 4 arg h (omega arith); back = λ gap rest g s. fixed_read form.Uint4 gap arg rest g s h a refl (omega arith) })
+of_form form.Uint8 arg t a v h p e = same_text form.Uint8 arg _ t e (record { head = fixed_head 8 arg h (omega arith); back = λ gap rest g s. fixed_read form.Uint8 gap arg rest g s h a refl (omega arith) })
+of_form form.Int4 arg t a v h p e = same_text form.Int4 arg _ t e (record { head = signed_head arg h; back = λ gap rest g s. signed_read gap arg rest g s h a })
+of_form form.Float8 arg t a v h p e = same_text form.Float8 arg _ t e (record { head = float_head arg; back = λ gap rest g s. float_read gap arg rest g h (omega (arith, a)) s })
 of_form form.Line arg t a v h p e = same_text form.Line arg _ t e (record { head = quoted_head (text_of arg); back = λ gap rest g s. lined_read gap arg rest g h a })
 of_form form.Quoted arg t a v h p e = same_text form.Quoted arg _ t e (record { head = quoted_head (text_of arg); back = λ gap rest g s. lined_read gap arg rest g h a })
 of_form form.Decimal arg t a v h p e =
     let small = value_small (text_of arg) (good_value (text_of arg) (is_decimal (text_of arg)) _ v) in
     same_text form.Decimal arg _ t e (record { head = decimal_head (value_of (text_of arg)) (some_wide _ small); back = λ gap rest g s. decimal_there gap arg rest g s a small p })
 of_form form.Two arg t a v h p e = same_text form.Two arg _ t e (record { head = two_head arg; back = λ gap rest g s. two_read gap arg rest g h a })
-of_form form.B1 arg t a v h p e = same_text form.B1 arg _ t e (record { head = quoted_head (drop 1 arg); back = λ gap rest g s. counted_read form.B1 gap arg rest g h a.0 a.1 (by_count form.B1 arg h refl) })
-of_form form.B4 arg t a v h p e = same_text form.B4 arg _ t e (record { head = quoted_head (drop 4 arg); back = λ gap rest g s. counted_read form.B4 gap arg rest g h a.0 a.1 (by_count form.B4 arg h refl) })
-of_form form.B8 arg t a v h p e = same_text form.B8 arg _ t e (record { head = quoted_head (drop 8 arg); back = λ gap rest g s. counted_read form.B8 gap arg rest g h a.0 a.1 (by_count form.B8 arg h refl) })
-of_form form.Bs4 arg t a v h p e =
+of_form form.Bytes1 arg t a v h p e = same_text form.Bytes1 arg _ t e (record { head = quoted_head (drop 1 arg); back = λ gap rest g s. counted_read form.Bytes1 gap arg rest g h a.0 a.1 (by_count form.Bytes1 arg h refl) })
+of_form form.Bytes4 arg t a v h p e = same_text form.Bytes4 arg _ t e (record { head = quoted_head (drop 4 arg); back = λ gap rest g s. counted_read form.Bytes4 gap arg rest g h a.0 a.1 (by_count form.Bytes4 arg h refl) })
+of_form form.Bytes8 arg t a v h p e = same_text form.Bytes8 arg _ t e (record { head = quoted_head (drop 8 arg); back = λ gap rest g s. counted_read form.Bytes8 gap arg rest g h a.0 a.1 (by_count form.Bytes8 arg h refl) })
+of_form form.String4 arg t a v h p e =
     let no = not_negative (is_negative arg) _ v in
-    same_text form.Bs4 arg _ t e (record { head = quoted_head (drop 4 arg); back = λ gap rest g s. counted_read form.Bs4 gap arg rest g h a.0 (counted_so arg (is_negative arg) a.1 no) (below_half arg no) })
+    same_text form.String4 arg _ t e (record { head = quoted_head (drop 4 arg); back = λ gap rest g s. counted_read form.String4 gap arg rest g h a.0 (counted_so arg (is_negative arg) a.1 no) (below_half arg no) })
 
 -- ---- by the opcode
 
@@ -311,12 +311,12 @@ pub argument_read : (o : Opcode) (arg t : List ℕ) → IsSpelled (record { opco
     → arg_text (record { opcode = o; arg = arg }) ≡ Some t → IsRead (argument_first o) arg t
 unfolding arg_text
 argument_read op.Long1 arg t s h c e =
-    long_by op.Long1 arg t e (spelled_by op.Long1 arg (long_text (drop 1 arg)) (λ text. and_then (long_first text) (counted form.B1)) (long_head (drop 1 arg) (drop_bytes 1 arg h) c) (λ text. refl)
-    (λ gap rest g k. counted_long form.B1 gap arg rest g k h c s.arg.0 s.arg.1 (by_count form.B1 arg h refl)))
+    long_by op.Long1 arg t e (spelled_by op.Long1 arg (long_text (drop 1 arg)) (λ text. and_then (long_first text) (counted form.Bytes1)) (long_head (drop 1 arg) (drop_bytes 1 arg h) c) (λ text. refl)
+    (λ gap rest g k. counted_long form.Bytes1 gap arg rest g k h c s.arg.0 s.arg.1 (by_count form.Bytes1 arg h refl)))
 argument_read op.Long4 arg t s h c e =
     let no = not_negative (is_negative arg) _ s.value in
-    long_by op.Long4 arg t e (spelled_by op.Long4 arg (long_text (drop 4 arg)) (λ text. and_then (long_first text) (counted form.Bs4)) (long_head (drop 4 arg) (drop_bytes 4 arg h) c) (λ text. refl)
-    (λ gap rest g k. counted_long form.Bs4 gap arg rest g k h c s.arg.0 (counted_so arg (is_negative arg) s.arg.1 no) (below_half arg no)))
+    long_by op.Long4 arg t e (spelled_by op.Long4 arg (long_text (drop 4 arg)) (λ text. and_then (long_first text) (counted form.String4)) (long_head (drop 4 arg) (drop_bytes 4 arg h) c) (λ text. refl)
+    (λ gap rest g k. counted_long form.String4 gap arg rest g k h c s.arg.0 (counted_so arg (is_negative arg) s.arg.1 no) (below_half arg no)))
 argument_read op.Int arg t s h c e = line_case op.Int arg t s.arg h e not_bare
 argument_read op.Long arg t s h c e = line_case op.Long arg t s.arg h e not_bare
 argument_read op.Float arg t s h c e = line_case op.Float arg t s.arg h e not_bare

@@ -37,20 +37,20 @@ use Rattle.assembler_laws.proofs.Notes.{over_note, note_first, code_letters, cod
 
 form_none : (f : Form) (arg : List ℕ) → form_text f arg ≡ None → f ≡ form.Empty
 form_none form.Empty arg e = refl
-form_none form.U1 arg e = absurd cc
-form_none form.U2 arg e = absurd cc
-form_none form.U4 arg e = absurd cc
-form_none form.U8 arg e = absurd cc
-form_none form.S4 arg e = absurd cc
-form_none form.R8 arg e = absurd cc
+form_none form.Uint1 arg e = absurd cc
+form_none form.Uint2 arg e = absurd cc
+form_none form.Uint4 arg e = absurd cc
+form_none form.Uint8 arg e = absurd cc
+form_none form.Int4 arg e = absurd cc
+form_none form.Float8 arg e = absurd cc
 form_none form.Line arg e = absurd cc
 form_none form.Quoted arg e = absurd cc
 form_none form.Decimal arg e = absurd cc
 form_none form.Two arg e = absurd cc
-form_none form.B1 arg e = absurd cc
-form_none form.B4 arg e = absurd cc
-form_none form.B8 arg e = absurd cc
-form_none form.Bs4 arg e = absurd cc
+form_none form.Bytes1 arg e = absurd cc
+form_none form.Bytes4 arg e = absurd cc
+form_none form.Bytes8 arg e = absurd cc
+form_none form.String4 arg e = absurd cc
 
 -- it is not long, and its form has no bytes
 record HasNone (o : Opcode) (arg : List ℕ) : Type 0 where

@@ -234,12 +234,12 @@ build_by base w u m =
 -- ---- opcodes
 
 pub dispatch_grows : (base : List Act) (w : World) (o : Opcode) (arg : List ℕ) (u : Unpickler) → IsMore base u.acts → Grown base (dispatch w o arg u)
-dispatch_grows base w op.Proto arg u m = proto_by base (number_of form.U1 arg) u m
+dispatch_grows base w op.Proto arg u m = proto_by base (number_of form.Uint1 arg) u m
 dispatch_grows base w op.Frame arg u m = m
 dispatch_grows base w op.PersId arg u m = by_get base w (Persist (Line (payload form.Line arg))) u m
 dispatch_grows base w op.BinPersId arg u m = by_pop base 1 u (λ vs q. get w (Persist (Given (item 0 vs))) q) m (λ vs q k. by_get base w (Persist (Given (item 0 vs))) q k)
 dispatch_grows base w op.String arg u m = string_by base (payload form.Quoted arg) u m
-dispatch_grows base w op.ByteArray8 arg u m = by_make base PyByteArray (Plain (kind.Bytes (payload form.B8 arg)) ∷ []) u m
+dispatch_grows base w op.ByteArray8 arg u m = by_make base PyByteArray (Plain (kind.Bytes (payload form.Bytes8 arg)) ∷ []) u m
 dispatch_grows base w op.NextBuffer arg u m = by_get base w (NextBuffer u.buffers) (record u { buffers = u.buffers + 1 }) m
 dispatch_grows base w op.ReadOnlyBuffer arg u m = by_top base u (λ v. viewed w v u) m (λ v. view_by base w v u m)
 dispatch_grows base w op.Tuple arg u m = by_mark base u (λ items q. make PyTuple items q) m (λ items q k. by_make base PyTuple items q k)
@@ -261,19 +261,19 @@ dispatch_grows base w op.NewObj arg u m = newobj_by base w u m
 dispatch_grows base w op.NewObjEx arg u m = newobj_ex_by base w u m
 dispatch_grows base w op.Global arg u m = by_get base w (Find u.proto (Line (first_text arg)) (Line (second_text arg))) u m
 dispatch_grows base w op.StackGlobal arg u m = stack_global_by base w u m
-dispatch_grows base w op.Ext1 arg u m = by_get base w (Extension (integer_of form.U1 arg)) u m
-dispatch_grows base w op.Ext2 arg u m = by_get base w (Extension (integer_of form.U2 arg)) u m
-dispatch_grows base w op.Ext4 arg u m = by_get base w (Extension (integer_of form.S4 arg)) u m
+dispatch_grows base w op.Ext1 arg u m = by_get base w (Extension (integer_of form.Uint1 arg)) u m
+dispatch_grows base w op.Ext2 arg u m = by_get base w (Extension (integer_of form.Uint2 arg)) u m
+dispatch_grows base w op.Ext4 arg u m = by_get base w (Extension (integer_of form.Int4 arg)) u m
 dispatch_grows base w op.Reduce arg u m = reduce_by base w u m
 dispatch_grows base w op.Pop arg u m = drop_by base w u m
 dispatch_grows base w op.PopMark arg u m = pop_mark_by base w u m
 dispatch_grows base w op.Dup arg u m = by_top base u (λ v. Ran (append v u)) m (λ v. m)
 dispatch_grows base w op.Get arg u m = key_by base (int_key (payload form.Decimal arg)) u (λ key. load_get key u) m (λ key. got_by base (lookup (is_at (nat_cmp key)) u.memo) u m)
-dispatch_grows base w op.BinGet arg u m = got_by base (lookup (is_at (nat_cmp (number_of form.U1 arg))) u.memo) u m
-dispatch_grows base w op.LongBinGet arg u m = got_by base (lookup (is_at (nat_cmp (number_of form.U4 arg))) u.memo) u m
+dispatch_grows base w op.BinGet arg u m = got_by base (lookup (is_at (nat_cmp (number_of form.Uint1 arg))) u.memo) u m
+dispatch_grows base w op.LongBinGet arg u m = got_by base (lookup (is_at (nat_cmp (number_of form.Uint4 arg))) u.memo) u m
 dispatch_grows base w op.Put arg u m = key_by base (int_key (payload form.Decimal arg)) u (λ key. load_put w key u) m (λ key. put_under base w key u m)
-dispatch_grows base w op.BinPut arg u m = put_under base w (number_of form.U1 arg) u m
-dispatch_grows base w op.LongBinPut arg u m = put_under base w (number_of form.U4 arg) u m
+dispatch_grows base w op.BinPut arg u m = put_under base w (number_of form.Uint1 arg) u m
+dispatch_grows base w op.LongBinPut arg u m = put_under base w (number_of form.Uint4 arg) u m
 dispatch_grows base w op.Memoize arg u m = put_under base w (length u.memo) u m
 dispatch_grows base w op.Append arg u m = popped_fill base w 1 filling.Append u m
 dispatch_grows base w op.Appends arg u m = marked_fill base w filling.Append u m

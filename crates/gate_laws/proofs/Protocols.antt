@@ -63,7 +63,7 @@ one_protocol d e k o f = front_alone d (ops_of d) e k o f
 
 -- ---- which it is
 
-said_first : (o : Opcode) (arg : List ℕ) → protocol_after o arg 0 ≡ (if is_proto o then number_of form.U1 arg else 0)
+said_first : (o : Opcode) (arg : List ℕ) → protocol_after o arg 0 ≡ (if is_proto o then number_of form.Uint1 arg else 0)
 said_first op.Proto arg = refl
 said_first op.Stop arg = refl
 said_first _ arg = refl
@@ -82,7 +82,7 @@ earlier (x ∷ ops) (suc k) o e = earlier ops k o e
 pub protocol_is : (d : Contents) (bytes : List ℕ) → ReadsAs false bytes d → first_other d ≡ None → (k : ℕ) (o : Operation) → item_at d k ≡ Some o → is_proto o.opcode ≡ false → protocol_at (ops_of d) k ≡ protocol_of d
 unfolding protocol_at
 protocol_is d bytes reads in_form zero o there plain =
-    sym (ap protocol_said there ∙ ap (λ (b : Bool). if b then number_of form.U1 o.arg else 0) plain)
+    sym (ap protocol_said there ∙ ap (λ (b : Bool). if b then number_of form.Uint1 o.arg else 0) plain)
 protocol_is d bytes reads in_form (suc zero) o there plain =
     let x = earlier (ops_of d) 0 o there in
     next_protocol (ops_of d) 0 x.0 x.1 ∙ said_first x.0.opcode x.0.arg ∙ sym (ap protocol_said x.1)

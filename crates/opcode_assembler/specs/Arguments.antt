@@ -70,20 +70,20 @@ long_first text = option_map_or hex_first (behind (codes "le:") (trimmed text)) 
 -- the argument of a form, as a listing spells it
 abbrev pub form_first : Form → List ℕ → Read
 form_first form.Empty text = Ok ([], text)
-form_first form.U1 text = fixed_first form.U1 text
-form_first form.U2 text = fixed_first form.U2 text
-form_first form.U4 text = fixed_first form.U4 text
-form_first form.U8 text = fixed_first form.U8 text
-form_first form.S4 text = signed_first text
-form_first form.R8 text = float_first text
+form_first form.Uint1 text = fixed_first form.Uint1 text
+form_first form.Uint2 text = fixed_first form.Uint2 text
+form_first form.Uint4 text = fixed_first form.Uint4 text
+form_first form.Uint8 text = fixed_first form.Uint8 text
+form_first form.Int4 text = signed_first text
+form_first form.Float8 text = float_first text
 form_first form.Line text = and_then (text_first text) lined
 form_first form.Quoted text = and_then (text_first text) lined
 form_first form.Decimal text = line_first text
 form_first form.Two text = and_then (text_first text) second_line
-form_first form.B1 text = and_then (text_first text) (counted form.B1)
-form_first form.B4 text = and_then (text_first text) (counted form.B4)
-form_first form.B8 text = and_then (text_first text) (counted form.B8)
-form_first form.Bs4 text = and_then (text_first text) (counted form.Bs4)
+form_first form.Bytes1 text = and_then (text_first text) (counted form.Bytes1)
+form_first form.Bytes4 text = and_then (text_first text) (counted form.Bytes4)
+form_first form.Bytes8 text = and_then (text_first text) (counted form.Bytes8)
+form_first form.String4 text = and_then (text_first text) (counted form.String4)
 
 -- the opcodes whose line is a number
 abbrev pub is_numeral : Opcode → Bool

@@ -28,22 +28,22 @@ hex_first text = decoded (decode_of (word text)) (after_word text)
 
 -- how many bytes a number of this form has, or the count of a text
 abbrev pub width_of : Form → ℕ
-width_of form.U1 = 1
-width_of form.U2 = 2
-width_of form.U4 = 4
-width_of form.B1 = 1
-width_of form.B4 = 4
-width_of form.Bs4 = 4
+width_of form.Uint1 = 1
+width_of form.Uint2 = 2
+width_of form.Uint4 = 4
+width_of form.Bytes1 = 1
+width_of form.Bytes4 = 4
+width_of form.String4 = 4
 width_of _ = 8
 
 -- the greatest number that they say
 abbrev pub most_of : Form → ℕ
-most_of form.U1 = 2 ^ 8 - 1
-most_of form.U2 = 2 ^ 16 - 1
-most_of form.U4 = 2 ^ 32 - 1
-most_of form.B1 = 2 ^ 8 - 1
-most_of form.B4 = 2 ^ 32 - 1
-most_of form.Bs4 = 2 ^ 31 - 1
+most_of form.Uint1 = 2 ^ 8 - 1
+most_of form.Uint2 = 2 ^ 16 - 1
+most_of form.Uint4 = 2 ^ 32 - 1
+most_of form.Bytes1 = 2 ^ 8 - 1
+most_of form.Bytes4 = 2 ^ 32 - 1
+most_of form.String4 = 2 ^ 31 - 1
 most_of _ = 2 ^ 64 - 1
 
 -- the bytes of a number, the lowest first, if it is not above that

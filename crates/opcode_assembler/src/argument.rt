@@ -115,20 +115,20 @@ fn form_first(alloc: Global, form: Form, text: &[u8]) -> Result<(Vec<u8>, &[u8])
 {
     match form {
         Form::Empty => Ok((Vec::new(alloc), text)),
-        Form::U1 => fixed_first(alloc, Form::U1, text),
-        Form::U2 => fixed_first(alloc, Form::U2, text),
-        Form::U4 => fixed_first(alloc, Form::U4, text),
-        Form::U8 => fixed_first(alloc, Form::U8, text),
-        Form::S4 => signed_first(alloc, text),
-        Form::R8 => float_first(alloc, text),
+        Form::Uint1 => fixed_first(alloc, Form::Uint1, text),
+        Form::Uint2 => fixed_first(alloc, Form::Uint2, text),
+        Form::Uint4 => fixed_first(alloc, Form::Uint4, text),
+        Form::Uint8 => fixed_first(alloc, Form::Uint8, text),
+        Form::Int4 => signed_first(alloc, text),
+        Form::Float8 => float_first(alloc, text),
         Form::Line => lined_first(alloc, text),
         Form::Quoted => lined_first(alloc, text),
         Form::Decimal => line_first(alloc, text),
         Form::Two => two_first(alloc, text),
-        Form::B1 => counted_first(alloc, Form::B1, text),
-        Form::B4 => counted_first(alloc, Form::B4, text),
-        Form::B8 => counted_first(alloc, Form::B8, text),
-        Form::Bs4 => counted_first(alloc, Form::Bs4, text),
+        Form::Bytes1 => counted_first(alloc, Form::Bytes1, text),
+        Form::Bytes4 => counted_first(alloc, Form::Bytes4, text),
+        Form::Bytes8 => counted_first(alloc, Form::Bytes8, text),
+        Form::String4 => counted_first(alloc, Form::String4, text),
     }
 }
 

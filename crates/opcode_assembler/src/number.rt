@@ -28,12 +28,12 @@ pub(crate) fn width_of(form: Form) -> usize
     ensures within { result ≤ 8 }
 {
     match form {
-        Form::U1 => 1,
-        Form::U2 => 2,
-        Form::U4 => 4,
-        Form::B1 => 1,
-        Form::B4 => 4,
-        Form::Bs4 => 4,
+        Form::Uint1 => 1,
+        Form::Uint2 => 2,
+        Form::Uint4 => 4,
+        Form::Bytes1 => 1,
+        Form::Bytes4 => 4,
+        Form::String4 => 4,
         _ => 8,
     }
 }
@@ -43,12 +43,12 @@ pub(crate) fn most_of(form: Form) -> u64
     ensures { result ≡ most_of form }
 {
     match form {
-        Form::U1 => 0xff,
-        Form::U2 => 0xffff,
-        Form::U4 => 0xffff_ffff,
-        Form::B1 => 0xff,
-        Form::B4 => 0xffff_ffff,
-        Form::Bs4 => 0x7fff_ffff,
+        Form::Uint1 => 0xff,
+        Form::Uint2 => 0xffff,
+        Form::Uint4 => 0xffff_ffff,
+        Form::Bytes1 => 0xff,
+        Form::Bytes4 => 0xffff_ffff,
+        Form::String4 => 0x7fff_ffff,
         _ => 0xffff_ffff_ffff_ffff,
     }
 }

@@ -19,20 +19,20 @@ use Rattle.opcode_lines.specs.declared.lines.TheConstants.{ALL}
 -- a number by its sign and how many bytes it has, a line by what it says, and bytes by how many bytes their length has
 unfoldable pub form_name : Form → List ℕ
 form_name form.Empty = codes "none"
-form_name form.U1 = codes "uint1"
-form_name form.U2 = codes "uint2"
-form_name form.U4 = codes "uint4"
-form_name form.U8 = codes "uint8"
-form_name form.S4 = codes "int4"
-form_name form.R8 = codes "float8"
+form_name form.Uint1 = codes "uint1"
+form_name form.Uint2 = codes "uint2"
+form_name form.Uint4 = codes "uint4"
+form_name form.Uint8 = codes "uint8"
+form_name form.Int4 = codes "int4"
+form_name form.Float8 = codes "float8"
 form_name form.Line = codes "line"
 form_name form.Quoted = codes "quoted"
 form_name form.Decimal = codes "decimal"
 form_name form.Two = codes "lines"
-form_name form.B1 = codes "bytes1"
-form_name form.B4 = codes "bytes4"
-form_name form.B8 = codes "bytes8"
-form_name form.Bs4 = codes "bytes4_signed"
+form_name form.Bytes1 = codes "bytes1"
+form_name form.Bytes4 = codes "bytes4"
+form_name form.Bytes8 = codes "bytes8"
+form_name form.String4 = codes "bytes4_signed"
 
 -- ---- what an opcode does
 

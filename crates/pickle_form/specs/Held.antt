@@ -33,8 +33,8 @@ text_role text = if is_name text then role.Name else role.Text
 -- the role of what an opcode makes
 abbrev pub role_of : Opcode → List ℕ → Role
 role_of op.None arg = role.Null
-role_of op.ShortBinUnicode arg = text_role (payload form.B1 arg)
-role_of op.BinUnicode arg = text_role (payload form.B4 arg)
+role_of op.ShortBinUnicode arg = text_role (payload form.Bytes1 arg)
+role_of op.BinUnicode arg = text_role (payload form.Bytes4 arg)
 role_of op.EmptyTuple arg = role.Tuple
 role_of op.Tuple arg = role.Tuple
 role_of op.Tuple1 arg = role.Tuple

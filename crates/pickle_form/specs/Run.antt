@@ -130,10 +130,10 @@ first_protocol o = if is_pair o then 0 else protocol_of o
 
 -- without PROTO in front a pickle is of protocol 0 or 1
 abbrev pub first_here : Operation → Run → ℕ
-first_here o r = if is_proto o.opcode then number_of form.U1 o.arg else max r.first (first_protocol o.opcode)
+first_here o r = if is_proto o.opcode then number_of form.Uint1 o.arg else max r.first (first_protocol o.opcode)
 
 abbrev pub last_here : Operation → Run → ℕ
-last_here o r = if is_proto o.opcode then number_of form.U1 o.arg else min r.last (last_protocol o.opcode o.arg)
+last_here o r = if is_proto o.opcode then number_of form.Uint1 o.arg else min r.last (last_protocol o.opcode o.arg)
 
 -- ---- frames
 
@@ -143,7 +143,7 @@ is_large size = nat_lt 65536 size
 
 -- how many bytes of the frame are left behind an opcode
 abbrev pub left_after : Operation → Run → ℕ
-left_after o r = if is_frame o.opcode then number_of form.U8 o.arg else r.left - size_of o
+left_after o r = if is_frame o.opcode then number_of form.Uint8 o.arg else r.left - size_of o
 
 -- how many bytes of opcodes stand without a frame between the frames and large opcodes around them
 abbrev pub loose_after : Operation → Run → ℕ

@@ -207,8 +207,8 @@ fn counted_in<'a>(width: usize, op: &OpRef<'a>) -> &'a [u8]
 /// The number of two bytes.
 #[inline(always)]
 fn number_of_two(op: &OpRef<'_>) -> u64
-    requires { form_of op.now.opcode ≡ Form.U2 }
-    ensures { result ≡ number_of Form.U2 op.now.arg }
+    requires { form_of op.now.opcode ≡ Form.Uint2 }
+    ensures { result ≡ number_of Form.Uint2 op.now.arg }
 {
     let arg = op.arg();
     u64::from(LittleEndian::read_u16(arg))
@@ -217,8 +217,8 @@ fn number_of_two(op: &OpRef<'_>) -> u64
 /// The number of four bytes.
 #[inline(always)]
 fn number_of_four(op: &OpRef<'_>) -> u64
-    requires { form_of op.now.opcode ≡ Form.U4 }
-    ensures { result ≡ number_of Form.U4 op.now.arg }
+    requires { form_of op.now.opcode ≡ Form.Uint4 }
+    ensures { result ≡ number_of Form.Uint4 op.now.arg }
 {
     let arg = op.arg();
     u64::from(LittleEndian::read_u32(arg))

@@ -33,7 +33,7 @@ use Rattle.pickle_allow.specs.Arguments.{is_held, may_be_given, may_be_set}
 -- the protocol that PROTO in front says, or 0
 abbrev pub protocol_said : Option Operation → ℕ
 protocol_said None = 0
-protocol_said (Some o) = if is_proto o.opcode then number_of form.U1 o.arg else 0
+protocol_said (Some o) = if is_proto o.opcode then number_of form.Uint1 o.arg else 0
 
 abbrev pub protocol_of : Contents → ℕ
 protocol_of d = protocol_said (item_at d 0)

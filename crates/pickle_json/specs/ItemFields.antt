@@ -49,20 +49,20 @@ names_fields first second = bytes_field (codes "module") (codes "module_hex") fi
 
 abbrev pub form_fields : Form → List ℕ → List Field
 form_fields form.Empty arg = []
-form_fields form.U1 arg = number_fields (number_of form.U1 arg)
-form_fields form.U2 arg = number_fields (number_of form.U2 arg)
-form_fields form.U4 arg = number_fields (number_of form.U4 arg)
-form_fields form.U8 arg = number_fields (number_of form.U8 arg)
-form_fields form.S4 arg = integer_fields (signed_of arg)
-form_fields form.R8 arg = double_fields (payload form.R8 arg)
+form_fields form.Uint1 arg = number_fields (number_of form.Uint1 arg)
+form_fields form.Uint2 arg = number_fields (number_of form.Uint2 arg)
+form_fields form.Uint4 arg = number_fields (number_of form.Uint4 arg)
+form_fields form.Uint8 arg = number_fields (number_of form.Uint8 arg)
+form_fields form.Int4 arg = integer_fields (signed_of arg)
+form_fields form.Float8 arg = double_fields (payload form.Float8 arg)
 form_fields form.Line arg = payload_fields (payload form.Line arg)
 form_fields form.Quoted arg = payload_fields (payload form.Quoted arg)
 form_fields form.Decimal arg = number_fields (number_of form.Decimal arg)
 form_fields form.Two arg = names_fields (first_text arg) (second_text arg)
-form_fields form.B1 arg = payload_fields (payload form.B1 arg)
-form_fields form.B4 arg = payload_fields (payload form.B4 arg)
-form_fields form.B8 arg = payload_fields (payload form.B8 arg)
-form_fields form.Bs4 arg = payload_fields (payload form.Bs4 arg)
+form_fields form.Bytes1 arg = payload_fields (payload form.Bytes1 arg)
+form_fields form.Bytes4 arg = payload_fields (payload form.Bytes4 arg)
+form_fields form.Bytes8 arg = payload_fields (payload form.Bytes8 arg)
+form_fields form.String4 arg = payload_fields (payload form.String4 arg)
 
 unfoldable pub arg_fields : Operation → List Field
 arg_fields op =

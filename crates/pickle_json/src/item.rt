@@ -240,14 +240,14 @@ fn write_form<P: Page>(op: &OpRef<'_>, page: &mut P) -> Result<(), Failed>
 {
     match op.form() {
         Form::Empty => Ok(()),
-        Form::U1 | Form::U2 | Form::U4 | Form::U8 | Form::Decimal => {
+        Form::Uint1 | Form::Uint2 | Form::Uint4 | Form::Uint8 | Form::Decimal => {
             push_number(op.number(), page);
             Ok(())
         }
-        Form::S4 => write_integer(i128::from(op.signed()), page),
-        Form::R8 => write_double(op.payload(), page),
+        Form::Int4 => write_integer(i128::from(op.signed()), page),
+        Form::Float8 => write_double(op.payload(), page),
         Form::Two => write_two(op, page),
-        Form::Line | Form::Quoted | Form::B1 | Form::B4 | Form::B8 | Form::Bs4 => {
+        Form::Line | Form::Quoted | Form::Bytes1 | Form::Bytes4 | Form::Bytes8 | Form::String4 => {
             write_payload(op.payload(), page)
         }
     }

@@ -41,21 +41,21 @@ bad_line : (f : Form) (arg : List ℕ) → value_fault f arg ≡ Some fault.BadA
 bad_line form.Line arg e i = i
 bad_line form.Quoted arg e i = i
 bad_line form.Decimal arg e i = i
-bad_line form.Bs4 arg e i = elim (cases_Bool (is_negative arg)) [
+bad_line form.String4 arg e i = elim (cases_Bool (is_negative arg)) [
   | inl hit ↦ let f : Some fault.NegativeLength ≡ Some fault.BadArgument = rw hit at e in cc
   | inr miss ↦ let f : None ≡ Some fault.BadArgument = rw miss at e in cc
 ]
 bad_line form.Empty arg e i = let f : None ≡ Some fault.BadArgument = e in cc
-bad_line form.U1 arg e i = let f : None ≡ Some fault.BadArgument = e in cc
-bad_line form.U2 arg e i = let f : None ≡ Some fault.BadArgument = e in cc
-bad_line form.U4 arg e i = let f : None ≡ Some fault.BadArgument = e in cc
-bad_line form.U8 arg e i = let f : None ≡ Some fault.BadArgument = e in cc
-bad_line form.S4 arg e i = let f : None ≡ Some fault.BadArgument = e in cc
-bad_line form.R8 arg e i = let f : None ≡ Some fault.BadArgument = e in cc
+bad_line form.Uint1 arg e i = let f : None ≡ Some fault.BadArgument = e in cc
+bad_line form.Uint2 arg e i = let f : None ≡ Some fault.BadArgument = e in cc
+bad_line form.Uint4 arg e i = let f : None ≡ Some fault.BadArgument = e in cc
+bad_line form.Uint8 arg e i = let f : None ≡ Some fault.BadArgument = e in cc
+bad_line form.Int4 arg e i = let f : None ≡ Some fault.BadArgument = e in cc
+bad_line form.Float8 arg e i = let f : None ≡ Some fault.BadArgument = e in cc
 bad_line form.Two arg e i = let f : None ≡ Some fault.BadArgument = e in cc
-bad_line form.B1 arg e i = let f : None ≡ Some fault.BadArgument = e in cc
-bad_line form.B4 arg e i = let f : None ≡ Some fault.BadArgument = e in cc
-bad_line form.B8 arg e i = let f : None ≡ Some fault.BadArgument = e in cc
+bad_line form.Bytes1 arg e i = let f : None ≡ Some fault.BadArgument = e in cc
+bad_line form.Bytes4 arg e i = let f : None ≡ Some fault.BadArgument = e in cc
+bad_line form.Bytes8 arg e i = let f : None ≡ Some fault.BadArgument = e in cc
 
 -- the fault of a value is none of bytes that end
 value_ends : (f : Form) (arg : List ℕ) (g : FrontFault) → value_fault f arg ≡ Some g → ends_at g ≡ true
@@ -67,22 +67,22 @@ value_ends form.Decimal arg g e = elim (cases_Bool (is_decimal (text_of arg))) [
   | inl hit ↦ let f : None ≡ Some g = rw hit at e in cc
   | inr miss ↦ let f : Some fault.BadArgument ≡ Some g = rw miss at e in let same : fault.BadArgument ≡ g = cc in rw (← same) refl
 ]
-value_ends form.Bs4 arg g e = elim (cases_Bool (is_negative arg)) [
+value_ends form.String4 arg g e = elim (cases_Bool (is_negative arg)) [
   | inl hit ↦ let f : Some fault.NegativeLength ≡ Some g = rw hit at e in let same : fault.NegativeLength ≡ g = cc in rw (← same) refl
   | inr miss ↦ let f : None ≡ Some g = rw miss at e in cc
 ]
 value_ends form.Empty arg g e = let f : None ≡ Some g = e in cc
-value_ends form.U1 arg g e = let f : None ≡ Some g = e in cc
-value_ends form.U2 arg g e = let f : None ≡ Some g = e in cc
-value_ends form.U4 arg g e = let f : None ≡ Some g = e in cc
-value_ends form.U8 arg g e = let f : None ≡ Some g = e in cc
-value_ends form.S4 arg g e = let f : None ≡ Some g = e in cc
-value_ends form.R8 arg g e = let f : None ≡ Some g = e in cc
+value_ends form.Uint1 arg g e = let f : None ≡ Some g = e in cc
+value_ends form.Uint2 arg g e = let f : None ≡ Some g = e in cc
+value_ends form.Uint4 arg g e = let f : None ≡ Some g = e in cc
+value_ends form.Uint8 arg g e = let f : None ≡ Some g = e in cc
+value_ends form.Int4 arg g e = let f : None ≡ Some g = e in cc
+value_ends form.Float8 arg g e = let f : None ≡ Some g = e in cc
 value_ends form.Line arg g e = let f : None ≡ Some g = e in cc
 value_ends form.Two arg g e = let f : None ≡ Some g = e in cc
-value_ends form.B1 arg g e = let f : None ≡ Some g = e in cc
-value_ends form.B4 arg g e = let f : None ≡ Some g = e in cc
-value_ends form.B8 arg g e = let f : None ≡ Some g = e in cc
+value_ends form.Bytes1 arg g e = let f : None ≡ Some g = e in cc
+value_ends form.Bytes4 arg g e = let f : None ≡ Some g = e in cc
+value_ends form.Bytes8 arg g e = let f : None ≡ Some g = e in cc
 
 front_ends : (front : Front) (f : FrontFault) → front_fault front ≡ Some f → ends_at f ≡ ends_in front
 front_ends Ended f e = let same : fault.Ended ≡ f = cc in rw (← same) refl

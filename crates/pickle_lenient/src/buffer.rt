@@ -46,10 +46,10 @@ fn length_bytes(form: Form) -> usize
     ensures few { result ≤ 8 }
 {
     match form {
-        Form::B1 => 1,
-        Form::B4 => 4,
-        Form::B8 => 8,
-        Form::Bs4 => 4,
+        Form::Bytes1 => 1,
+        Form::Bytes4 => 4,
+        Form::Bytes8 => 8,
+        Form::String4 => 4,
         _ => 0,
     }
 }
@@ -207,9 +207,9 @@ fn enough(first: &[u8], behind: &[u8]) -> usize
                 line_size(behind)
             }
         }
-        Form::B1 => counted_size(first, 1, behind),
-        Form::B4 | Form::Bs4 => counted_size(first, 4, behind),
-        Form::B8 => counted_size(first, 8, behind),
+        Form::Bytes1 => counted_size(first, 1, behind),
+        Form::Bytes4 | Form::String4 => counted_size(first, 4, behind),
+        Form::Bytes8 => counted_size(first, 8, behind),
         _ => behind.len().min(8),
     }
 }

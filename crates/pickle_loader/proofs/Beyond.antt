@@ -100,10 +100,10 @@ view_less h true is =
 
 -- the method of an opcode is right for the row that asks for less
 wide_good : (h : Here) (o : Opcode) (arg : List ℕ) → value_fault (form_of o) arg ≡ None → RowGood h (asks_less (row_of_opcode o arg) h.s) (kind_of_opcode o arg) (protocol_after o arg h.proto) (dispatch h.w o arg (unpickler h))
-wide_good h op.Proto arg v = proto_by h (nat_le (number_of form.U1 arg) 5) (number_of form.U1 arg)
-wide_good h op.Ext1 arg v = ext_less h (integer_of form.U1 arg)
-wide_good h op.Ext2 arg v = ext_less h (integer_of form.U2 arg)
-wide_good h op.Ext4 arg v = ext_less h (integer_of form.S4 arg)
+wide_good h op.Proto arg v = proto_by h (nat_le (number_of form.Uint1 arg) 5) (number_of form.Uint1 arg)
+wide_good h op.Ext1 arg v = ext_less h (integer_of form.Uint1 arg)
+wide_good h op.Ext2 arg v = ext_less h (integer_of form.Uint2 arg)
+wide_good h op.Ext4 arg v = ext_less h (integer_of form.Int4 arg)
 wide_good h op.ReadOnlyBuffer arg v = view_less h (takes_string h.s) refl
 wide_good h op.Reduce arg v = reduce_less h (takes_call 0 h.s)
 wide_good h op.NewObj arg v = newobj_less h (takes_call 0 h.s)

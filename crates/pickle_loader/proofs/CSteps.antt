@@ -412,7 +412,7 @@ freezes w u f =
 
 -- what the function of an opcode does, where what it asks first is so
 pub dispatched : (w : World) (o : Opcode) (arg : List ℕ) (u : CUnpickler) → value_fault (form_of o) arg ≡ None → Fenced u → Same (inc.dispatch w o arg u) (if raises (asked w o arg (seen u)) then Raised u.acts else loop.dispatch (as_in_c w) o arg (seen u))
-dispatched w op.Proto arg u v f = protos (nat_le (number_of form.U1 arg) 5) (number_of form.U1 arg) u f
+dispatched w op.Proto arg u v f = protos (nat_le (number_of form.Uint1 arg) 5) (number_of form.Uint1 arg) u f
 dispatched w op.Frame arg u v f = (f, refl)
 dispatched w op.PersId arg u v f = gets w _ u f
 dispatched w op.BinPersId arg u v f = pops 1 u (λ vs q. inc.get w (Persist (Given (item 0 vs))) q) (λ vs q. py.get (as_in_c w) (Persist (Given (item 0 vs))) q) f (λ vs q g. gets w (Persist (Given (item 0 vs))) q g)
@@ -439,9 +439,9 @@ dispatched w op.StackGlobal arg u v f =
     pops 2 u (λ vs q. inc.only_if (is_str w (item 1 vs)) q (inc.only_if (is_str w (item 0 vs)) q (inc.get w (Find q.proto (Given (item 0 vs)) (Given (item 1 vs))) q)))
     (λ vs q. if is_str (as_in_c w) (item 1 vs) then (if is_str (as_in_c w) (item 0 vs) then py.get (as_in_c w) (Find q.proto (Given (item 0 vs)) (Given (item 1 vs))) q else Raised q.acts) else Raised q.acts) f
     (λ vs q g. names w (Find q.proto (Given (item 0 vs)) (Given (item 1 vs))) vs q g)
-dispatched w op.Ext1 arg u v f = extends w (integer_of form.U1 arg) (int_lt (pos 0) (integer_of form.U1 arg)) u f
-dispatched w op.Ext2 arg u v f = extends w (integer_of form.U2 arg) (int_lt (pos 0) (integer_of form.U2 arg)) u f
-dispatched w op.Ext4 arg u v f = extends w (integer_of form.S4 arg) (int_lt (pos 0) (integer_of form.S4 arg)) u f
+dispatched w op.Ext1 arg u v f = extends w (integer_of form.Uint1 arg) (int_lt (pos 0) (integer_of form.Uint1 arg)) u f
+dispatched w op.Ext2 arg u v f = extends w (integer_of form.Uint2 arg) (int_lt (pos 0) (integer_of form.Uint2 arg)) u f
+dispatched w op.Ext4 arg u v f = extends w (integer_of form.Int4 arg) (int_lt (pos 0) (integer_of form.Int4 arg)) u f
 dispatched w op.Reduce arg u v f = calls w (λ vs. Call (item 0 vs) (item 1 vs)) u f
 dispatched w op.Pop arg u v f = dropped w u (flat_load_pop u.stack) (one_stack.drops (as_in_c w) u.stack (seen u) (one u f))
 dispatched w op.PopMark arg u v f = cuts u (λ items q. inc.tell w Method q) (λ items q. py.tell (as_in_c w) Method q) f (λ vs q g. tells w Method q g)
@@ -459,8 +459,8 @@ dispatched w op.Put arg u v f =
 dispatched w op.String arg u v f =
     let k : Kind = kind.LegacyLine (text_of arg) in
     subst (λ (b : Bool). Same (if b then inc.load_literal k u else CRaised u.acts) (if b then py.load_literal k (seen u) else Raised u.acts)) (sym (quoted_text arg v)) (pushed (Plain k) u f)
-dispatched w op.BinPut arg u v f = puts w (number_of form.U1 arg) u f
-dispatched w op.LongBinPut arg u v f = puts w (number_of form.U4 arg) u f
+dispatched w op.BinPut arg u v f = puts w (number_of form.Uint1 arg) u f
+dispatched w op.LongBinPut arg u v f = puts w (number_of form.Uint4 arg) u f
 dispatched w op.Memoize arg u v f = puts w (length u.memo) u f
 dispatched w op.Append arg u v f = pops_into w 1 filling.Append u f
 dispatched w op.Appends arg u v f = cuts_into w filling.Append u f

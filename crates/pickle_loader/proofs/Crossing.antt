@@ -197,17 +197,17 @@ fixed_reads f rest p empty c = (subst (λ (l : List ℕ). form_read f l ≡ leng
 
 pub crosses : (f : Form) (rest file : List ℕ) (p : Piece) → arg_size f rest ≡ None → read_arg f (record { frame = Some rest; file = file }) ≡ Some p → (form_read f rest ≡ length rest) × (p.after.frame ≡ None)
 crosses form.Empty rest file p none e = absurd (some_size (nat_le 0 (length rest)) 0 (le-leb 0 (length rest) (omega arith)) none)
-crosses form.U1 rest file p none e = fixed_reads form.U1 rest p refl (fixed_cross 0 rest file p none e)
-crosses form.U2 rest file p none e = fixed_reads form.U2 rest p refl (fixed_cross 1 rest file p none e)
-crosses form.U4 rest file p none e = fixed_reads form.U4 rest p refl (fixed_cross 3 rest file p none e)
-crosses form.U8 rest file p none e = fixed_reads form.U8 rest p refl (fixed_cross 7 rest file p none e)
-crosses form.S4 rest file p none e = fixed_reads form.S4 rest p refl (fixed_cross 3 rest file p none e)
-crosses form.R8 rest file p none e = fixed_reads form.R8 rest p refl (fixed_cross 7 rest file p none e)
+crosses form.Uint1 rest file p none e = fixed_reads form.Uint1 rest p refl (fixed_cross 0 rest file p none e)
+crosses form.Uint2 rest file p none e = fixed_reads form.Uint2 rest p refl (fixed_cross 1 rest file p none e)
+crosses form.Uint4 rest file p none e = fixed_reads form.Uint4 rest p refl (fixed_cross 3 rest file p none e)
+crosses form.Uint8 rest file p none e = fixed_reads form.Uint8 rest p refl (fixed_cross 7 rest file p none e)
+crosses form.Int4 rest file p none e = fixed_reads form.Int4 rest p refl (fixed_cross 3 rest file p none e)
+crosses form.Float8 rest file p none e = fixed_reads form.Float8 rest p refl (fixed_cross 7 rest file p none e)
 crosses form.Line rest file p none e = fixed_reads form.Line rest p refl (line_cross rest file p none e)
 crosses form.Quoted rest file p none e = fixed_reads form.Quoted rest p refl (line_cross rest file p none e)
 crosses form.Decimal rest file p none e = fixed_reads form.Decimal rest p refl (line_cross rest file p none e)
 crosses form.Two rest file p none e = two_by rest file p (line_size rest) refl none e
-crosses form.B1 rest file p none e = counted_cross 0 (little_number 1 rest) rest file _ p (plain_counts 1 rest file) none e
-crosses form.B4 rest file p none e = counted_cross 3 (little_number 4 rest) rest file _ p (plain_counts 4 rest file) none e
-crosses form.B8 rest file p none e = counted_cross 7 (little_number 8 rest) rest file _ p (plain_counts 8 rest file) none e
-crosses form.Bs4 rest file p none e = counted_cross 3 (signed_count rest) rest file _ p (signed_counts rest file) none e
+crosses form.Bytes1 rest file p none e = counted_cross 0 (little_number 1 rest) rest file _ p (plain_counts 1 rest file) none e
+crosses form.Bytes4 rest file p none e = counted_cross 3 (little_number 4 rest) rest file _ p (plain_counts 4 rest file) none e
+crosses form.Bytes8 rest file p none e = counted_cross 7 (little_number 8 rest) rest file _ p (plain_counts 8 rest file) none e
+crosses form.String4 rest file p none e = counted_cross 3 (signed_count rest) rest file _ p (signed_counts rest file) none e

@@ -252,17 +252,17 @@ no_such x p A none e = let two : None ≡ Some p = sym none ∙ e in absurd cc
 pub cut_reads : (f : Form) (rest : List ℕ) (p : Piece) → arg_size f rest ≡ None → read_arg f (opened rest) ≡ Some p → (p.after ≡ opened []) × IsCut f rest p
 unfolding Cuts
 cut_reads form.Empty rest p none e = absurd (some_size (nat_le 0 (length rest)) 0 (le-leb 0 (length rest) (omega arith)) none)
-cut_reads form.U1 rest p none e = no_fixed 1 rest p _ none e
-cut_reads form.U2 rest p none e = no_fixed 2 rest p _ none e
-cut_reads form.U4 rest p none e = no_fixed 4 rest p _ none e
-cut_reads form.U8 rest p none e = no_fixed 8 rest p _ none e
-cut_reads form.S4 rest p none e = no_fixed 4 rest p _ none e
-cut_reads form.R8 rest p none e = no_fixed 8 rest p _ none e
+cut_reads form.Uint1 rest p none e = no_fixed 1 rest p _ none e
+cut_reads form.Uint2 rest p none e = no_fixed 2 rest p _ none e
+cut_reads form.Uint4 rest p none e = no_fixed 4 rest p _ none e
+cut_reads form.Uint8 rest p none e = no_fixed 8 rest p _ none e
+cut_reads form.Int4 rest p none e = no_fixed 4 rest p _ none e
+cut_reads form.Float8 rest p none e = no_fixed 8 rest p _ none e
 cut_reads form.Line rest p none e = line_cut form.Line rest p (λ x. x) (λ x. x) none e
 cut_reads form.Quoted rest p none e = line_cut form.Quoted rest p (λ x. x) (λ x. x) none e
 cut_reads form.Decimal rest p none e = line_cut form.Decimal rest p (λ x. x) (λ x. x) none e
 cut_reads form.Two rest p none e = two_by rest p (line_size rest) refl none e
-cut_reads form.B1 rest p none e = no_such (read_counted 1 (opened rest)) p _ (no_counted 1 rest none) e
-cut_reads form.B4 rest p none e = no_such (read_counted 4 (opened rest)) p _ (no_counted 4 rest none) e
-cut_reads form.B8 rest p none e = no_such (read_counted 8 (opened rest)) p _ (no_counted 8 rest none) e
-cut_reads form.Bs4 rest p none e = no_such (read_signed (opened rest)) p _ (no_signed rest none) e
+cut_reads form.Bytes1 rest p none e = no_such (read_counted 1 (opened rest)) p _ (no_counted 1 rest none) e
+cut_reads form.Bytes4 rest p none e = no_such (read_counted 4 (opened rest)) p _ (no_counted 4 rest none) e
+cut_reads form.Bytes8 rest p none e = no_such (read_counted 8 (opened rest)) p _ (no_counted 8 rest none) e
+cut_reads form.String4 rest p none e = no_such (read_signed (opened rest)) p _ (no_signed rest none) e

@@ -155,21 +155,21 @@ reads_two s first second rest a b =
 -- an argument is read whole, whatever follows
 pub reads_arg : (s : Side) (f : Form) (arg rest : List ℕ) → IsArg f arg → value_fault f arg ≡ None → read_arg f (at_side s (arg ++ rest)) ≡ Some (piece s arg rest)
 reads_arg s form.Empty arg rest h v = reads_none s arg rest h
-reads_arg s form.U1 arg rest h v = reads s 1 arg rest h
-reads_arg s form.U2 arg rest h v = reads s 2 arg rest h
-reads_arg s form.U4 arg rest h v = reads s 4 arg rest h
-reads_arg s form.U8 arg rest h v = reads s 8 arg rest h
-reads_arg s form.S4 arg rest h v = reads s 4 arg rest h
-reads_arg s form.R8 arg rest h v = reads s 8 arg rest h
+reads_arg s form.Uint1 arg rest h v = reads s 1 arg rest h
+reads_arg s form.Uint2 arg rest h v = reads s 2 arg rest h
+reads_arg s form.Uint4 arg rest h v = reads s 4 arg rest h
+reads_arg s form.Uint8 arg rest h v = reads s 8 arg rest h
+reads_arg s form.Int4 arg rest h v = reads s 4 arg rest h
+reads_arg s form.Float8 arg rest h v = reads s 8 arg rest h
 reads_arg s form.Line arg rest h v = reads_line s arg rest h
 reads_arg s form.Quoted arg rest h v = reads_line s arg rest h
 reads_arg s form.Decimal arg rest h v = reads_line s arg rest h
 reads_arg s form.Two arg rest (first, second, a, b, is) v =
     ap (λ (l : List ℕ). read_arg form.Two (at_side s (l ++ rest))) is ∙ reads_two s first second rest a b ∙ ap (λ (l : List ℕ). Some (piece s l rest)) (sym is)
-reads_arg s form.B1 arg rest (h, e) v = reads_counted s 1 arg rest (front_number 1) h e
-reads_arg s form.B4 arg rest (h, e) v = reads_counted s 4 arg rest (front_number 4) h e
-reads_arg s form.B8 arg rest (h, e) v = reads_counted s 8 arg rest (front_number 8) h e
-reads_arg s form.Bs4 arg rest (h, e) v = reads_signed s arg rest h e (fault_none (is_negative arg) _ v)
+reads_arg s form.Bytes1 arg rest (h, e) v = reads_counted s 1 arg rest (front_number 1) h e
+reads_arg s form.Bytes4 arg rest (h, e) v = reads_counted s 4 arg rest (front_number 4) h e
+reads_arg s form.Bytes8 arg rest (h, e) v = reads_counted s 8 arg rest (front_number 8) h e
+reads_arg s form.String4 arg rest (h, e) v = reads_signed s arg rest h e (fault_none (is_negative arg) _ v)
 
 -- ---- opcodes
 

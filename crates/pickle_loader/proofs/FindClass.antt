@@ -191,7 +191,7 @@ turned_old false n m = go m.old refl
     go false e = e
 
 old_after : (o : Opcode) (arg : List ℕ) (n proto : ℕ) (m : Naming) → m.old ≡ nat_lt proto 3 → (naming_after (row_of_opcode o arg) n m).old ≡ nat_lt (protocol_after o arg proto) 3
-old_after op.Proto arg n proto m h = turned_old (nat_lt (number_of form.U1 arg) 3) n m
+old_after op.Proto arg n proto m h = turned_old (nat_lt (number_of form.Uint1 arg) 3) n m
 old_after op.Stop arg n proto m h = refl
 old_after _ arg n proto m h = h
 

@@ -336,11 +336,11 @@ counted shows o width left arg rest i h e below all before =
     (reads_both (left - width) ((left - width) - n) size pay rest (read shows width i) (λ bytes j. if is_below o bytes then None else read_payload shows o (little_number width bytes) j) first behind_it))
 
 -- only LONG4 looks at a sign
-below_by : (o : Opcode) (size : List ℕ) → (form_of o ≡ form.Bs4 → is_negative size ≡ false) → is_below o size ≡ false
+below_by : (o : Opcode) (size : List ℕ) → (form_of o ≡ form.String4 → is_negative size ≡ false) → is_below o size ≡ false
 below_by op.Long4 size h = h refl
 below_by _ size h = refl
 
-unsigned : (o : Opcode) (f : Form) (size : List ℕ) → form_of o ≡ f → (f ≡ form.Bs4 → ⊥) → is_below o size ≡ false
+unsigned : (o : Opcode) (f : Form) (size : List ℕ) → form_of o ≡ f → (f ≡ form.String4 → ⊥) → is_below o size ≡ false
 unsigned o f size is other = below_by o size (λ e. absurd (other (sym is ∙ e)))
 
 signed : (shows : ℕ → ℕ) (o : Opcode) (left : ℕ) (arg rest : List ℕ) (i : Input) → 4 ≤ length arg → length arg ≡ 4 + (if is_negative arg then 0 else little_number 4 arg) → is_negative arg ≡ false
@@ -362,21 +362,21 @@ two_lines left first second rest i a b all before =
 reads_arg : (shows : ℕ → ℕ) (o : Opcode) (f : Form) (left : ℕ) (arg rest : List ℕ) (i : Input) → form_of o ≡ f → IsArg f arg → value_fault f arg ≡ None → (0 < left → length arg ≤ left) → Before left (arg ++ rest) i
     → Reads (left - length arg) arg rest (read_arg shows o f i)
 reads_arg shows o form.Empty left arg rest i is h v all before = no_arg left arg rest i h before
-reads_arg shows o form.U1 left arg rest i is h v all before = fixed shows 1 left arg rest i h all before
-reads_arg shows o form.U2 left arg rest i is h v all before = fixed shows 2 left arg rest i h all before
-reads_arg shows o form.U4 left arg rest i is h v all before = fixed shows 4 left arg rest i h all before
-reads_arg shows o form.U8 left arg rest i is h v all before = fixed shows 8 left arg rest i h all before
-reads_arg shows o form.S4 left arg rest i is h v all before = fixed shows 4 left arg rest i h all before
-reads_arg shows o form.R8 left arg rest i is h v all before = fixed shows 8 left arg rest i h all before
+reads_arg shows o form.Uint1 left arg rest i is h v all before = fixed shows 1 left arg rest i h all before
+reads_arg shows o form.Uint2 left arg rest i is h v all before = fixed shows 2 left arg rest i h all before
+reads_arg shows o form.Uint4 left arg rest i is h v all before = fixed shows 4 left arg rest i h all before
+reads_arg shows o form.Uint8 left arg rest i is h v all before = fixed shows 8 left arg rest i h all before
+reads_arg shows o form.Int4 left arg rest i is h v all before = fixed shows 4 left arg rest i h all before
+reads_arg shows o form.Float8 left arg rest i is h v all before = fixed shows 8 left arg rest i h all before
 reads_arg shows o form.Line left arg rest i is h v all before = reads_line left arg rest i h all before
 reads_arg shows o form.Quoted left arg rest i is h v all before = reads_line left arg rest i h all before
 reads_arg shows o form.Decimal left arg rest i is h v all before = reads_line left arg rest i h all before
 reads_arg shows o form.Two left arg rest i is (first, second, a, b, parts) v all before =
     subst (λ (l : List ℕ). (0 < left → length l ≤ left) → Before left (l ++ rest) i → Reads (left - length l) l rest (read_arg shows o form.Two i)) (sym parts) (two_lines left first second rest i a b) all before
-reads_arg shows o form.B1 left arg rest i is (h, e) v all before = counted shows o 1 left arg rest i h e (unsigned o form.B1 (take 1 arg) is (λ w. absurd cc)) all before
-reads_arg shows o form.B4 left arg rest i is (h, e) v all before = counted shows o 4 left arg rest i h e (unsigned o form.B4 (take 4 arg) is (λ w. absurd cc)) all before
-reads_arg shows o form.B8 left arg rest i is (h, e) v all before = counted shows o 8 left arg rest i h e (unsigned o form.B8 (take 8 arg) is (λ w. absurd cc)) all before
-reads_arg shows o form.Bs4 left arg rest i is (h, e) v all before = signed shows o left arg rest i h e (fault_none (is_negative arg) _ v) all before
+reads_arg shows o form.Bytes1 left arg rest i is (h, e) v all before = counted shows o 1 left arg rest i h e (unsigned o form.Bytes1 (take 1 arg) is (λ w. absurd cc)) all before
+reads_arg shows o form.Bytes4 left arg rest i is (h, e) v all before = counted shows o 4 left arg rest i h e (unsigned o form.Bytes4 (take 4 arg) is (λ w. absurd cc)) all before
+reads_arg shows o form.Bytes8 left arg rest i is (h, e) v all before = counted shows o 8 left arg rest i h e (unsigned o form.Bytes8 (take 8 arg) is (λ w. absurd cc)) all before
+reads_arg shows o form.String4 left arg rest i is (h, e) v all before = signed shows o left arg rest i h e (fault_none (is_negative arg) _ v) all before
 
 -- ---- an opcode
 

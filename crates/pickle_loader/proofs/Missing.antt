@@ -223,13 +223,13 @@ missing h op.PopMark arg v i = pop_mark_misses h
 missing h op.Dup arg v i = top_misses h (λ v. Ran (append v (unpickler h))) None never_none
 missing h op.Get arg v i =
     subst (λ (x : Option ℕ). Misses h (refusal_of (row.Get (number_of form.Decimal arg)) h.s) (with_int x (unpickler h) (λ key. load_get key (unpickler h)))) (sym (plain_int arg v)) (get_misses h (number_of form.Decimal arg))
-missing h op.BinGet arg v i = get_misses h (number_of form.U1 arg)
-missing h op.LongBinGet arg v i = get_misses h (number_of form.U4 arg)
+missing h op.BinGet arg v i = get_misses h (number_of form.Uint1 arg)
+missing h op.LongBinGet arg v i = get_misses h (number_of form.Uint4 arg)
 missing h op.Put arg v i =
     subst (λ (x : Option ℕ). Misses h (refusal_of (row.Put (number_of form.Decimal arg)) h.s) (with_int x (unpickler h) (λ key. load_put h.w key (unpickler h)))) (sym (plain_int arg v))
     (top_misses h (λ v. tell h.w Method (record (unpickler h) { memo = insert_entry nat_cmp (entries h.V h.s.memo) (number_of form.Decimal arg) v })) None never_none)
-missing h op.BinPut arg v i = top_misses h (λ v. tell h.w Method (record (unpickler h) { memo = insert_entry nat_cmp (entries h.V h.s.memo) (number_of form.U1 arg) v })) None never_none
-missing h op.LongBinPut arg v i = top_misses h (λ v. tell h.w Method (record (unpickler h) { memo = insert_entry nat_cmp (entries h.V h.s.memo) (number_of form.U4 arg) v })) None never_none
+missing h op.BinPut arg v i = top_misses h (λ v. tell h.w Method (record (unpickler h) { memo = insert_entry nat_cmp (entries h.V h.s.memo) (number_of form.Uint1 arg) v })) None never_none
+missing h op.LongBinPut arg v i = top_misses h (λ v. tell h.w Method (record (unpickler h) { memo = insert_entry nat_cmp (entries h.V h.s.memo) (number_of form.Uint4 arg) v })) None never_none
 missing h op.Memoize arg v i = top_misses h (λ v. tell h.w Method (record (unpickler h) { memo = insert_entry nat_cmp (entries h.V h.s.memo) (length (entries h.V h.s.memo)) v })) None never_none
 missing h op.Stop arg v i = by_test h (nat_le 1 (length h.s.top)) refusal.Underflow None _ (pop_short h 1 (λ vs q. Stopped (item 0 vs) q)) (λ _. misses_never h None _ never_none)
 missing h o arg v i = misses_never h None _ never_none

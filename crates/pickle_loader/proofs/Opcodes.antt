@@ -29,7 +29,7 @@ int_by h false false text = literal_good h (kind.IntLine text) refl (λ vs. refl
 
 -- the kind that the row of an opcode makes where it makes none is looked at nowhere
 pub opcode_good : (h : Here) (o : Opcode) (arg : List ℕ) → value_fault (form_of o) arg ≡ None → RowGood h (row_of_opcode o arg) (kind_of_opcode o arg) (protocol_after o arg h.proto) (dispatch h.w o arg (unpickler h))
-opcode_good h op.Proto arg v = proto_good h kind.None (number_of form.U1 arg)
+opcode_good h op.Proto arg v = proto_good h kind.None (number_of form.Uint1 arg)
 opcode_good h op.Frame arg v = frame_good h kind.None
 opcode_good h op.PersId arg v = get_good h (kind.PersistentLine (payload form.Line arg)) (λ proto. Persist (Line (payload form.Line arg))) refl refl
 opcode_good h op.BinPersId arg v = binpersid_good h
@@ -39,7 +39,7 @@ opcode_good h op.Int arg v =
 opcode_good h op.String arg v =
     let k : Kind = kind.LegacyLine (payload form.Quoted arg) in
     subst (λ (b : Bool). RowGood h row.Push k h.proto (if b then load_literal k (unpickler h) else Raised h.acts)) (sym (quoted_text arg v)) (literal_good h k refl (λ vs. refl))
-opcode_good h op.ByteArray8 arg v = empty_good h (kind.ByteArray (payload form.B8 arg)) PyByteArray (Plain (kind.Bytes (payload form.B8 arg)) ∷ []) refl (λ vs. refl)
+opcode_good h op.ByteArray8 arg v = empty_good h (kind.ByteArray (payload form.Bytes8 arg)) PyByteArray (Plain (kind.Bytes (payload form.Bytes8 arg)) ∷ []) refl (λ vs. refl)
 opcode_good h op.NextBuffer arg v = buffer_good h kind.None
 opcode_good h op.ReadOnlyBuffer arg v = readonly_good h kind.None
 opcode_good h op.Tuple arg v = tuple_good h
@@ -59,9 +59,9 @@ opcode_good h op.NewObj arg v = newobj_good h
 opcode_good h op.NewObjEx arg v = newobj_ex_good h
 opcode_good h op.Global arg v = get_good h (kind.Global (record { first = first_text arg; second = second_text arg })) (λ proto. Find proto (Line (first_text arg)) (Line (second_text arg))) refl refl
 opcode_good h op.StackGlobal arg v = stack_global_good h
-opcode_good h op.Ext1 arg v = ext_good h (integer_of form.U1 arg)
-opcode_good h op.Ext2 arg v = ext_good h (integer_of form.U2 arg)
-opcode_good h op.Ext4 arg v = ext_good h (integer_of form.S4 arg)
+opcode_good h op.Ext1 arg v = ext_good h (integer_of form.Uint1 arg)
+opcode_good h op.Ext2 arg v = ext_good h (integer_of form.Uint2 arg)
+opcode_good h op.Ext4 arg v = ext_good h (integer_of form.Int4 arg)
 opcode_good h op.Reduce arg v = reduce_good h
 opcode_good h op.Pop arg v = pop_good h kind.None
 opcode_good h op.PopMark arg v = pop_mark_good h kind.None
@@ -69,13 +69,13 @@ opcode_good h op.Dup arg v = dup_good h kind.None
 opcode_good h op.Get arg v =
     subst (λ (x : Option ℕ). RowGood h (row.Get (number_of form.Decimal arg)) kind.None h.proto (with_int x (unpickler h) (λ key. load_get key (unpickler h)))) (sym (plain_int arg v))
     (memo_get_good h kind.None (number_of form.Decimal arg))
-opcode_good h op.BinGet arg v = memo_get_good h kind.None (number_of form.U1 arg)
-opcode_good h op.LongBinGet arg v = memo_get_good h kind.None (number_of form.U4 arg)
+opcode_good h op.BinGet arg v = memo_get_good h kind.None (number_of form.Uint1 arg)
+opcode_good h op.LongBinGet arg v = memo_get_good h kind.None (number_of form.Uint4 arg)
 opcode_good h op.Put arg v =
     subst (λ (x : Option ℕ). RowGood h (row.Put (number_of form.Decimal arg)) kind.None h.proto (with_int x (unpickler h) (λ key. load_put h.w key (unpickler h)))) (sym (plain_int arg v))
     (put_good h kind.None (number_of form.Decimal arg))
-opcode_good h op.BinPut arg v = put_good h kind.None (number_of form.U1 arg)
-opcode_good h op.LongBinPut arg v = put_good h kind.None (number_of form.U4 arg)
+opcode_good h op.BinPut arg v = put_good h kind.None (number_of form.Uint1 arg)
+opcode_good h op.LongBinPut arg v = put_good h kind.None (number_of form.Uint4 arg)
 opcode_good h op.Memoize arg v = memoize_good h kind.None
 opcode_good h op.Append arg v = append_good h kind.None
 opcode_good h op.Appends arg v = appends_good h kind.None

@@ -196,7 +196,7 @@ pub negative : (b : Bool) (g : FrontFault) → (if b then Some fault.NegativeLen
 negative true g e = refl
 negative false g e = absurd cc
 
-signed_fails : (s : Side) (arg rest : List ℕ) (g : FrontFault) → IsArg form.Bs4 arg → value_fault form.Bs4 arg ≡ Some g → read_arg form.Bs4 (at_side s (arg ++ rest)) ≡ None
+signed_fails : (s : Side) (arg rest : List ℕ) (g : FrontFault) → IsArg form.String4 arg → value_fault form.String4 arg ≡ Some g → read_arg form.String4 (at_side s (arg ++ rest)) ≡ None
 signed_fails s arg rest g (h, size) e =
     let below : is_negative arg ≡ true = negative (is_negative arg) g e in
     let four : length arg ≡ 4 = size ∙ ap (λ (b : Bool). 4 + (if b then 0 else little_number 4 arg)) below in
@@ -208,7 +208,7 @@ whole_read : (s : Side) (f : Form) (arg rest : List ℕ) (x : Option FrontFault)
 whole_read s f arg rest None e is = inl (reads_arg s f arg rest is e)
 whole_read s form.Quoted arg rest (Some g) e is = inl (reads_line s arg rest is)
 whole_read s form.Decimal arg rest (Some g) e is = inl (reads_line s arg rest is)
-whole_read s form.Bs4 arg rest (Some g) e is = inr (signed_fails s arg rest g is e)
+whole_read s form.String4 arg rest (Some g) e is = inr (signed_fails s arg rest g is e)
 whole_read s _ arg rest (Some g) e is = absurd cc
 
 no_piece : (p : Piece) (x : Option Piece) → x ≡ None → x ≡ Some p → ⊥
@@ -222,9 +222,9 @@ whole_covered s op.Put rest n (Some g) p size e is = put_covered rest n (int_key
 whole_covered s op.String rest n (Some g) p size e is =
     Fails (λ w u. ap (λ (b : Bool). if b then load_literal (kind.LegacyLine (text_of (take n rest))) u else Raised u.acts) (refused (is_quoted (text_of (take n rest))) fault.BadArgument g e))
 whole_covered s op.BinString rest n (Some g) p size e is =
-    absurd (no_piece p (read_arg form.Bs4 (at_side s rest)) (ap (λ (l : List ℕ). read_arg form.Bs4 (at_side s l)) (sym (take-append-drop n rest)) ∙ signed_fails s (take n rest) (drop n rest) g ((measures form.Bs4).found rest n size).1 e) is)
+    absurd (no_piece p (read_arg form.String4 (at_side s rest)) (ap (λ (l : List ℕ). read_arg form.String4 (at_side s l)) (sym (take-append-drop n rest)) ∙ signed_fails s (take n rest) (drop n rest) g ((measures form.String4).found rest n size).1 e) is)
 whole_covered s op.Long4 rest n (Some g) p size e is =
-    absurd (no_piece p (read_arg form.Bs4 (at_side s rest)) (ap (λ (l : List ℕ). read_arg form.Bs4 (at_side s l)) (sym (take-append-drop n rest)) ∙ signed_fails s (take n rest) (drop n rest) g ((measures form.Bs4).found rest n size).1 e) is)
+    absurd (no_piece p (read_arg form.String4 (at_side s rest)) (ap (λ (l : List ℕ). read_arg form.String4 (at_side s l)) (sym (take-append-drop n rest)) ∙ signed_fails s (take n rest) (drop n rest) g ((measures form.String4).found rest n size).1 e) is)
 whole_covered s _ rest n (Some g) p size e is = absurd cc
 
 -- a whole opcode and what is behind it

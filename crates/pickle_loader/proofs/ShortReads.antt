@@ -118,20 +118,20 @@ sees_signed comes r =
 
 sees_arg : (comes : ℕ → ℕ) (f : Form) (r : Pipe) → Sees r (read_arg comes f r) (whole.read_arg f (plain r))
 sees_arg comes form.Empty r = sees_some r (record { bytes = []; after = r }) (Some (record { bytes = []; after = plain r })) (λ came. (came, refl))
-sees_arg comes form.U1 r = sees_unpack comes 1 r
-sees_arg comes form.U2 r = sees_unpack comes 2 r
-sees_arg comes form.U4 r = sees_unpack comes 4 r
-sees_arg comes form.U8 r = sees_unpack comes 8 r
-sees_arg comes form.S4 r = sees_unpack comes 4 r
-sees_arg comes form.R8 r = sees_unpack comes 8 r
+sees_arg comes form.Uint1 r = sees_unpack comes 1 r
+sees_arg comes form.Uint2 r = sees_unpack comes 2 r
+sees_arg comes form.Uint4 r = sees_unpack comes 4 r
+sees_arg comes form.Uint8 r = sees_unpack comes 8 r
+sees_arg comes form.Int4 r = sees_unpack comes 4 r
+sees_arg comes form.Float8 r = sees_unpack comes 8 r
 sees_arg comes form.Line r = sees_line r
 sees_arg comes form.Quoted r = sees_line r
 sees_arg comes form.Decimal r = sees_line r
 sees_arg comes form.Two r = sees_both r (read_line r) (whole.read_line (plain r)) (λ first q. read_line q) (λ first q. whole.read_line q) (sees_line r) (λ first q. sees_line q)
-sees_arg comes form.B1 r = sees_counted comes 1 r
-sees_arg comes form.B4 r = sees_counted comes 4 r
-sees_arg comes form.B8 r = sees_counted comes 8 r
-sees_arg comes form.Bs4 r = sees_signed comes r
+sees_arg comes form.Bytes1 r = sees_counted comes 1 r
+sees_arg comes form.Bytes4 r = sees_counted comes 4 r
+sees_arg comes form.Bytes8 r = sees_counted comes 8 r
+sees_arg comes form.String4 r = sees_signed comes r
 
 -- ---- opcodes
 

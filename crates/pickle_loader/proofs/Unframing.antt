@@ -154,20 +154,20 @@ flat_arg : (f : Form) → IsFlat (read_arg f)
 flat_arg form.Empty r p e =
     let there : Piece = record { bytes = []; after = r } in
     ap (λ (x : Piece). Some (flat x)) (some_piece there p (Some there) refl e)
-flat_arg form.U1 r p e = flat_read 1 r p e
-flat_arg form.U2 r p e = flat_read 2 r p e
-flat_arg form.U4 r p e = flat_read 4 r p e
-flat_arg form.U8 r p e = flat_read 8 r p e
-flat_arg form.S4 r p e = flat_read 4 r p e
-flat_arg form.R8 r p e = flat_read 8 r p e
+flat_arg form.Uint1 r p e = flat_read 1 r p e
+flat_arg form.Uint2 r p e = flat_read 2 r p e
+flat_arg form.Uint4 r p e = flat_read 4 r p e
+flat_arg form.Uint8 r p e = flat_read 8 r p e
+flat_arg form.Int4 r p e = flat_read 4 r p e
+flat_arg form.Float8 r p e = flat_read 8 r p e
 flat_arg form.Line r p e = flat_line r p e
 flat_arg form.Quoted r p e = flat_line r p e
 flat_arg form.Decimal r p e = flat_line r p e
 flat_arg form.Two r p e = flat_both read_line (λ bytes q. read_line q) flat_line (λ bytes. flat_line) r p e
-flat_arg form.B1 r p e = flat_both (read 1) (λ size q. read (little_number 1 size) q) (flat_read 1) (λ size. flat_read (little_number 1 size)) r p e
-flat_arg form.B4 r p e = flat_both (read 4) (λ size q. read (little_number 4 size) q) (flat_read 4) (λ size. flat_read (little_number 4 size)) r p e
-flat_arg form.B8 r p e = flat_both (read 8) (λ size q. read (little_number 8 size) q) (flat_read 8) (λ size. flat_read (little_number 8 size)) r p e
-flat_arg form.Bs4 r p e =
+flat_arg form.Bytes1 r p e = flat_both (read 1) (λ size q. read (little_number 1 size) q) (flat_read 1) (λ size. flat_read (little_number 1 size)) r p e
+flat_arg form.Bytes4 r p e = flat_both (read 4) (λ size q. read (little_number 4 size) q) (flat_read 4) (λ size. flat_read (little_number 4 size)) r p e
+flat_arg form.Bytes8 r p e = flat_both (read 8) (λ size q. read (little_number 8 size) q) (flat_read 8) (λ size. flat_read (little_number 8 size)) r p e
+flat_arg form.String4 r p e =
     flat_both (read 4) (λ size q. if is_negative size then None else read (little_number 4 size) q) (flat_read 4) (λ size. flat_if (is_negative size) (read (little_number 4 size)) (flat_read (little_number 4 size))) r p e
 
 -- ---- opcodes

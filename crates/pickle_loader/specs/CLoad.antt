@@ -107,9 +107,9 @@ asked w op.Obj arg u = pop_mark u (λ items q. only_if (is_elsewhere (item 0 ite
 asked w op.Reduce arg u = pop 2 u (λ vs q. only_if (are_call vs) q)
 asked w op.NewObj arg u = pop 2 u (λ vs q. only_if (are_call vs) q)
 asked w op.NewObjEx arg u = pop 3 u (λ vs q. only_if (are_call_with w u.acts vs) q)
-asked w op.Ext1 arg u = only_if (int_lt (pos 0) (integer_of form.U1 arg)) u
-asked w op.Ext2 arg u = only_if (int_lt (pos 0) (integer_of form.U2 arg)) u
-asked w op.Ext4 arg u = only_if (int_lt (pos 0) (integer_of form.S4 arg)) u
+asked w op.Ext1 arg u = only_if (int_lt (pos 0) (integer_of form.Uint1 arg)) u
+asked w op.Ext2 arg u = only_if (int_lt (pos 0) (integer_of form.Uint2 arg)) u
+asked w op.Ext4 arg u = only_if (int_lt (pos 0) (integer_of form.Int4 arg)) u
 asked w _ arg u = Ran u
 
 abbrev pub raises : Step → Bool

@@ -40,7 +40,7 @@ listed_of (a ∷ acts) = if is_listed a then a ∷ listed_of acts else listed_of
 
 -- the protocol that the last PROTO of the same pickle said, or 0
 abbrev pub protocol_after : Opcode → List ℕ → ℕ → ℕ
-protocol_after op.Proto arg before = number_of form.U1 arg
+protocol_after op.Proto arg before = number_of form.Uint1 arg
 protocol_after op.Stop arg before = 0
 protocol_after _ arg before = before
 

@@ -99,20 +99,20 @@ read_signed comes r = and_then (unpack comes 4 r) (λ size q. if is_negative siz
 -- what a method reads, by the form of its argument
 abbrev pub read_arg : (ℕ → ℕ) → Form → Pipe → Option Part
 read_arg comes form.Empty r = Some (record { bytes = []; after = r })
-read_arg comes form.U1 r = unpack comes 1 r
-read_arg comes form.U2 r = unpack comes 2 r
-read_arg comes form.U4 r = unpack comes 4 r
-read_arg comes form.U8 r = unpack comes 8 r
-read_arg comes form.S4 r = unpack comes 4 r
-read_arg comes form.R8 r = unpack comes 8 r
+read_arg comes form.Uint1 r = unpack comes 1 r
+read_arg comes form.Uint2 r = unpack comes 2 r
+read_arg comes form.Uint4 r = unpack comes 4 r
+read_arg comes form.Uint8 r = unpack comes 8 r
+read_arg comes form.Int4 r = unpack comes 4 r
+read_arg comes form.Float8 r = unpack comes 8 r
 read_arg comes form.Line r = read_line r
 read_arg comes form.Quoted r = read_line r
 read_arg comes form.Decimal r = read_line r
 read_arg comes form.Two r = and_then (read_line r) (λ first q. read_line q)
-read_arg comes form.B1 r = read_counted comes 1 r
-read_arg comes form.B4 r = read_counted comes 4 r
-read_arg comes form.B8 r = read_counted comes 8 r
-read_arg comes form.Bs4 r = read_signed comes r
+read_arg comes form.Bytes1 r = read_counted comes 1 r
+read_arg comes form.Bytes4 r = read_counted comes 4 r
+read_arg comes form.Bytes8 r = read_counted comes 8 r
+read_arg comes form.String4 r = read_signed comes r
 
 -- ---- opcodes
 

@@ -137,20 +137,20 @@ read_counted shows o width i = and_then (read shows width i) (λ size j. if is_b
 -- what a function reads, by the form of its argument
 abbrev pub read_arg : (ℕ → ℕ) → Opcode → Form → Input → Option Chunk
 read_arg shows o form.Empty i = Some (record { bytes = []; after = i })
-read_arg shows o form.U1 i = read shows 1 i
-read_arg shows o form.U2 i = read shows 2 i
-read_arg shows o form.U4 i = read shows 4 i
-read_arg shows o form.U8 i = read shows 8 i
-read_arg shows o form.S4 i = read shows 4 i
-read_arg shows o form.R8 i = read shows 8 i
+read_arg shows o form.Uint1 i = read shows 1 i
+read_arg shows o form.Uint2 i = read shows 2 i
+read_arg shows o form.Uint4 i = read shows 4 i
+read_arg shows o form.Uint8 i = read shows 8 i
+read_arg shows o form.Int4 i = read shows 4 i
+read_arg shows o form.Float8 i = read shows 8 i
 read_arg shows o form.Line i = read_line i
 read_arg shows o form.Quoted i = read_line i
 read_arg shows o form.Decimal i = read_line i
 read_arg shows o form.Two i = and_then (read_line i) (λ first j. read_line j)
-read_arg shows o form.B1 i = read_counted shows o 1 i
-read_arg shows o form.B4 i = read_counted shows o 4 i
-read_arg shows o form.B8 i = read_counted shows o 8 i
-read_arg shows o form.Bs4 i = read_counted shows o 4 i
+read_arg shows o form.Bytes1 i = read_counted shows o 1 i
+read_arg shows o form.Bytes4 i = read_counted shows o 4 i
+read_arg shows o form.Bytes8 i = read_counted shows o 8 i
+read_arg shows o form.String4 i = read_counted shows o 4 i
 
 -- ---- opcodes
 

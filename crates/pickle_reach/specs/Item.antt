@@ -52,12 +52,12 @@ opcode_ends o arg = is_unread o arg
 -- a text is made that may name a module, or what is in one
 abbrev pub opcode_names : Opcode → List ℕ → Bool
 opcode_names op.String arg = true
-opcode_names op.BinString arg = text_names (payload form.Bs4 arg)
-opcode_names op.ShortBinString arg = text_names (payload form.B1 arg)
+opcode_names op.BinString arg = text_names (payload form.String4 arg)
+opcode_names op.ShortBinString arg = text_names (payload form.Bytes1 arg)
 opcode_names op.Unicode arg = text_names (payload form.Line arg)
-opcode_names op.BinUnicode arg = text_names (payload form.B4 arg)
-opcode_names op.ShortBinUnicode arg = text_names (payload form.B1 arg)
-opcode_names op.BinUnicode8 arg = text_names (payload form.B8 arg)
+opcode_names op.BinUnicode arg = text_names (payload form.Bytes4 arg)
+opcode_names op.ShortBinUnicode arg = text_names (payload form.Bytes1 arg)
+opcode_names op.BinUnicode8 arg = text_names (payload form.Bytes8 arg)
 opcode_names _ arg = false
 
 -- ---- of an operation

@@ -201,7 +201,7 @@ counted_across o w count inside outside none number front = counted_by o w count
 
 -- ---- by the form
 
-not_filled : (o : Opcode) (f : Form) → form_of o ≡ f → (f ≡ form.B1 → ⊥) → (f ≡ form.B4 → ⊥) → (f ≡ form.B8 → ⊥) → is_filled o ≡ false
+not_filled : (o : Opcode) (f : Form) → form_of o ≡ f → (f ≡ form.Bytes1 → ⊥) → (f ≡ form.Bytes4 → ⊥) → (f ≡ form.Bytes8 → ⊥) → is_filled o ≡ false
 not_filled op.ShortBinBytes f e one four eight = absurd (one (sym e))
 not_filled op.BinBytes f e one four eight = absurd (four (sym e))
 not_filled op.BinBytes8 f e one four eight = absurd (eight (sym e))
@@ -228,17 +228,17 @@ negative_same inside outside h = ap (λ (n : ℕ). if nat_le (2 ^ 31) n then 0 e
 
 pub across : (o : Opcode) (f : Form) (inside outside : List ℕ) → form_of o ≡ f → arg_size f inside ≡ None → Crosses (reads_arg o f) (arg_size f) inside outside (read_as o f inside)
 across o form.Empty inside outside is none = absurd (never_none (nat_le 0 (length inside)) 0 (le-leb 0 (length inside) (omega arith)) none)
-across o form.U1 inside outside is none = zero_across (reads 1) (fixed_size 1) o form.U1 inside outside (not_filled o form.U1 is (λ w. absurd cc) (λ w. absurd cc) (λ w. absurd cc)) (no_width (length inside)) (fixed_across 1 inside outside none)
-across o form.U2 inside outside is none = zero_across (reads 2) (fixed_size 2) o form.U2 inside outside (not_filled o form.U2 is (λ w. absurd cc) (λ w. absurd cc) (λ w. absurd cc)) (no_width (length inside)) (fixed_across 2 inside outside none)
-across o form.U4 inside outside is none = zero_across (reads 4) (fixed_size 4) o form.U4 inside outside (not_filled o form.U4 is (λ w. absurd cc) (λ w. absurd cc) (λ w. absurd cc)) (no_width (length inside)) (fixed_across 4 inside outside none)
-across o form.U8 inside outside is none = zero_across (reads 8) (fixed_size 8) o form.U8 inside outside (not_filled o form.U8 is (λ w. absurd cc) (λ w. absurd cc) (λ w. absurd cc)) (no_width (length inside)) (fixed_across 8 inside outside none)
-across o form.S4 inside outside is none = zero_across (reads 4) (fixed_size 4) o form.S4 inside outside (not_filled o form.S4 is (λ w. absurd cc) (λ w. absurd cc) (λ w. absurd cc)) (no_width (length inside)) (fixed_across 4 inside outside none)
-across o form.R8 inside outside is none = zero_across (reads 8) (fixed_size 8) o form.R8 inside outside (not_filled o form.R8 is (λ w. absurd cc) (λ w. absurd cc) (λ w. absurd cc)) (no_width (length inside)) (fixed_across 8 inside outside none)
+across o form.Uint1 inside outside is none = zero_across (reads 1) (fixed_size 1) o form.Uint1 inside outside (not_filled o form.Uint1 is (λ w. absurd cc) (λ w. absurd cc) (λ w. absurd cc)) (no_width (length inside)) (fixed_across 1 inside outside none)
+across o form.Uint2 inside outside is none = zero_across (reads 2) (fixed_size 2) o form.Uint2 inside outside (not_filled o form.Uint2 is (λ w. absurd cc) (λ w. absurd cc) (λ w. absurd cc)) (no_width (length inside)) (fixed_across 2 inside outside none)
+across o form.Uint4 inside outside is none = zero_across (reads 4) (fixed_size 4) o form.Uint4 inside outside (not_filled o form.Uint4 is (λ w. absurd cc) (λ w. absurd cc) (λ w. absurd cc)) (no_width (length inside)) (fixed_across 4 inside outside none)
+across o form.Uint8 inside outside is none = zero_across (reads 8) (fixed_size 8) o form.Uint8 inside outside (not_filled o form.Uint8 is (λ w. absurd cc) (λ w. absurd cc) (λ w. absurd cc)) (no_width (length inside)) (fixed_across 8 inside outside none)
+across o form.Int4 inside outside is none = zero_across (reads 4) (fixed_size 4) o form.Int4 inside outside (not_filled o form.Int4 is (λ w. absurd cc) (λ w. absurd cc) (λ w. absurd cc)) (no_width (length inside)) (fixed_across 4 inside outside none)
+across o form.Float8 inside outside is none = zero_across (reads 8) (fixed_size 8) o form.Float8 inside outside (not_filled o form.Float8 is (λ w. absurd cc) (λ w. absurd cc) (λ w. absurd cc)) (no_width (length inside)) (fixed_across 8 inside outside none)
 across o form.Line inside outside is none = zero_across reads_line line_size o form.Line inside outside (not_filled o form.Line is (λ w. absurd cc) (λ w. absurd cc) (λ w. absurd cc)) (no_width (length inside)) (line_across inside outside none)
 across o form.Quoted inside outside is none = zero_across reads_line line_size o form.Quoted inside outside (not_filled o form.Quoted is (λ w. absurd cc) (λ w. absurd cc) (λ w. absurd cc)) (no_width (length inside)) (line_across inside outside none)
 across o form.Decimal inside outside is none = zero_across reads_line line_size o form.Decimal inside outside (not_filled o form.Decimal is (λ w. absurd cc) (λ w. absurd cc) (λ w. absurd cc)) (no_width (length inside)) (line_across inside outside none)
 across o form.Two inside outside is none = unfilled two two_size o form.Two inside outside (not_filled o form.Two is (λ w. absurd cc) (λ w. absurd cc) (λ w. absurd cc)) (two_across inside outside (line_size inside) refl none)
-across o form.B1 inside outside is none = counted_across o 1 (little_number 1) inside outside none (λ h far. refl) (λ h. little_from-append 1 inside outside h)
-across o form.B4 inside outside is none = counted_across o 4 (little_number 4) inside outside none (λ h far. refl) (λ h. little_from-append 4 inside outside h)
-across o form.B8 inside outside is none = counted_across o 8 (little_number 8) inside outside none (λ h far. refl) (λ h. little_from-append 8 inside outside h)
-across o form.Bs4 inside outside is none = counted_across o 4 signed_count inside outside none (λ h far. signed_number inside (is_negative inside) refl h far) (λ h. negative_same inside outside h)
+across o form.Bytes1 inside outside is none = counted_across o 1 (little_number 1) inside outside none (λ h far. refl) (λ h. little_from-append 1 inside outside h)
+across o form.Bytes4 inside outside is none = counted_across o 4 (little_number 4) inside outside none (λ h far. refl) (λ h. little_from-append 4 inside outside h)
+across o form.Bytes8 inside outside is none = counted_across o 8 (little_number 8) inside outside none (λ h far. refl) (λ h. little_from-append 8 inside outside h)
+across o form.String4 inside outside is none = counted_across o 4 signed_count inside outside none (λ h far. signed_number inside (is_negative inside) refl h far) (λ h. negative_same inside outside h)

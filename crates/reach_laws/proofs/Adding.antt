@@ -202,13 +202,13 @@ instance_adds w old (cls ∷ args) u x = able_adds w true old (is_elsewhere cls)
 -- ---- each opcode
 
 pub dispatch_adds : (w : World) (o : Opcode) (arg : List ℕ) (u : Unpickler) → StepAdds (may_act o) u.acts (dispatch w o arg u)
-dispatch_adds w op.Proto arg u = either false u.acts _ (Ran (record u { proto = number_of form.U1 arg })) (Raised u.acts) (none_added false u.acts) (none_added false u.acts)
+dispatch_adds w op.Proto arg u = either false u.acts _ (Ran (record u { proto = number_of form.Uint1 arg })) (Raised u.acts) (none_added false u.acts) (none_added false u.acts)
 dispatch_adds w op.Frame arg u = none_added false u.acts
 dispatch_adds w op.PersId arg u = get_adds w true u.acts (Persist (Line (payload form.Line arg))) u (loud (Persist (Line (payload form.Line arg)))) (none_added true u.acts)
 dispatch_adds w op.BinPersId arg u =
     pop_adds true u.acts 1 u (λ vs q. get w (Persist (Given (item 0 vs))) q) (none_added true u.acts) (λ vs q x. get_adds w true u.acts (Persist (Given (item 0 vs))) q (loud (Persist (Given (item 0 vs)))) x)
 dispatch_adds w op.String arg u = either false u.acts (is_quoted (payload form.Quoted arg)) (load_literal (kind.LegacyLine (payload form.Quoted arg)) u) (Raised u.acts) (none_added false u.acts) (none_added false u.acts)
-dispatch_adds w op.ByteArray8 arg u = make_adds false u.acts PyByteArray (Plain (kind.Bytes (payload form.B8 arg)) ∷ []) u (none_added false u.acts)
+dispatch_adds w op.ByteArray8 arg u = make_adds false u.acts PyByteArray (Plain (kind.Bytes (payload form.Bytes8 arg)) ∷ []) u (none_added false u.acts)
 dispatch_adds w op.NextBuffer arg u = get_adds w true u.acts (NextBuffer u.buffers) (record u { buffers = u.buffers + 1 }) (loud (NextBuffer u.buffers)) (none_added true u.acts)
 dispatch_adds w op.ReadOnlyBuffer arg u = top_adds false u.acts u (λ v. viewed w v u) (none_added false u.acts) (λ v. view w false v u)
 dispatch_adds w op.Tuple arg u = mark_adds false u.acts u (λ items q. make PyTuple items q) (none_added false u.acts) (λ items q x. make_adds false u.acts PyTuple items q x)
@@ -246,9 +246,9 @@ dispatch_adds w op.StackGlobal arg u =
     (λ vs q x. either true u.acts (is_str w (item 1 vs)) (if is_str w (item 0 vs) then get w (Find q.proto (Given (item 0 vs)) (Given (item 1 vs))) q else Raised q.acts) (Raised q.acts)
     (either true u.acts (is_str w (item 0 vs)) (get w (Find q.proto (Given (item 0 vs)) (Given (item 1 vs))) q) (Raised q.acts)
     (get_adds w true u.acts (Find q.proto (Given (item 0 vs)) (Given (item 1 vs))) q (loud (Find q.proto (Given (item 0 vs)) (Given (item 1 vs)))) x) x) x)
-dispatch_adds w op.Ext1 arg u = get_adds w true u.acts (Extension (integer_of form.U1 arg)) u (loud (Extension (integer_of form.U1 arg))) (none_added true u.acts)
-dispatch_adds w op.Ext2 arg u = get_adds w true u.acts (Extension (integer_of form.U2 arg)) u (loud (Extension (integer_of form.U2 arg))) (none_added true u.acts)
-dispatch_adds w op.Ext4 arg u = get_adds w true u.acts (Extension (integer_of form.S4 arg)) u (loud (Extension (integer_of form.S4 arg))) (none_added true u.acts)
+dispatch_adds w op.Ext1 arg u = get_adds w true u.acts (Extension (integer_of form.Uint1 arg)) u (loud (Extension (integer_of form.Uint1 arg))) (none_added true u.acts)
+dispatch_adds w op.Ext2 arg u = get_adds w true u.acts (Extension (integer_of form.Uint2 arg)) u (loud (Extension (integer_of form.Uint2 arg))) (none_added true u.acts)
+dispatch_adds w op.Ext4 arg u = get_adds w true u.acts (Extension (integer_of form.Int4 arg)) u (loud (Extension (integer_of form.Int4 arg))) (none_added true u.acts)
 dispatch_adds w op.Reduce arg u =
     pop_adds true u.acts 2 u (λ vs q. if_able w (can_call (item 0 vs) (item 1 vs)) q (get w (Call (item 0 vs) (item 1 vs)) q)) (none_added true u.acts)
     (λ vs q x. able_adds w true u.acts (can_call (item 0 vs) (item 1 vs)) q (get w (Call (item 0 vs) (item 1 vs)) q) x (get_adds w true u.acts (Call (item 0 vs) (item 1 vs)) q (loud (Call (item 0 vs) (item 1 vs))) x))
@@ -258,11 +258,11 @@ dispatch_adds w op.Pop arg u =
 dispatch_adds w op.PopMark arg u = marked w false u
 dispatch_adds w op.Dup arg u = top_adds false u.acts u (λ v. Ran (append v u)) (none_added false u.acts) (λ v. none_added false u.acts)
 dispatch_adds w op.Get arg u = int_adds false (int_key (payload form.Decimal arg)) u (λ key. load_get key u) (λ key. get_key false key u)
-dispatch_adds w op.BinGet arg u = get_key false (number_of form.U1 arg) u
-dispatch_adds w op.LongBinGet arg u = get_key false (number_of form.U4 arg) u
+dispatch_adds w op.BinGet arg u = get_key false (number_of form.Uint1 arg) u
+dispatch_adds w op.LongBinGet arg u = get_key false (number_of form.Uint4 arg) u
 dispatch_adds w op.Put arg u = int_adds false (int_key (payload form.Decimal arg)) u (λ key. load_put w key u) (λ key. put_key w false key u)
-dispatch_adds w op.BinPut arg u = put_key w false (number_of form.U1 arg) u
-dispatch_adds w op.LongBinPut arg u = put_key w false (number_of form.U4 arg) u
+dispatch_adds w op.BinPut arg u = put_key w false (number_of form.Uint1 arg) u
+dispatch_adds w op.LongBinPut arg u = put_key w false (number_of form.Uint4 arg) u
 dispatch_adds w op.Memoize arg u = put_key w false (length u.memo) u
 dispatch_adds w op.Append arg u = pop_adds true u.acts 1 u (λ vs q. on_top q (λ target. fills w filling.Append target vs q)) (none_added true u.acts) (λ vs q x. on_target w u.acts filling.Append vs q x)
 dispatch_adds w op.Appends arg u = mark_adds true u.acts u (λ vs q. on_top q (λ target. fills w filling.Append target vs q)) (none_added true u.acts) (λ vs q x. on_target w u.acts filling.Append vs q x)

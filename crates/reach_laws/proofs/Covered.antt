@@ -78,7 +78,7 @@ no_sign true A e f = absurd cc
 no_sign false A e f = absurd cc
 
 -- a whole opcode whose length, if it has one, is not below 0
-pub covers : (c : Opcode) (rest : List ℕ) (n : ℕ) (x : Option FrontFault) → arg_size (form_of c) rest ≡ Some n → value_fault (form_of c) (take n rest) ≡ x → (form_of c ≡ form.Bs4 → is_negative (take n rest) ≡ false)
+pub covers : (c : Opcode) (rest : List ℕ) (n : ℕ) (x : Option FrontFault) → arg_size (form_of c) rest ≡ Some n → value_fault (form_of c) (take n rest) ≡ x → (form_of c ≡ form.String4 → is_negative (take n rest) ≡ false)
     → Covered (code_of c ∷ rest) (record { opcode = c; arg = take n rest }) (n + 1)
 covers c rest n None size e v = good c rest n size e
 covers op.Get rest n (Some g) size e v = get rest n (key_of (text_of (take n rest))) size (bad_decimal (take n rest) g e) refl

@@ -130,9 +130,9 @@ pub opcode_ends_tame : (w : World) (g : Granted) (named : Bool) (o : Opcode) (ar
 opcode_ends_tame w g named op.Global arg u keeps none ends read t = global_ends w g named arg u pushes keeps none t
 opcode_ends_tame w g named op.Inst arg u keeps none ends read t = global_ends w g named arg u (λ found p. pop_mark p (λ items q. get w (Instance None items) q)) keeps none t
 opcode_ends_tame w g named op.StackGlobal arg u keeps none ends read t = stack_global_ends w g u keeps (subst (λ (b : Bool). IsTame g b u) none t)
-opcode_ends_tame w g named op.Ext1 arg u keeps none ends read t = refused w g named (Extension (integer_of form.U1 arg)) u pushes keeps (ap not none) t
-opcode_ends_tame w g named op.Ext2 arg u keeps none ends read t = refused w g named (Extension (integer_of form.U2 arg)) u pushes keeps (ap not none) t
-opcode_ends_tame w g named op.Ext4 arg u keeps none ends read t = refused w g named (Extension (integer_of form.S4 arg)) u pushes keeps (ap not none) t
+opcode_ends_tame w g named op.Ext1 arg u keeps none ends read t = refused w g named (Extension (integer_of form.Uint1 arg)) u pushes keeps (ap not none) t
+opcode_ends_tame w g named op.Ext2 arg u keeps none ends read t = refused w g named (Extension (integer_of form.Uint2 arg)) u pushes keeps (ap not none) t
+opcode_ends_tame w g named op.Ext4 arg u keeps none ends read t = refused w g named (Extension (integer_of form.Int4 arg)) u pushes keeps (ap not none) t
 opcode_ends_tame w g named op.PersId arg u keeps none ends read t = refused w g named (Persist (Line (payload form.Line arg))) u pushes keeps (ap not none) t
 opcode_ends_tame w g named op.BinPersId arg u keeps none ends read t = binpersid_ends w g named u keeps none t
 opcode_ends_tame w g named op.NextBuffer arg u keeps none ends read t =

@@ -139,22 +139,22 @@ sees_none (Some g) y sees is = absurd cc
 
 -- an argument that is whole on one side is read, or its length is below 0 and nothing is
 abbrev Wholly : Side → Opcode → Form → List ℕ → List ℕ → Type 0
-Wholly s c f arg rest = ((reads_arg c f (at_side s (arg ++ rest)) ≡ Some (piece s arg rest)) × (f ≡ form.Bs4 → is_negative arg ≡ false)) ⊎ (reads_arg c f (at_side s (arg ++ rest)) ≡ None)
+Wholly s c f arg rest = ((reads_arg c f (at_side s (arg ++ rest)) ≡ Some (piece s arg rest)) × (f ≡ form.String4 → is_negative arg ≡ false)) ⊎ (reads_arg c f (at_side s (arg ++ rest)) ≡ None)
 
-signed_whole : (s : Side) (c : Opcode) (arg rest : List ℕ) (b : Bool) → is_negative arg ≡ b → form_of c ≡ form.Bs4 → IsArg form.Bs4 arg → length (at_side s (arg ++ rest)).inside + length (at_side s (arg ++ rest)).outside < 2 ^ 31 → Wholly s c form.Bs4 arg rest
+signed_whole : (s : Side) (c : Opcode) (arg rest : List ℕ) (b : Bool) → is_negative arg ≡ b → form_of c ≡ form.String4 → IsArg form.String4 arg → length (at_side s (arg ++ rest)).inside + length (at_side s (arg ++ rest)).outside < 2 ^ 31 → Wholly s c form.String4 arg rest
 signed_whole s c arg rest true below is h small = inr (gives_below s c arg rest h below small)
-signed_whole s c arg rest false above is h small = inl (gives_arg s c form.Bs4 arg rest is h (λ e. above), λ e. above)
+signed_whole s c arg rest false above is h small = inl (gives_arg s c form.String4 arg rest is h (λ e. above), λ e. above)
 
 whole_by : (s : Side) (c : Opcode) (f : Form) (arg rest : List ℕ) → form_of c ≡ f → IsArg f arg → length (at_side s (arg ++ rest)).inside + length (at_side s (arg ++ rest)).outside < 2 ^ 31 → Wholly s c f arg rest
-whole_by s c form.Bs4 arg rest is h small = signed_whole s c arg rest (is_negative arg) refl is h small
+whole_by s c form.String4 arg rest is h small = signed_whole s c arg rest (is_negative arg) refl is h small
 whole_by s c f arg rest is h small = inl (gives_arg s c f arg rest is h (λ e. absurd cc), λ e. absurd cc)
 
 wholly : (s : Side) (c : Opcode) (body : List ℕ) (n : ℕ) → arg_size (form_of c) body ≡ Some n → length (at_side s body).inside + length (at_side s body).outside < 2 ^ 31
-    → ((reads_arg c (form_of c) (at_side s body) ≡ Some (piece s (take n body) (drop n body))) × (form_of c ≡ form.Bs4 → is_negative (take n body) ≡ false)) ⊎ (reads_arg c (form_of c) (at_side s body) ≡ None)
+    → ((reads_arg c (form_of c) (at_side s body) ≡ Some (piece s (take n body) (drop n body))) × (form_of c ≡ form.String4 → is_negative (take n body) ≡ false)) ⊎ (reads_arg c (form_of c) (at_side s body) ≡ None)
 wholly s c body n size small =
     let found = (measures (form_of c)).found body n size in
     let whole : take n body ++ drop n body ≡ body = take-append-drop n body in
-    subst (λ (l : List ℕ). ((reads_arg c (form_of c) (at_side s l) ≡ Some (piece s (take n body) (drop n body))) × (form_of c ≡ form.Bs4 → is_negative (take n body) ≡ false)) ⊎ (reads_arg c (form_of c) (at_side s l) ≡ None)) whole
+    subst (λ (l : List ℕ). ((reads_arg c (form_of c) (at_side s l) ≡ Some (piece s (take n body) (drop n body))) × (form_of c ≡ form.String4 → is_negative (take n body) ≡ false)) ⊎ (reads_arg c (form_of c) (at_side s l) ≡ None)) whole
     (whole_by s c (form_of c) (take n body) (drop n body) refl found.1 (subst (λ (l : List ℕ). length (at_side s l).inside + length (at_side s l).outside < 2 ^ 31) (sym whole) small))
 
 -- by the argument

@@ -38,20 +38,20 @@ two_stay arg = then_stays (quoted (first_text arg) ⧺ codes " ") (quoted (secon
 
 form_stays : (f : Form) (arg : List ℕ) → AnyStays (form_text f arg)
 form_stays form.Empty arg = tt
-form_stays form.U1 arg = decimal_stays (number_of form.U1 arg)
-form_stays form.U2 arg = decimal_stays (number_of form.U2 arg)
-form_stays form.U4 arg = decimal_stays (number_of form.U4 arg)
-form_stays form.U8 arg = decimal_stays (number_of form.U8 arg)
-form_stays form.S4 arg = signed_stays (signed_of arg)
-form_stays form.R8 arg = float_stays arg
+form_stays form.Uint1 arg = decimal_stays (number_of form.Uint1 arg)
+form_stays form.Uint2 arg = decimal_stays (number_of form.Uint2 arg)
+form_stays form.Uint4 arg = decimal_stays (number_of form.Uint4 arg)
+form_stays form.Uint8 arg = decimal_stays (number_of form.Uint8 arg)
+form_stays form.Int4 arg = signed_stays (signed_of arg)
+form_stays form.Float8 arg = float_stays arg
 form_stays form.Line arg = quotes_stay (payload form.Line arg)
 form_stays form.Quoted arg = quotes_stay (payload form.Quoted arg)
 form_stays form.Decimal arg = decimal_stays (number_of form.Decimal arg)
 form_stays form.Two arg = two_stay arg
-form_stays form.B1 arg = quotes_stay (payload form.B1 arg)
-form_stays form.B4 arg = quotes_stay (payload form.B4 arg)
-form_stays form.B8 arg = quotes_stay (payload form.B8 arg)
-form_stays form.Bs4 arg = quotes_stay (payload form.Bs4 arg)
+form_stays form.Bytes1 arg = quotes_stay (payload form.Bytes1 arg)
+form_stays form.Bytes4 arg = quotes_stay (payload form.Bytes4 arg)
+form_stays form.Bytes8 arg = quotes_stay (payload form.Bytes8 arg)
+form_stays form.String4 arg = quotes_stay (payload form.String4 arg)
 
 arg_stays : (o : Operation) → AnyStays (arg_text o)
 unfolding arg_text

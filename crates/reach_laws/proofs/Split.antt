@@ -67,17 +67,17 @@ reads_counted o width s = and_then (reads width s) (counts o width)
 
 abbrev pub reads_arg : Opcode → Form → Split → Option Got
 reads_arg o form.Empty s = Some (record { bytes = []; after = s })
-reads_arg o form.U1 s = reads 1 s
-reads_arg o form.U2 s = reads 2 s
-reads_arg o form.U4 s = reads 4 s
-reads_arg o form.U8 s = reads 8 s
-reads_arg o form.S4 s = reads 4 s
-reads_arg o form.R8 s = reads 8 s
+reads_arg o form.Uint1 s = reads 1 s
+reads_arg o form.Uint2 s = reads 2 s
+reads_arg o form.Uint4 s = reads 4 s
+reads_arg o form.Uint8 s = reads 8 s
+reads_arg o form.Int4 s = reads 4 s
+reads_arg o form.Float8 s = reads 8 s
 reads_arg o form.Line s = reads_line s
 reads_arg o form.Quoted s = reads_line s
 reads_arg o form.Decimal s = reads_line s
 reads_arg o form.Two s = and_then (reads_line s) (λ first q. reads_line q)
-reads_arg o form.B1 s = reads_counted o 1 s
-reads_arg o form.B4 s = reads_counted o 4 s
-reads_arg o form.B8 s = reads_counted o 8 s
-reads_arg o form.Bs4 s = reads_counted o 4 s
+reads_arg o form.Bytes1 s = reads_counted o 1 s
+reads_arg o form.Bytes4 s = reads_counted o 4 s
+reads_arg o form.Bytes8 s = reads_counted o 8 s
+reads_arg o form.String4 s = reads_counted o 4 s

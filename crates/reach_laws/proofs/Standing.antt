@@ -348,17 +348,17 @@ sees_counted shows o width s i at =
 
 pub sees_arg : (shows : ℕ → ℕ) (o : Opcode) (f : Form) (s : Split) (i : Input) → IsAt s i → Sees (reads_arg o f s) (input.read_arg shows o f i)
 sees_arg shows o form.Empty s i at = (refl, at)
-sees_arg shows o form.U1 s i at = sees_read shows 1 s i at
-sees_arg shows o form.U2 s i at = sees_read shows 2 s i at
-sees_arg shows o form.U4 s i at = sees_read shows 4 s i at
-sees_arg shows o form.U8 s i at = sees_read shows 8 s i at
-sees_arg shows o form.S4 s i at = sees_read shows 4 s i at
-sees_arg shows o form.R8 s i at = sees_read shows 8 s i at
+sees_arg shows o form.Uint1 s i at = sees_read shows 1 s i at
+sees_arg shows o form.Uint2 s i at = sees_read shows 2 s i at
+sees_arg shows o form.Uint4 s i at = sees_read shows 4 s i at
+sees_arg shows o form.Uint8 s i at = sees_read shows 8 s i at
+sees_arg shows o form.Int4 s i at = sees_read shows 4 s i at
+sees_arg shows o form.Float8 s i at = sees_read shows 8 s i at
 sees_arg shows o form.Line s i at = sees_line s i at
 sees_arg shows o form.Quoted s i at = sees_line s i at
 sees_arg shows o form.Decimal s i at = sees_line s i at
 sees_arg shows o form.Two s i at = sees_then (reads_line s) (read_line i) (λ first q. reads_line q) (λ first j. read_line j) (sees_line s i at) (λ first q j there. sees_line q j there)
-sees_arg shows o form.B1 s i at = sees_counted shows o 1 s i at
-sees_arg shows o form.B4 s i at = sees_counted shows o 4 s i at
-sees_arg shows o form.B8 s i at = sees_counted shows o 8 s i at
-sees_arg shows o form.Bs4 s i at = sees_counted shows o 4 s i at
+sees_arg shows o form.Bytes1 s i at = sees_counted shows o 1 s i at
+sees_arg shows o form.Bytes4 s i at = sees_counted shows o 4 s i at
+sees_arg shows o form.Bytes8 s i at = sees_counted shows o 8 s i at
+sees_arg shows o form.String4 s i at = sees_counted shows o 4 s i at

@@ -127,13 +127,13 @@ marked : (w : World) (g : Granted) (named : Bool) (u : Unpickler) → IsTame g n
 marked w g named u t = mark_tame g named u (λ items q. tell w Method q) t (λ items q all h. tell_tame w g named Method q refl h)
 
 pub step_tame : (w : World) (g : Granted) (named : Bool) (o : Opcode) (arg : List ℕ) (u : Unpickler) → opcode_ends o arg ≡ false → Tame named (Plain (literal o arg)) → IsTame g named u → StepTame g named (dispatch w o arg u)
-step_tame w g named op.Proto arg u goes lit t = either g named _ (Ran (record u { proto = number_of form.U1 arg })) (Raised u.acts) (record { stack = t.stack; below = t.below; memo = t.memo; acts = t.acts }) t.acts
+step_tame w g named op.Proto arg u goes lit t = either g named _ (Ran (record u { proto = number_of form.Uint1 arg })) (Raised u.acts) (record { stack = t.stack; below = t.below; memo = t.memo; acts = t.acts }) t.acts
 step_tame w g named op.Frame arg u goes lit t = t
 step_tame w g named op.PersId arg u goes lit t = let two : true ≡ false = goes in absurd cc
 step_tame w g named op.BinPersId arg u goes lit t = let two : true ≡ false = goes in absurd cc
 step_tame w g named op.String arg u goes lit t =
     either g named (is_quoted (payload form.Quoted arg)) (load_literal (kind.LegacyLine (payload form.Quoted arg)) u) (Raised u.acts) (pushed_tame g named u (Plain (kind.LegacyLine (payload form.Quoted arg))) lit t) t.acts
-step_tame w g named op.ByteArray8 arg u goes lit t = make_tame g named PyByteArray (Plain (kind.Bytes (payload form.B8 arg)) ∷ []) u t
+step_tame w g named op.ByteArray8 arg u goes lit t = make_tame g named PyByteArray (Plain (kind.Bytes (payload form.Bytes8 arg)) ∷ []) u t
 step_tame w g named op.NextBuffer arg u goes lit t = let two : true ≡ false = goes in absurd cc
 step_tame w g named op.ReadOnlyBuffer arg u goes lit t = top_tame g named u (λ v. viewed w v u) t (λ v h. view w g named v u h t)
 step_tame w g named op.Tuple arg u goes lit t = mark_tame g named u (λ items q. make PyTuple items q) t (λ items q all h. make_tame g named PyTuple items q h)
@@ -167,11 +167,11 @@ step_tame w g named op.Pop arg u goes lit t =
 step_tame w g named op.PopMark arg u goes lit t = marked w g named u t
 step_tame w g named op.Dup arg u goes lit t = top_tame g named u (λ v. Ran (append v u)) t (λ v h. pushed_tame g named u v h t)
 step_tame w g named op.Get arg u goes lit t = int_tame g named (int_key (payload form.Decimal arg)) u (λ key. load_get key u) t (λ key. get_tame g named key u t)
-step_tame w g named op.BinGet arg u goes lit t = get_tame g named (number_of form.U1 arg) u t
-step_tame w g named op.LongBinGet arg u goes lit t = get_tame g named (number_of form.U4 arg) u t
+step_tame w g named op.BinGet arg u goes lit t = get_tame g named (number_of form.Uint1 arg) u t
+step_tame w g named op.LongBinGet arg u goes lit t = get_tame g named (number_of form.Uint4 arg) u t
 step_tame w g named op.Put arg u goes lit t = int_tame g named (int_key (payload form.Decimal arg)) u (λ key. load_put w key u) t (λ key. put_tame w g named key u t)
-step_tame w g named op.BinPut arg u goes lit t = put_tame w g named (number_of form.U1 arg) u t
-step_tame w g named op.LongBinPut arg u goes lit t = put_tame w g named (number_of form.U4 arg) u t
+step_tame w g named op.BinPut arg u goes lit t = put_tame w g named (number_of form.Uint1 arg) u t
+step_tame w g named op.LongBinPut arg u goes lit t = put_tame w g named (number_of form.Uint4 arg) u t
 step_tame w g named op.Memoize arg u goes lit t = put_tame w g named (length u.memo) u t
 step_tame w g named op.Append arg u goes lit t = pop_tame g named 1 u (λ vs q. on_top q (λ target. fills w filling.Append target vs q)) t (λ vs q all h. on_target w g named filling.Append vs q h)
 step_tame w g named op.Appends arg u goes lit t = mark_tame g named u (λ vs q. on_top q (λ target. fills w filling.Append target vs q)) t (λ vs q all h. on_target w g named filling.Append vs q h)

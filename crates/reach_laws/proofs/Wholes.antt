@@ -90,11 +90,11 @@ gives_counted s o width arg rest h e below =
     ∙ ap (λ (l : List ℕ). Some (piece s l rest)) whole
 
 -- only LONG4 looks at a sign
-below_by : (o : Opcode) (size : List ℕ) → (form_of o ≡ form.Bs4 → is_negative size ≡ false) → is_below o size ≡ false
+below_by : (o : Opcode) (size : List ℕ) → (form_of o ≡ form.String4 → is_negative size ≡ false) → is_below o size ≡ false
 below_by op.Long4 size h = h refl
 below_by _ size h = refl
 
-unsigned : (o : Opcode) (f : Form) (size : List ℕ) → form_of o ≡ f → (f ≡ form.Bs4 → ⊥) → is_below o size ≡ false
+unsigned : (o : Opcode) (f : Form) (size : List ℕ) → form_of o ≡ f → (f ≡ form.String4 → ⊥) → is_below o size ≡ false
 unsigned o f size is other = below_by o size (λ e. absurd (other (sym is ∙ e)))
 
 gives_none : (s : Side) (o : Opcode) (arg rest : List ℕ) → length arg ≡ 0 → reads_arg o form.Empty (at_side s (arg ++ rest)) ≡ Some (piece s arg rest)
@@ -112,23 +112,23 @@ gives_two s first second rest a b =
     ∙ gives_both s first second rest (reads_line (at_side s (first ++ (second ++ rest)))) (λ bytes q. reads_line q) (gives_line s first (second ++ rest) a) (gives_line s second rest b)
 
 -- a whole argument, whatever follows
-pub gives_arg : (s : Side) (o : Opcode) (f : Form) (arg rest : List ℕ) → form_of o ≡ f → IsArg f arg → (f ≡ form.Bs4 → is_negative arg ≡ false) → reads_arg o f (at_side s (arg ++ rest)) ≡ Some (piece s arg rest)
+pub gives_arg : (s : Side) (o : Opcode) (f : Form) (arg rest : List ℕ) → form_of o ≡ f → IsArg f arg → (f ≡ form.String4 → is_negative arg ≡ false) → reads_arg o f (at_side s (arg ++ rest)) ≡ Some (piece s arg rest)
 gives_arg s o form.Empty arg rest is h v = gives_none s o arg rest h
-gives_arg s o form.U1 arg rest is h v = gives s 1 arg rest h
-gives_arg s o form.U2 arg rest is h v = gives s 2 arg rest h
-gives_arg s o form.U4 arg rest is h v = gives s 4 arg rest h
-gives_arg s o form.U8 arg rest is h v = gives s 8 arg rest h
-gives_arg s o form.S4 arg rest is h v = gives s 4 arg rest h
-gives_arg s o form.R8 arg rest is h v = gives s 8 arg rest h
+gives_arg s o form.Uint1 arg rest is h v = gives s 1 arg rest h
+gives_arg s o form.Uint2 arg rest is h v = gives s 2 arg rest h
+gives_arg s o form.Uint4 arg rest is h v = gives s 4 arg rest h
+gives_arg s o form.Uint8 arg rest is h v = gives s 8 arg rest h
+gives_arg s o form.Int4 arg rest is h v = gives s 4 arg rest h
+gives_arg s o form.Float8 arg rest is h v = gives s 8 arg rest h
 gives_arg s o form.Line arg rest is h v = gives_line s arg rest h
 gives_arg s o form.Quoted arg rest is h v = gives_line s arg rest h
 gives_arg s o form.Decimal arg rest is h v = gives_line s arg rest h
 gives_arg s o form.Two arg rest is (first, second, a, b, parts) v =
     ap (λ (l : List ℕ). reads_arg o form.Two (at_side s (l ++ rest))) parts ∙ gives_two s first second rest a b ∙ ap (λ (l : List ℕ). Some (piece s l rest)) (sym parts)
-gives_arg s o form.B1 arg rest is (h, e) v = gives_counted s o 1 arg rest h e (unsigned o form.B1 (take 1 arg) is (λ w. absurd cc))
-gives_arg s o form.B4 arg rest is (h, e) v = gives_counted s o 4 arg rest h e (unsigned o form.B4 (take 4 arg) is (λ w. absurd cc))
-gives_arg s o form.B8 arg rest is (h, e) v = gives_counted s o 8 arg rest h e (unsigned o form.B8 (take 8 arg) is (λ w. absurd cc))
-gives_arg s o form.Bs4 arg rest is (h, e) v = gives_signed s o arg rest h e (v refl)
+gives_arg s o form.Bytes1 arg rest is (h, e) v = gives_counted s o 1 arg rest h e (unsigned o form.Bytes1 (take 1 arg) is (λ w. absurd cc))
+gives_arg s o form.Bytes4 arg rest is (h, e) v = gives_counted s o 4 arg rest h e (unsigned o form.Bytes4 (take 4 arg) is (λ w. absurd cc))
+gives_arg s o form.Bytes8 arg rest is (h, e) v = gives_counted s o 8 arg rest h e (unsigned o form.Bytes8 (take 8 arg) is (λ w. absurd cc))
+gives_arg s o form.String4 arg rest is (h, e) v = gives_signed s o arg rest h e (v refl)
 
 -- ---- a length below 0
 
@@ -159,7 +159,7 @@ side_size (Inside outside) xs rest = omega (arith, length-append xs rest)
 side_size Outside xs rest = omega (arith, length-append xs rest)
 
 -- is not read: so many bytes are not there
-pub gives_below : (s : Side) (o : Opcode) (arg rest : List ℕ) → IsArg form.Bs4 arg → is_negative arg ≡ true → length (at_side s (arg ++ rest)).inside + length (at_side s (arg ++ rest)).outside < 2 ^ 31 → reads_counted o 4 (at_side s (arg ++ rest)) ≡ None
+pub gives_below : (s : Side) (o : Opcode) (arg rest : List ℕ) → IsArg form.String4 arg → is_negative arg ≡ true → length (at_side s (arg ++ rest)).inside + length (at_side s (arg ++ rest)).outside < 2 ^ 31 → reads_counted o 4 (at_side s (arg ++ rest)) ≡ None
 gives_below s o arg rest (h, e) negative small =
     let four : length arg ≡ 4 = e ∙ ap (λ (b : Bool). 4 + (if b then 0 else little_number 4 arg)) negative in
     let many : 2 ^ 31 ≤ little_number 4 arg = leb-true (2 ^ 31) (little_number 4 arg) negative in
@@ -209,17 +209,17 @@ signed_number flat false g h far = refl
 
 pub none_arg : (o : Opcode) (f : Form) (flat : List ℕ) → arg_size f flat ≡ None → reads_arg o f (outside_only flat) ≡ None
 none_arg o form.Empty flat none = absurd (some_size (nat_le 0 (length flat)) 0 (le-leb 0 (length flat) (omega arith)) none)
-none_arg o form.U1 flat none = none_fixed 1 flat none
-none_arg o form.U2 flat none = none_fixed 2 flat none
-none_arg o form.U4 flat none = none_fixed 4 flat none
-none_arg o form.U8 flat none = none_fixed 8 flat none
-none_arg o form.S4 flat none = none_fixed 4 flat none
-none_arg o form.R8 flat none = none_fixed 8 flat none
+none_arg o form.Uint1 flat none = none_fixed 1 flat none
+none_arg o form.Uint2 flat none = none_fixed 2 flat none
+none_arg o form.Uint4 flat none = none_fixed 4 flat none
+none_arg o form.Uint8 flat none = none_fixed 8 flat none
+none_arg o form.Int4 flat none = none_fixed 4 flat none
+none_arg o form.Float8 flat none = none_fixed 8 flat none
 none_arg o form.Line flat none = none_line flat none
 none_arg o form.Quoted flat none = none_line flat none
 none_arg o form.Decimal flat none = none_line flat none
 none_arg o form.Two flat none = none_two flat (line_size flat) refl none
-none_arg o form.B1 flat none = none_counted o 1 (little_number 1) flat (nat_le 1 (length flat)) refl none (λ h far. refl)
-none_arg o form.B4 flat none = none_counted o 4 (little_number 4) flat (nat_le 4 (length flat)) refl none (λ h far. refl)
-none_arg o form.B8 flat none = none_counted o 8 (little_number 8) flat (nat_le 8 (length flat)) refl none (λ h far. refl)
-none_arg o form.Bs4 flat none = none_counted o 4 signed_count flat (nat_le 4 (length flat)) refl none (λ h far. signed_number flat (is_negative flat) refl h far)
+none_arg o form.Bytes1 flat none = none_counted o 1 (little_number 1) flat (nat_le 1 (length flat)) refl none (λ h far. refl)
+none_arg o form.Bytes4 flat none = none_counted o 4 (little_number 4) flat (nat_le 4 (length flat)) refl none (λ h far. refl)
+none_arg o form.Bytes8 flat none = none_counted o 8 (little_number 8) flat (nat_le 8 (length flat)) refl none (λ h far. refl)
+none_arg o form.String4 flat none = none_counted o 4 signed_count flat (nat_le 4 (length flat)) refl none (λ h far. signed_number flat (is_negative flat) refl h far)

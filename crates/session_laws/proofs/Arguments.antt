@@ -221,12 +221,12 @@ two_same s t x y l r same =
 form_same : (f : Form) (s t : List ℕ) → Same (form_text f s) (form_text f t)
 unfolding Same
 form_same form.Empty s t = λ a b x y e f l r same. absurd cc
-form_same form.U1 s t = same_by _ _ (passes_decimal arg_stop arg_calm (number_of form.U1 s)) (passes_decimal arg_stop arg_calm (number_of form.U1 t))
-form_same form.U2 s t = same_by _ _ (passes_decimal arg_stop arg_calm (number_of form.U2 s)) (passes_decimal arg_stop arg_calm (number_of form.U2 t))
-form_same form.U4 s t = same_by _ _ (passes_decimal arg_stop arg_calm (number_of form.U4 s)) (passes_decimal arg_stop arg_calm (number_of form.U4 t))
-form_same form.U8 s t = same_by _ _ (passes_decimal arg_stop arg_calm (number_of form.U8 s)) (passes_decimal arg_stop arg_calm (number_of form.U8 t))
-form_same form.S4 s t = same_by _ _ (passes_signed arg_stop arg_calm (signed_of s)) (passes_signed arg_stop arg_calm (signed_of t))
-form_same form.R8 s t = same_by _ _ (passes_float arg_stop arg_calm (payload form.R8 s)) (passes_float arg_stop arg_calm (payload form.R8 t))
+form_same form.Uint1 s t = same_by _ _ (passes_decimal arg_stop arg_calm (number_of form.Uint1 s)) (passes_decimal arg_stop arg_calm (number_of form.Uint1 t))
+form_same form.Uint2 s t = same_by _ _ (passes_decimal arg_stop arg_calm (number_of form.Uint2 s)) (passes_decimal arg_stop arg_calm (number_of form.Uint2 t))
+form_same form.Uint4 s t = same_by _ _ (passes_decimal arg_stop arg_calm (number_of form.Uint4 s)) (passes_decimal arg_stop arg_calm (number_of form.Uint4 t))
+form_same form.Uint8 s t = same_by _ _ (passes_decimal arg_stop arg_calm (number_of form.Uint8 s)) (passes_decimal arg_stop arg_calm (number_of form.Uint8 t))
+form_same form.Int4 s t = same_by _ _ (passes_signed arg_stop arg_calm (signed_of s)) (passes_signed arg_stop arg_calm (signed_of t))
+form_same form.Float8 s t = same_by _ _ (passes_float arg_stop arg_calm (payload form.Float8 s)) (passes_float arg_stop arg_calm (payload form.Float8 t))
 form_same form.Line s t = same_by _ _ (passes_quoted arg_stop arg_calm (payload form.Line s)) (passes_quoted arg_stop arg_calm (payload form.Line t))
 form_same form.Quoted s t = same_by _ _ (passes_quoted arg_stop arg_calm (payload form.Quoted s)) (passes_quoted arg_stop arg_calm (payload form.Quoted t))
 form_same form.Decimal s t = same_by _ _ (passes_decimal arg_stop arg_calm (number_of form.Decimal s)) (passes_decimal arg_stop arg_calm (number_of form.Decimal t))
@@ -234,10 +234,10 @@ form_same form.Two s t = λ a b x y e f l r same.
     let first : two_texts s ≡ a = some_is (two_texts s) a e in
     let second : two_texts t ≡ b = some_is (two_texts t) b f in
     sym first ∙ two_same s t x y l r (ap (λ (u : List ℕ). u ++ x) first ∙ same ∙ ap (λ (u : List ℕ). u ++ y) (sym second)) ∙ second
-form_same form.B1 s t = same_by _ _ (passes_quoted arg_stop arg_calm (payload form.B1 s)) (passes_quoted arg_stop arg_calm (payload form.B1 t))
-form_same form.B4 s t = same_by _ _ (passes_quoted arg_stop arg_calm (payload form.B4 s)) (passes_quoted arg_stop arg_calm (payload form.B4 t))
-form_same form.B8 s t = same_by _ _ (passes_quoted arg_stop arg_calm (payload form.B8 s)) (passes_quoted arg_stop arg_calm (payload form.B8 t))
-form_same form.Bs4 s t = same_by _ _ (passes_quoted arg_stop arg_calm (payload form.Bs4 s)) (passes_quoted arg_stop arg_calm (payload form.Bs4 t))
+form_same form.Bytes1 s t = same_by _ _ (passes_quoted arg_stop arg_calm (payload form.Bytes1 s)) (passes_quoted arg_stop arg_calm (payload form.Bytes1 t))
+form_same form.Bytes4 s t = same_by _ _ (passes_quoted arg_stop arg_calm (payload form.Bytes4 s)) (passes_quoted arg_stop arg_calm (payload form.Bytes4 t))
+form_same form.Bytes8 s t = same_by _ _ (passes_quoted arg_stop arg_calm (payload form.Bytes8 s)) (passes_quoted arg_stop arg_calm (payload form.Bytes8 t))
+form_same form.String4 s t = same_by _ _ (passes_quoted arg_stop arg_calm (payload form.String4 s)) (passes_quoted arg_stop arg_calm (payload form.String4 t))
 
 arg_by : (b : Bool) (f : Form) (s t : List ℕ) → Same (if b then Some (long_text (payload f s)) else form_text f s) (if b then Some (long_text (payload f t)) else form_text f t)
 arg_by true f s t = same_by _ _ (passes_long arg_stop arg_calm (payload f s)) (passes_long arg_stop arg_calm (payload f t))

@@ -204,20 +204,20 @@ two_within arg =
 
 form_within : (f : Form) (arg : List ℕ) → WithinSome (form_text f arg)
 form_within form.Empty arg = refl
-form_within form.U1 arg = number (number_of form.U1 arg)
-form_within form.U2 arg = number (number_of form.U2 arg)
-form_within form.U4 arg = number (number_of form.U4 arg)
-form_within form.U8 arg = number (number_of form.U8 arg)
-form_within form.S4 arg = lacks_signed 10 (signed_of arg) refl newline_no_digit
-form_within form.R8 arg = float_within (payload form.R8 arg)
+form_within form.Uint1 arg = number (number_of form.Uint1 arg)
+form_within form.Uint2 arg = number (number_of form.Uint2 arg)
+form_within form.Uint4 arg = number (number_of form.Uint4 arg)
+form_within form.Uint8 arg = number (number_of form.Uint8 arg)
+form_within form.Int4 arg = lacks_signed 10 (signed_of arg) refl newline_no_digit
+form_within form.Float8 arg = float_within (payload form.Float8 arg)
 form_within form.Line arg = lacks_quoted (payload form.Line arg)
 form_within form.Quoted arg = lacks_quoted (payload form.Quoted arg)
 form_within form.Decimal arg = number (number_of form.Decimal arg)
 form_within form.Two arg = two_within arg
-form_within form.B1 arg = lacks_quoted (payload form.B1 arg)
-form_within form.B4 arg = lacks_quoted (payload form.B4 arg)
-form_within form.B8 arg = lacks_quoted (payload form.B8 arg)
-form_within form.Bs4 arg = lacks_quoted (payload form.Bs4 arg)
+form_within form.Bytes1 arg = lacks_quoted (payload form.Bytes1 arg)
+form_within form.Bytes4 arg = lacks_quoted (payload form.Bytes4 arg)
+form_within form.Bytes8 arg = lacks_quoted (payload form.Bytes8 arg)
+form_within form.String4 arg = lacks_quoted (payload form.String4 arg)
 
 arg_by : (b : Bool) (f : Form) (arg : List ℕ) → WithinSome (if b then Some (long_text (payload f arg)) else form_text f arg)
 arg_by true f arg = long_within (payload f arg)
