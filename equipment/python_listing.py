@@ -1,6 +1,6 @@
 """The listing that pickletools of the running Python makes of a pickle, in the form of `picklestep list`.
 
-A line of `list` is one of `pickletools.dis` (crates/pickle_show/specs/Line.antt has the source of each), except for this:
+A line of `list` is one of `pickletools.dis` (crates/pickle_list/specs/Line.antt has the source of each), except for this:
 
 - `dis` writes an argument as Python's repr of its value. `list` writes it by rules of its own (crates/pickle_ops/specs/Text.antt). So the text
   of an argument is left out of both. It ends in a quote, a digit, a letter or a bracket behind a quote, so that none looks like a note.

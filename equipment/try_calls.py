@@ -23,21 +23,22 @@ from typing import Any, Optional, Union
 import try_lines
 from antt_words import NONE, Made, Value, some
 from definition import program_of, short
-from try_lines import OPS, SHOW, Line, Program, Tally, float_of, kinds_of, text_of, words_of
+from try_lines import OPS, SHOWN, Line, Program, Tally, float_of, kinds_of, text_of, words_of
 
 from picklestep.reaches import EVENTS, Fields, reach_of
 from picklestep.records import Brief, Briefs, Extension, Global, Name, Reach, Ref
 from trials.trial import Trial
 
+CALLS = "Rattle.pickle_calls.specs"
 FURTHER = "Rattle.pickle_further.specs"
 WORDS = (
     (f"{OPS}.Argument", ("long_of",)),
     ("Rattle.pickle_names.specs.Value", ("decode", "decode_all")),
-    (f"{SHOW}.ObjectText", ("kind_text", "id_text")),
-    (f"{SHOW}.Naming", ("in_ascii", "spelled_of", "pair_renamed", "pair_text", "import_text", "import_for", "names_text")),
-    (f"{SHOW}.Brief", ("brief_text", "most_bytes", "most_characters", "most_objects")),
-    (f"{SHOW}.LineLaws", ("names_of", "inst_names")),
-    (f"{SHOW}.CallsLine", ("event_line",)),
+    (f"{SHOWN}.Words", ("kind_text", "id_text")),
+    (f"{CALLS}.Naming", ("in_ascii", "spelled_of", "pair_renamed", "pair_text", "import_text", "import_for", "names_text")),
+    (f"{CALLS}.Brief", ("brief_text", "most_bytes", "most_characters", "most_objects")),
+    ("Rattle.calls_laws.specs.LineLaws", ("names_of", "inst_names")),
+    (f"{CALLS}.CallsLine", ("event_line",)),
     (f"{FURTHER}.Going", ("going", "stands_after")),
     (f"{FURTHER}.Parts", ("standing_first",)),
 )
@@ -189,8 +190,8 @@ class Events:
         program = program_of(crates)
         program.kept.update(KEPT)
         self.words = words_of(program, WORDS)
-        values = (f"a value of {kind}" for kind in kinds_of(program, "Brief", "kind_brief"))
-        self.kinds = {*kinds_of(program, "CallsLine", "made_words"), *values, "State", "Append", "SetItem", "Add"}
+        values = (f"a value of {kind}" for kind in kinds_of(program, f"{CALLS}.Brief", "kind_brief"))
+        self.kinds = {*kinds_of(program, f"{CALLS}.CallsLine", "made_words"), *values, "State", "Append", "SetItem", "Add"}
         self.shown: set[str] = set()
         # The lines of JSON that the program printed, by their texts.
         self.fields: dict[str, Fields] = {}

@@ -49,7 +49,8 @@ from trials.trial import Noted, Trial  # noqa: E402
 OPS = "Rattle.pickle_ops.specs"
 DOC = "Rattle.pickle_doc.specs"
 MACHINE = "Rattle.pickle_machine.specs"
-SHOW = "Rattle.pickle_show.specs"
+SHOWN = "Rattle.pickle_text.specs"
+OBJECTS = "Rattle.object_texts.specs"
 PAGES = ("texts.txt", "conversations.txt")
 # The definitions that are evaluated, and the files that have them.
 WORDS = (
@@ -61,13 +62,15 @@ WORDS = (
     (f"{DOC}.Fitting", ("left_behind",)),
     (f"{MACHINE}.State", ("start", "stack_size")),
     (f"{MACHINE}.Move", ("fresh", "move")),
-    (f"{SHOW}.Listing", ("note_with", "note_unless")),
-    (f"{SHOW}.Line", ("item_line", "note_text", "refused_line", "left_line", "kept_line", "protocol_line", "highest_protocol")),
-    (f"{SHOW}.ReportLine", ("refusal_text", "fault_at", "fault_line")),
-    (f"{SHOW}.Report", ("result_line", "refused_item_line")),
-    (f"{SHOW}.ObjectText", ("object_line", "kind_text")),
-    (f"{SHOW}.StackText", ("stack_text",)),
-    (f"{SHOW}.MemoText", ("memo_text",)),
+    ("Rattle.pickle_list.specs.Listing", ("note_with", "note_unless")),
+    ("Rattle.pickle_list.specs.Line", ("item_line", "note_text", "refused_line", "left_line", "protocol_line", "highest_protocol")),
+    (f"{SHOWN}.ReportLine", ("refusal_text", "fault_at", "fault_line")),
+    (f"{SHOWN}.Closing", ("kept_line", "refused_item_line")),
+    (f"{SHOWN}.Words", ("kind_text",)),
+    (f"{OBJECTS}.Report", ("result_line",)),
+    (f"{OBJECTS}.ObjectText", ("object_line",)),
+    (f"{OBJECTS}.StackText", ("stack_text",)),
+    (f"{OBJECTS}.MemoText", ("memo_text",)),
 )
 # A long number below 0, a float that is no number, each byte in quotes, and names with quotes, blanks and backslashes.
 SPECIAL = (b"\x8a\x11" + bytes(16) + b"\x80.", b"G\xff\xf8\0\0\0\0\0\1.", b"B\0\1\0\0" + bytes(range(256)) + b".", b"c' '\\\n\\' (#1) +#2\n.")
@@ -113,15 +116,15 @@ def words_of(program: antt.Program, words: Sequence[tuple[str, Sequence[str]]]) 
     return SimpleNamespace(**{name: program.value(path, name) for path, names in words for name in names})
 
 
-def kinds_of(program: antt.Program, file: str, name: str) -> list[str]:
+def kinds_of(program: antt.Program, path: str, name: str) -> list[str]:
     """The kinds of objects that a definition tells apart."""
-    clauses = program.modules[f"{SHOW}.{file}"].clauses[name]
+    clauses = program.modules[path].clauses[name]
     return [f"Kind.{clause.split('kind.')[1].split()[0].rstrip(')')}" for clause in clauses if "kind." in clause]
 
 
 def codes_in(program: antt.Program, name: str) -> list[str]:
     """The codes of the refusals, or of the faults, that a definition has words for. (Memory is refused nowhere here.)"""
-    return re.findall(r'codes "([A-Z][0-9]+) ', "".join(program.modules[f"{SHOW}.ReportLine"].clauses[name]))
+    return re.findall(r'codes "([A-Z][0-9]+) ', "".join(program.modules[f"{SHOWN}.ReportLine"].clauses[name]))
 
 
 def operation_of(front: Made) -> dict[str, Value]:
@@ -187,7 +190,7 @@ class Lines:
         program = program_of(crates)
         self.words = words_of(program, WORDS)
         self.opcodes = [text_of(self.words.name_of(opcode)) for opcode in program.value(f"{OPS}.declared.opcode.TheConstants", "ALL")]
-        self.kinds = kinds_of(program, "ObjectText", "kind_text")
+        self.kinds = kinds_of(program, f"{SHOWN}.Words", "kind_text")
         self.ends = [*codes_in(program, "refusal_words"), *codes_in(program, "tail_words")]
         self.shown: set[str] = set()
 

@@ -49,7 +49,7 @@ BOXES = [
     Box(20, 60, 210, 100, "CPython's unpicklers", ('Lib/pickle.py', 'Modules/_pickle.c'), OUTSIDE),
     Box(20, 380, 210, 100, 'What a pickle is', ('pickletools, PEP 307,', 'PEP 3154, PEP 574'), OUTSIDE),
     Box(340, 60, 250, 100, 'What unpicklers do', ('pickle_loader, pickle_lenient:', 'each opcode, each way to read'), DEFINED),
-    Box(340, 220, 250, 100, 'What is printed', ('pickle_show, pickle_further,', 'pickle_form: lines, texts, status'), DEFINED),
+    Box(340, 220, 250, 100, 'What is printed', ('pickle_list, pickle_calls,', 'pickle_further, pickle_form:', 'lines, texts, status'), DEFINED),
     Box(340, 380, 250, 100, 'What a pickle is and becomes', ('pickle_ops, pickle_doc,', 'pickle_machine, pickle_session:', 'opcodes, steps, edits'), DEFINED),
     Box(730, 220, 210, 100, 'calls, list, objects, form', ('and the same functions of', 'the library'), CODE),
     Box(730, 380, 210, 100, 'debug', ('step, back, edit, undo,', 'save'), CODE),

@@ -110,7 +110,7 @@ class Begins:
     kinds: list[Kind] = field(init=False)
 
     def __post_init__(self) -> None:
-        source = self.room.root / "crates" / "pickle_show" / "src" / "begins.rt"
+        source = self.room.root / "crates" / "pickle_calls" / "src" / "begins.rt"
         self.kinds = kinds_of(source.read_text("utf-8"))
 
     @functools.cached_property

@@ -1,6 +1,7 @@
 """The readers of closing lines and headings, on all texts of the rows and of the real pickles: each line of `list`, `objects` and `calls` is that
-of an opcode, an object or an event, or has one of the forms of the definitions (crates/pickle_show/specs: Line, Report, ReportLine, Begins,
-CallsLine; crates/pickle_further/specs: CallsText, Parts), and stands where they have it. What is read of it is what it says."""
+of an opcode, an object or an event, or has one of the forms of the definitions (crates: pickle_list/specs/Line, pickle_text/specs: Closing,
+ReportLine; pickle_calls/specs: Begins, CallsLine; pickle_further/specs: CallsText, Parts), and stands where they have it. What is read of it is
+what it says."""
 
 from __future__ import annotations
 
@@ -30,7 +31,7 @@ _READINGS = 'a loader|a loader that buffers frames|a loader that keeps its buffe
 
 # What bytes may begin like, by the program's own table: at which offset, with which bytes, and the name.
 _CONTAINERS = [(int(offset), signs.encode('ascii').decode('unicode_escape').encode('latin-1'), name) for offset, signs, name in re.findall(
-    r'^    \(([0-9]+), b"(.*)", "an? (.*)"\),$', (ROOT / 'crates/pickle_show/src/begins.rt').read_text('utf-8'), re.MULTILINE)]
+    r'^    \(([0-9]+), b"(.*)", "an? (.*)"\),$', (ROOT / 'crates/pickle_calls/src/begins.rt').read_text('utf-8'), re.MULTILINE)]
 _NAMES = '|'.join(re.escape(name) for _, _, name in _CONTAINERS)
 
 # The forms, each with a letter. Small ones are lines of opcodes, objects and events, large ones all others.

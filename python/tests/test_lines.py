@@ -1,5 +1,6 @@
 """The readers of listings and reports, on every line of the rows and of the real pickles: what was read, written again as the line's definition
-says (crates/pickle_show/specs: Line, ObjectText), is the line. So nothing of a line is lost, and nothing is taken for something else."""
+says (crates: pickle_list/specs/Line, object_texts/specs/ObjectText), is the line. So nothing of a line is lost, and nothing is taken for something
+else."""
 
 from __future__ import annotations
 

@@ -1,5 +1,5 @@
 """The reader of lines of `calls`, on every line of the rows and of the real pickles: what it read, written again as the line's definition says
-(crates/pickle_show/specs: CallsLine, Brief, Naming), is the line. So nothing of a line is lost, and nothing is taken for something else."""
+(crates/pickle_calls/specs: CallsLine, Brief, Naming), is the line. So nothing of a line is lost, and nothing is taken for something else."""
 
 from __future__ import annotations
 

@@ -2,7 +2,7 @@
 use Rattle.std.proofs.Common.{◌≡◌, ◌⊎◌, ℕ, ◌≤◌, ◌<◌, arith, Bool, true, false, List, length, length-drop, Ok, Err, inl, inr, refl, sym, ap, subst, ◌∙◌}
 use Rattle.std.specs.Prelude.{Result, Option, Some, None, if◌then◌else◌}
 use Rattle.pickle_doc.specs.Document.{AreBytes, size_limit}
-use Rattle.pickle_show.specs.Output.{Output}
+use Rattle.pickle_text.specs.Output.{Output}
 use Rattle.pickle_allow.specs.declared.list.Entry.{Entry as Allowed}
 use Rattle.pickle_allow.specs.declared.listing.Listing.{Listing}
 use Rattle.pickle_allow.specs.declared.listing.Listing.TheVariants as listing

@@ -2,7 +2,7 @@
 use Rattle.std.proofs.Common.{◌≡◌, ◌≤◌, ℕ, zero, suc, ◌+◌, ◌-◌, ◌^◌, ◌<◌, sym, ◌∙◌, List, [], ◌∷◌, length, get_or, inl, inr, Ok, Err, refl, subst, arith}
 use Rattle.std.specs.Prelude.{Option, Result, IsErrAnd}
 use Rattle.pickle_io.specs.Device.{Told, Wrote, Broke, each}
-use Rattle.pickle_show.specs.Output.{Output}
+use Rattle.pickle_text.specs.Output.{Output}
 use Rattle.zip_archive.specs.declared.reason.Refusal.{Refusal}
 use Rattle.zip_archive.specs.Entry.{Entry, data_place}
 use Rattle.zip_archive.specs.Archive.{IsZip, NoZip, ArePlaced}

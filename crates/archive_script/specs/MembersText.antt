@@ -3,8 +3,8 @@
 use Rattle.std.specs.Prelude.{◌≡◌, ◌≢◌, ◌⊎◌, ◌≤◌, ℕ, ◌+◌, ◌-◌, ◌==◌, if◌then◌else◌, List, codes, decimal, length, Option, Some, None, Result, Err, IfOk, IfErr}
 use Rattle.pickle_io.specs.Text.{◌⧺◌, quoted}
 use Rattle.pickle_io.specs.Device.{Told, each}
-use Rattle.pickle_show.specs.Column.{newline}
-use Rattle.pickle_show.specs.Output.{Output}
+use Rattle.pickle_text.specs.Column.{newline}
+use Rattle.pickle_text.specs.Output.{Output}
 use Rattle.zip_archive.specs.declared.reason.Refusal.{Refusal}
 use Rattle.zip_archive.specs.Sentence.{sentence_of}
 use Rattle.zip_archive.specs.Entry.{Entry, data_place}

@@ -4,8 +4,8 @@ use Rattle.std.specs.Prelude.{◌≡◌, ◌≢◌, ◌⊎◌, ◌≤◌, ℕ, �
 use Rattle.pickle_io.specs.Text.{◌⧺◌, quoted}
 use Rattle.pickle_io.specs.Device.{Told}
 use Rattle.pickle_doc.specs.Document.{AreBytes, size_limit}
-use Rattle.pickle_show.specs.Column.{newline}
-use Rattle.pickle_show.specs.Output.{Output}
+use Rattle.pickle_text.specs.Column.{newline}
+use Rattle.pickle_text.specs.Output.{Output}
 use Rattle.pickle_allow.specs.declared.list.Entry.{Entry as Allowed}
 use Rattle.pickle_gate.specs.declared.verdict.Verdict.{Verdict}
 use Rattle.pickle_script.specs.GateText.{verdict_text, verdict_status, IsVerdictText, WroteText, StopsGate}

@@ -17,10 +17,10 @@ use Rattle.pickle_ops.specs.Table.{code_of, name_of, form_of, opcode_named}
 use Rattle.pickle_ops.specs.Text.{form_text, is_long, long_text, arg_text}
 use Rattle.pickle_ops.specs.Argument.{payload}
 use Rattle.pickle_ops.proofs.TableLemmas.{name_found}
-use Rattle.pickle_show.specs.declared.note.Note.{Note}
-use Rattle.pickle_show.specs.Column.{blanks, left_aligned, right_aligned}
-use Rattle.pickle_show.specs.ListingColumn.{code_text}
-use Rattle.pickle_show.specs.Line.{offset_column, code_column, described, named, note_text, item_line}
+use Rattle.pickle_list.specs.declared.note.Note.{Note}
+use Rattle.pickle_text.specs.Column.{blanks, left_aligned, right_aligned}
+use Rattle.pickle_list.specs.ListingColumn.{code_text}
+use Rattle.pickle_list.specs.Line.{offset_column, code_column, described, named, note_text, item_line}
 use Rattle.opcode_assembler.specs.declared.fault.Reason.TheVariants as why
 use Rattle.opcode_assembler.specs.Words.{is_blank, is_letter, trimmed, word, after_word, behind, is_over, is_end, after_note, uncoloned, is_place, unnumbered}
 use Rattle.opcode_assembler.specs.Numbers.{hex_first}

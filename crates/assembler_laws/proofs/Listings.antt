@@ -14,12 +14,13 @@ use Rattle.pickle_machine.specs.State.{State, start, stack_size}
 use Rattle.pickle_machine.specs.Move.{fresh, refusal_at, outcome, next}
 use Rattle.pickle_machine.specs.declared.refusal.Refusal.{Refusal}
 use Rattle.pickle_machine.specs.Run.{after, run}
-use Rattle.pickle_show.specs.declared.note.Note.{Note}
-use Rattle.pickle_show.specs.Line.{item_line, left_line, kept_text, kept_line, protocol_line, highest_protocol}
-use Rattle.pickle_show.specs.Listing.{line_on, line_at, left_by, lines, end_lines, end_status, refused_lines, reached, listing_to, listing}
-use Rattle.pickle_show.proofs.Listings.{within}
-use Rattle.pickle_show.proofs.Places.{is_reached}
-use Rattle.pickle_show.proofs.Runs.{run_after}
+use Rattle.pickle_list.specs.declared.note.Note.{Note}
+use Rattle.pickle_list.specs.Line.{item_line, left_line, protocol_line, highest_protocol}
+use Rattle.pickle_text.specs.Closing.{kept_text, kept_line}
+use Rattle.pickle_list.specs.Listing.{line_on, line_at, left_by, lines, end_lines, end_status, refused_lines, listing_to, listing}
+use Rattle.pickle_text.specs.Reached.{reached}
+use Rattle.pickle_text.proofs.Places.{within, is_reached}
+use Rattle.pickle_text.proofs.Runs.{run_after}
 use Rattle.opcode_assembler.specs.declared.fault.Reason.TheVariants as why
 use Rattle.opcode_assembler.specs.Assembly.{Assembles, IsRefused}
 use Rattle.assembler_laws.specs.ReadBack.{AllCanonical, ItemLineReadBack, ListingReadBack, GapsAreRefused}

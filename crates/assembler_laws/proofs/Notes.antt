@@ -11,10 +11,10 @@ use Rattle.pickle_io.specs.Text.{◌⧺◌}
 use Rattle.pickle_ops.specs.declared.opcode.Opcode.{Opcode}
 use Rattle.pickle_ops.specs.declared.opcode.Opcode.TheVariants as op
 use Rattle.pickle_ops.specs.Table.{code_of, name_of, opcode_named}
-use Rattle.pickle_show.specs.declared.note.Note.{Note}
-use Rattle.pickle_show.specs.declared.note.Note.TheVariants as note
-use Rattle.pickle_show.specs.ListingColumn.{code_text}
-use Rattle.pickle_show.specs.Line.{mark_text, as_text, note_text}
+use Rattle.pickle_list.specs.declared.note.Note.{Note}
+use Rattle.pickle_list.specs.declared.note.Note.TheVariants as note
+use Rattle.pickle_list.specs.ListingColumn.{code_text}
+use Rattle.pickle_list.specs.Line.{mark_text, as_text, note_text}
 use Rattle.opcode_assembler.specs.Words.{is_blank, is_letter, is_close, is_end, is_over, unnoted, after_note}
 use Rattle.assembler_laws.proofs.Spans.{span, trimmed_is, all_append}
 

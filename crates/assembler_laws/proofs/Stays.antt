@@ -17,14 +17,14 @@ use Rattle.pickle_doc.specs.declared.fault.TailFault.{TailFault}
 use Rattle.pickle_doc.specs.declared.fault.TailFault.TheVariants as tail
 use Rattle.pickle_machine.specs.declared.refusal.Refusal.{Refusal}
 use Rattle.pickle_machine.specs.declared.refusal.Refusal.TheVariants as refusal
-use Rattle.pickle_show.specs.declared.note.Note.{Note}
-use Rattle.pickle_show.specs.declared.note.Note.TheVariants as note
-use Rattle.pickle_show.specs.Column.{blanks, left_aligned}
-use Rattle.pickle_show.specs.ListingColumn.{code_text}
-use Rattle.pickle_show.specs.Line.{mark_text, as_text, note_text, described, named}
-use Rattle.pickle_show.specs.ReportLine.{refusal_words, refusal_number, refusal_text, tail_words, fault_byte, fault_text, fault_at}
-use Rattle.pickle_show.proofs.LinesApart.{joined, quotes_stay}
-use Rattle.pickle_show.proofs.WithinLines.{Stays, then_stays, if_stays, decimal_stays, signed_stays, hexadecimal_stays}
+use Rattle.pickle_list.specs.declared.note.Note.{Note}
+use Rattle.pickle_list.specs.declared.note.Note.TheVariants as note
+use Rattle.pickle_text.specs.Column.{blanks, left_aligned}
+use Rattle.pickle_list.specs.ListingColumn.{code_text}
+use Rattle.pickle_list.specs.Line.{mark_text, as_text, note_text, described, named}
+use Rattle.pickle_text.specs.ReportLine.{refusal_words, refusal_number, refusal_text, tail_words, fault_byte, fault_text, fault_at}
+use Rattle.calls_laws.proofs.LinesApart.{joined, quotes_stay}
+use Rattle.calls_laws.proofs.WithinLines.{Stays, then_stays, if_stays, decimal_stays, signed_stays, hexadecimal_stays}
 use Rattle.assembler_laws.proofs.ItemLines.{body}
 
 blanks_stay : (n : ℕ) → Stays (blanks n)

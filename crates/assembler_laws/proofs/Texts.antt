@@ -7,11 +7,12 @@ use Rattle.pickle_io.specs.Text.{◌⧺◌}
 use Rattle.pickle_ops.specs.Spelling.{Operation, IsSpelled, spelling}
 use Rattle.pickle_doc.specs.declared.fault.TailFault.{TailFault}
 use Rattle.pickle_machine.specs.declared.refusal.Refusal.{Refusal}
-use Rattle.pickle_show.specs.LineLaws.{is_within_line}
-use Rattle.pickle_show.specs.Line.{refused_line, left_text, left_line, kept_words, kept_text, protocol_words, protocol_text, protocol_line}
-use Rattle.pickle_show.specs.ReportLine.{refusal_text, fault_at, fault_line}
-use Rattle.pickle_show.proofs.LinesApart.{joined}
-use Rattle.pickle_show.proofs.WithinLines.{Stays, decimal_stays}
+use Rattle.calls_laws.specs.LineLaws.{is_within_line}
+use Rattle.pickle_list.specs.Line.{refused_line, left_text, left_line, protocol_words, protocol_text, protocol_line}
+use Rattle.pickle_text.specs.Closing.{kept_words, kept_text}
+use Rattle.pickle_text.specs.ReportLine.{refusal_text, fault_at, fault_line}
+use Rattle.calls_laws.proofs.LinesApart.{joined}
+use Rattle.calls_laws.proofs.WithinLines.{Stays, decimal_stays}
 use Rattle.opcode_assembler.specs.declared.fault.Reason.{Reason}
 use Rattle.opcode_assembler.specs.declared.fault.Reason.TheVariants as why
 use Rattle.opcode_assembler.specs.Assembly.{Piece, Nothing, OneOpcode, IsGood, piece_bytes, line_says, HasBytes, HasFault, IsLine, AreLines, AreWrong, is_newline, Assembles, IsRefused}

@@ -4,10 +4,10 @@ use Rattle.std.specs.Prelude.{◌≡◌, ◌≢◌, ◌⊎◌, ◌<◌, ◌^◌,
 use Rattle.pickle_ops.specs.Spelling.{Operation, IsSpelled}
 use Rattle.pickle_doc.specs.Document.{Contents, ReadsIn, AreBytes}
 use Rattle.pickle_doc.specs.Place.{item_at}
-use Rattle.pickle_show.specs.declared.note.Note.{Note}
-use Rattle.pickle_show.specs.Column.{newline}
-use Rattle.pickle_show.specs.Line.{item_line}
-use Rattle.pickle_show.specs.Listing.{listing}
+use Rattle.pickle_list.specs.declared.note.Note.{Note}
+use Rattle.pickle_text.specs.Column.{newline}
+use Rattle.pickle_list.specs.Line.{item_line}
+use Rattle.pickle_list.specs.Listing.{listing}
 use Rattle.opcode_assembler.specs.declared.fault.Reason.TheVariants as why
 use Rattle.opcode_assembler.specs.Assembly.{OneOpcode, line_says, Assembles, IsRefused}
 use Rattle.assembler_laws.specs.Whole.{IsCanonical}

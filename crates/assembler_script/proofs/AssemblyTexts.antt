@@ -2,7 +2,7 @@
 use Rattle.std.proofs.Common.{◌≡◌, ℕ, List, inl, inr, Ok, Err, refl, subst}
 use Rattle.std.specs.Prelude.{Result, IsErrAnd}
 use Rattle.pickle_io.specs.Device.{Told, Wrote, Broke}
-use Rattle.pickle_show.specs.Output.{Output}
+use Rattle.pickle_text.specs.Output.{Output}
 use Rattle.opcode_assembler.specs.declared.fault.Reason.{Reason}
 use Rattle.opcode_assembler.specs.Assembly.{Assembles, IsRefused}
 use Rattle.assembler_script.specs.AssemblyText.{assembled_output, refused_output, IsAssemblyText, AnswersAssembly}

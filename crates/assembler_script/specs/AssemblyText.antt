@@ -3,8 +3,8 @@
 use Rattle.std.specs.Prelude.{◌≡◌, ◌≢◌, ◌⊎◌, ℕ, List, codes, decimal, Result, Err, IfOk, IfErr}
 use Rattle.pickle_io.specs.Text.{◌⧺◌}
 use Rattle.pickle_io.specs.Device.{Told}
-use Rattle.pickle_show.specs.Column.{newline}
-use Rattle.pickle_show.specs.Output.{Output}
+use Rattle.pickle_text.specs.Column.{newline}
+use Rattle.pickle_text.specs.Output.{Output}
 use Rattle.opcode_assembler.specs.declared.fault.Reason.{Reason}
 use Rattle.opcode_assembler.specs.declared.fault.Reason.TheVariants as why
 use Rattle.opcode_assembler.specs.Assembly.{Assembles, IsRefused}

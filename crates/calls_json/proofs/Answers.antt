@@ -3,9 +3,9 @@ use Rattle.std.proofs.Common.{ℕ, List, refl, sym}
 use Rattle.pickle_io.specs.Text.{◌⧺◌}
 use Rattle.pickle_io.specs.Device.{Told, Wrote, Broke}
 use Rattle.pickle_io.proofs.Devices.{Wrote-trans, Broke-after}
-use Rattle.pickle_show.specs.Manner.{Manner}
-use Rattle.pickle_show.specs.declared.stop.TextStop.{TextStop}
-use Rattle.pickle_show.specs.declared.stop.TextStop.TheVariants as stop
+use Rattle.pickle_calls.specs.Manner.{Manner}
+use Rattle.pickle_text.specs.declared.stop.TextStop.{TextStop}
+use Rattle.pickle_text.specs.declared.stop.TextStop.TheVariants as stop
 use Rattle.pickle_further.specs.declared.way.Pickles.{Pickles}
 use Rattle.mixes_text.specs.CallsWith.{CompletesCallsIn, CutsCallsIn}
 use Rattle.pickle_further.proofs.Pieces.{cut_before}

@@ -7,8 +7,8 @@ use Rattle.pickle_ops.specs.declared.kind.Kind.TheVariants as kind
 use Rattle.pickle_ops.specs.declared.kind_ref.Look.{Look}
 use Rattle.pickle_ops.specs.Object.{Object}
 use Rattle.pickle_ops.specs.KindRef.{kind_view, parts_shown, shown, look_shown}
-use Rattle.pickle_show.specs.declared.naming.Naming.{Naming}
-use Rattle.pickle_show.proofs.Looks.{there, absent}
+use Rattle.pickle_calls.specs.declared.naming.Naming.{Naming}
+use Rattle.pickle_calls.proofs.Looks.{there, absent}
 use Rattle.calls_json.specs.declared.said.Operand.{Operand}
 use Rattle.calls_json.specs.NameFields.{id_fields}
 use Rattle.calls_json.specs.ValueFields.{kind_fields, kind_json, id_json, brief_json, one_field, operand_kind, no_operand, operand_fields}

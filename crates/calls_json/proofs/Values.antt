@@ -10,7 +10,7 @@ use Rattle.json_lines.specs.Line.{begun, fields_text}
 use Rattle.json_lines.proofs.Lines.{object_is}
 use Rattle.pickle_ops.specs.declared.kind.Kind.{Kind}
 use Rattle.pickle_ops.specs.Object.{Object}
-use Rattle.pickle_show.specs.declared.naming.Naming.{Naming}
+use Rattle.pickle_calls.specs.declared.naming.Naming.{Naming}
 use Rattle.calls_json.specs.NameFields.{id_fields}
 use Rattle.calls_json.specs.ValueFields.{kind_word, kind_fields, kind_json, id_json, brief_json, briefs_json, briefs_text, next_brief}
 

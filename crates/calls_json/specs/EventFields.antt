@@ -1,5 +1,5 @@
 -- The line of an event, by the objects after its step.
--- Source: which events there are `Event` of `pickle_show` says; kinds and fields are own.
+-- Source: which events there are `Event` of `pickle_calls` says; kinds and fields are own.
 use Rattle.std.specs.Prelude.{ℕ, ℤ, List, [], drop, slice_get, codes, Option, Some, None}
 use Rattle.std.specs.Option.{option_map_or}
 use Rattle.pickle_io.specs.Text.{◌⧺◌}
@@ -10,13 +10,13 @@ use Rattle.pickle_ops.specs.declared.kind.Kind.TheVariants as kind
 use Rattle.pickle_ops.specs.declared.row.Filling.{Filling}
 use Rattle.pickle_ops.specs.declared.row.Filling.TheVariants as filling
 use Rattle.pickle_ops.specs.Object.{Object}
-use Rattle.pickle_show.specs.declared.event.Event.{Event}
-use Rattle.pickle_show.specs.declared.event.Event.TheVariants as event
+use Rattle.pickle_calls.specs.declared.event.Event.{Event}
+use Rattle.pickle_calls.specs.declared.event.Event.TheVariants as event
 use Rattle.line_buffer.specs.Line.{line_text}
-use Rattle.pickle_show.specs.CallsLine.{event_line as event_text}
-use Rattle.pickle_show.specs.Event.{part}
-use Rattle.pickle_show.specs.declared.naming.Naming.{Naming}
-use Rattle.pickle_show.specs.Naming.{global_pair, inst_pair, stack_pair}
+use Rattle.pickle_calls.specs.CallsLine.{event_line as event_text}
+use Rattle.pickle_calls.specs.Event.{part}
+use Rattle.pickle_calls.specs.declared.naming.Naming.{Naming}
+use Rattle.pickle_calls.specs.Naming.{global_pair, inst_pair, stack_pair}
 use Rattle.calls_json.specs.declared.said.Said.TheVariants as said
 use Rattle.calls_json.specs.declared.said.Operand.TheVariants as operand
 use Rattle.calls_json.specs.TextFields.{whole_fields}

@@ -10,12 +10,12 @@ use Rattle.pickle_doc.specs.declared.fault.TailFault.{TailFault}
 use Rattle.pickle_machine.specs.declared.refusal.Refusal.{Refusal}
 use Rattle.pickle_lenient.specs.declared.taken.Frames.{Frames}
 use Rattle.pickle_lenient.specs.declared.taken.Frames.TheVariants as frames
-use Rattle.pickle_show.specs.declared.report.Closing.{Closing}
-use Rattle.pickle_show.specs.declared.report.Closing.TheVariants as closing
-use Rattle.pickle_show.specs.declared.end.Ending.{Ending}
-use Rattle.pickle_show.specs.declared.end.Ending.TheVariants as ending
-use Rattle.pickle_show.specs.Begins.{begins_like, begins_line}
-use Rattle.pickle_show.specs.CallsLine.{totals_line, ending_lines}
+use Rattle.pickle_text.specs.declared.closing.Closing.{Closing}
+use Rattle.pickle_text.specs.declared.closing.Closing.TheVariants as closing
+use Rattle.pickle_calls.specs.declared.end.Ending.{Ending}
+use Rattle.pickle_calls.specs.declared.end.Ending.TheVariants as ending
+use Rattle.pickle_calls.specs.Begins.{begins_like, begins_line}
+use Rattle.pickle_calls.specs.CallsLine.{totals_line, ending_lines}
 use Rattle.pickle_further.specs.Leads.{warning_line}
 use Rattle.pickle_further.specs.Deep.{deep_line as nested_line}
 use Rattle.pickle_further.specs.Parts.{header, ends_line, loss_line as lost_line, mixed_line as mixing_line}

@@ -1,9 +1,9 @@
--- The names of what is imported or called, as fields: which of them are shown `Naming` of `pickle_show` says for the texts for people.
+-- The names of what is imported or called, as fields: which of them are shown `Naming` of `pickle_calls` says for the texts for people.
 -- Source: own.
 use Rattle.std.specs.Prelude.{ℕ, ◌&&◌, nat_le, if◌then◌else◌, Bool, List, Option, Some, None}
 use Rattle.json_lines.specs.Line.{Field, field, ◌⊕◌, whole}
-use Rattle.pickle_show.specs.declared.naming.Naming.{Naming}
-use Rattle.pickle_show.specs.Naming.{Spelled, Pair, NewPair, is_text, pair_renamed}
+use Rattle.pickle_calls.specs.declared.naming.Naming.{Naming}
+use Rattle.pickle_calls.specs.Naming.{Spelled, Pair, NewPair, is_text, pair_renamed}
 use Rattle.calls_json.specs.declared.said.Said.{Said}
 use Rattle.calls_json.specs.declared.said.Said.TheVariants as said
 use Rattle.calls_json.specs.SaidNames.{object_name}

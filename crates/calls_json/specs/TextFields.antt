@@ -1,14 +1,14 @@
 -- Texts, payloads and numbers of the lines of calls, as fields.
--- Source: how the texts for people cut them, `Brief` of `pickle_show` says; the names of fields are own.
+-- Source: how the texts for people cut them, `Brief` of `pickle_calls` says; the names of fields are own.
 use Rattle.std.specs.Prelude.{Bool, ℕ, ℤ, ◌-◌, ◌==◌, ◌&&◌, not, nat_le, nat_lt, unsigned_abs, if◌then◌else◌, List, [], length, take, codes}
 use Rattle.std.specs.List.{list_all}
 use Rattle.pickle_names.specs.declared.coding.Coding.{Coding}
 use Rattle.pickle_names.specs.declared.coding.Coding.TheVariants as coding
 use Rattle.pickle_names.specs.Value.{Decoded, decode, decode_all}
 use Rattle.pickle_ops.specs.Argument.{long_of}
-use Rattle.pickle_show.specs.declared.naming.Detail.{Detail}
-use Rattle.pickle_show.specs.declared.naming.Detail.TheVariants as detail
-use Rattle.pickle_show.specs.Brief.{most_bytes, most_characters}
+use Rattle.pickle_calls.specs.declared.naming.Detail.{Detail}
+use Rattle.pickle_calls.specs.declared.naming.Detail.TheVariants as detail
+use Rattle.pickle_calls.specs.Brief.{most_bytes, most_characters}
 use Rattle.json_lines.specs.Line.{Field, field, ◌⊕◌, whole, integer, hex, bytes_field}
 use Rattle.calls_json.specs.declared.said.Said.{Said}
 use Rattle.calls_json.specs.declared.said.Said.TheVariants as said

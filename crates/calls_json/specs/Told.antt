@@ -3,10 +3,10 @@
 use Rattle.std.specs.Prelude.{◌≡◌, refl, ℕ, List}
 use Rattle.pickle_io.specs.Device.{Told, Wrote}
 use Rattle.pickle_io.specs.Text.{◌⧺◌}
-use Rattle.pickle_show.specs.declared.stop.TextStop.{TextStop}
-use Rattle.pickle_show.specs.Manner.{Manner}
-use Rattle.pickle_show.specs.Output.{Output}
-use Rattle.pickle_show.specs.Telling.{Telling}
+use Rattle.pickle_text.specs.declared.stop.TextStop.{TextStop}
+use Rattle.pickle_calls.specs.Manner.{Manner}
+use Rattle.pickle_text.specs.Output.{Output}
+use Rattle.pickle_calls.specs.Telling.{Telling}
 use Rattle.pickle_further.specs.declared.way.Pickles.{Pickles}
 use Rattle.pickle_further.specs.Parts.{Words, Wording, wording}
 use Rattle.pickle_further.specs.CallsText.{CutsText}

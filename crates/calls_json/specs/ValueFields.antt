@@ -11,11 +11,11 @@ use Rattle.pickle_names.specs.declared.coding.Coding.TheVariants as coding
 use Rattle.pickle_ops.specs.declared.kind.Kind.{Kind}
 use Rattle.pickle_ops.specs.declared.kind.Kind.TheVariants as kind
 use Rattle.pickle_ops.specs.Object.{Object}
-use Rattle.pickle_show.specs.declared.naming.Detail.{Detail}
-use Rattle.pickle_show.specs.declared.naming.Detail.TheVariants as detail
-use Rattle.pickle_show.specs.declared.naming.Naming.{Naming}
-use Rattle.pickle_show.specs.Naming.{inner, global_pair, stack_pair}
-use Rattle.pickle_show.specs.Brief.{most_objects}
+use Rattle.pickle_calls.specs.declared.naming.Detail.{Detail}
+use Rattle.pickle_calls.specs.declared.naming.Detail.TheVariants as detail
+use Rattle.pickle_calls.specs.declared.naming.Naming.{Naming}
+use Rattle.pickle_calls.specs.Naming.{inner, global_pair, stack_pair}
+use Rattle.pickle_calls.specs.Brief.{most_objects}
 use Rattle.calls_json.specs.declared.said.Operand.{Operand}
 use Rattle.calls_json.specs.SaidNames.{operand_name, operand_more}
 use Rattle.calls_json.specs.TextFields.{text_fields, payload_value, integer_value, shown_long}

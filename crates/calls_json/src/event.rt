@@ -14,12 +14,12 @@ use crate::text::write_whole;
 use crate::value::{write_operand, write_parts};
 use json_lines::{begin_line, end_line, write_integer_field, write_number_field};
 use line_buffer::LineBuffer;
+use pickle_calls::{Event, Naming, global_pair, inst_pair, part_at, stack_pair, write_line};
 use pickle_io::{Failed, Holes, Page};
 use pickle_json::write_shown;
 use pickle_machine::Inspect;
 use pickle_names::Coding;
 use pickle_ops::{Filling, KindRef, ObjId};
-use pickle_show::{Event, Naming, global_pair, inst_pair, part_at, stack_pair, write_line};
 
 /// Writes the code of an extension.
 #[tactic(auto, unfolding(crate::specs::EventFields::extension_fields))]

@@ -8,7 +8,7 @@ ghost use Rattle.pickle_io.specs.Text.{◌⧺◌};
 ghost use Rattle.json_lines.specs.Line.{field, ◌⊕◌, whole, fields_text};
 ghost use Rattle.pickle_json.specs.EndFields.{how_fields, coded_fields, stopped_fields, refused_fields, tail_fields};
 ghost use Rattle.line_buffer.specs.Line.{line_text, held_by};
-ghost use Rattle.pickle_show.specs.Begins.{begins_line};
+ghost use Rattle.pickle_calls.specs.Begins.{begins_line};
 ghost use Rattle.pickle_further.specs.Leads.{warning_line};
 ghost use Rattle.pickle_further.specs.Deep.{deep_line as nested_line};
 ghost use Rattle.pickle_further.specs.Parts.{header, loss_line as lost_line, mixed_line as mixing_line};
@@ -23,6 +23,7 @@ use crate::shown::{
 };
 use json_lines::{begin_line, end_line, write_number_field, write_text_field};
 use line_buffer::LineBuffer;
+use pickle_calls::{Course, Ending, begins_like};
 use pickle_doc::TailFault;
 use pickle_io::{Failed, Hole, Page};
 use pickle_json::{
@@ -32,7 +33,7 @@ use pickle_json::{
 use pickle_lenient::Frames;
 use pickle_machine::Refusal;
 use pickle_ops::ObjId;
-use pickle_show::{Closing, Course, Ending, begins_like};
+use pickle_text::Closing;
 
 /// Writes what the bytes begin like.
 #[tactic(auto, using(json_lines::proofs::Lines::fields_steps))]

@@ -13,10 +13,10 @@ ghost use Rattle.calls_json.specs.MixFields.{above_line, taken_fields, taken_lin
 use json_lines::{begin_line, end_line, write_number_field, write_text_field};
 use line_buffer::LineBuffer;
 use mixes_text::MixWorder;
+use pickle_calls::ForPeople;
 use pickle_io::{Failed, Page};
 use pickle_json::write_shown;
 use pickle_ops::Op;
-use pickle_show::ForPeople;
 
 /// Writes the line above the opcodes, for people.
 fn write_above_shown<P: Page>(page: &mut P) -> Result<(), Failed>

@@ -4,18 +4,18 @@ ghost use Rattle.std.specs.Prelude.{◌≡◌, None, Some};
 ghost use Rattle.std.specs.Option.{option_map};
 ghost use Rattle.pickle_io.specs.Device.{Writes};
 ghost use Rattle.json_lines.specs.Line.{fields_text};
-ghost use Rattle.pickle_show.specs.Naming.{spelled_view, pair_view, new_view, pair_renamed, renamed_by, short_of, may_be_name};
+ghost use Rattle.pickle_calls.specs.Naming.{spelled_view, pair_view, new_view, pair_renamed, renamed_by, short_of, may_be_name};
 ghost use Rattle.calls_json.specs.NameFields.{said_fields, pair_fields, for_fields, member_fields, import_fields, import_for_fields, id_fields, said_names_fields, now_fields, known_fields, renamed_fields, names_by_fields, names_fields};
 
 use crate::said::{Said, object_name};
 use crate::text::{write_own, write_whole};
 use json_lines::write_number_field;
+use pickle_calls::{
+    Imported, NamePair, Naming, SpelledText, by_both, by_module, may_be_name, short_of,
+};
 use pickle_io::{Failed, Page};
 use pickle_names::renamed;
 use pickle_ops::ObjId;
-use pickle_show::{
-    Imported, NamePair, Naming, SpelledText, by_both, by_module, may_be_name, short_of,
-};
 
 /// Writes a name by its text, or by its object.
 #[tactic(auto, unfolding(crate::specs::NameFields::said_fields))]
@@ -216,7 +216,7 @@ fn write_names_of<P: Page>(
 }
 
 /// Writes the names of what is imported now, or was as this object, whose number comes under this name where they are not shown.
-#[tactic(auto, unfolding(crate::specs::NameFields::names_fields, pickle_show::specs::Naming::pair_renamed))]
+#[tactic(auto, unfolding(crate::specs::NameFields::names_fields, pickle_calls::specs::Naming::pair_renamed))]
 pub(crate) fn write_names<P: Page>(
     word: &str,
     naming: Naming,

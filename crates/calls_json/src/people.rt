@@ -1,20 +1,20 @@
-//! Lines for people that `pickle_show` and `pickle_further` write with others: alone. `Failed` where the sink fails; a beginning of the line
+//! Lines for people that `pickle_calls` and `pickle_further` write with others: alone. `Failed` where the sink fails; a beginning of the line
 //! was written then.
 
 ghost use Rattle.std.specs.Prelude.{◌≡◌};
 ghost use Rattle.pickle_io.specs.Device.{Writes};
 ghost use Rattle.pickle_io.specs.Text.{◌⧺◌};
-ghost use Rattle.pickle_show.specs.Begins.{begins_words, begins_line};
-ghost use Rattle.pickle_show.specs.CallsLine.{unsure_words, unsure_line, ending_lines};
-ghost use Rattle.pickle_show.specs.Line.{kept_words, kept_text, kept_line};
-ghost use Rattle.pickle_show.specs.Report.{closing_line};
+ghost use Rattle.pickle_calls.specs.Begins.{begins_words, begins_line};
+ghost use Rattle.pickle_calls.specs.CallsLine.{unsure_words, unsure_line, ending_lines};
+ghost use Rattle.pickle_text.specs.Closing.{kept_words, kept_text, kept_line, closing_line};
 ghost use Rattle.pickle_further.specs.Parts.{stop_words, stop_line, ends_line};
 
+use pickle_calls::Ending;
 use pickle_io::{Failed, Page, write_all, write_decimal};
-use pickle_show::{Closing, Ending, write_closing};
+use pickle_text::{Closing, write_closing};
 
 /// Words of a line.
-#[tactic(auto, unfolding(pickle_show::specs::Begins::begins_words))]
+#[tactic(auto, unfolding(pickle_calls::specs::Begins::begins_words))]
 fn begins_words() -> &'static str
     ensures { result.now ≡ begins_words }
 {
@@ -22,7 +22,7 @@ fn begins_words() -> &'static str
 }
 
 /// Writes what the bytes begin like.
-#[tactic(auto, using(pickle_io::proofs::Devices::text_steps), unfolding(pickle_show::specs::Begins::begins_line))]
+#[tactic(auto, using(pickle_io::proofs::Devices::text_steps), unfolding(pickle_calls::specs::Begins::begins_line))]
 pub(crate) fn write_begins_text<P: Page>(name: &str, page: &mut P) -> Result<(), Failed>
     ensures { Writes (P.told page.old) (P.told page.new) result (begins_line name.now) }
 {
@@ -33,7 +33,7 @@ pub(crate) fn write_begins_text<P: Page>(name: &str, page: &mut P) -> Result<(),
 }
 
 /// Words of a line.
-#[tactic(auto, unfolding(pickle_show::specs::Line::kept_words))]
+#[tactic(auto, unfolding(pickle_text::specs::Closing::kept_words))]
 fn kept_words() -> &'static str
     ensures { result.now ≡ kept_words }
 {
@@ -41,7 +41,7 @@ fn kept_words() -> &'static str
 }
 
 /// Writes how many bytes are behind STOP.
-#[tactic(auto, using(pickle_io::proofs::Devices::text_steps), unfolding(pickle_show::specs::Line::kept_text))]
+#[tactic(auto, using(pickle_io::proofs::Devices::text_steps), unfolding(pickle_text::specs::Closing::kept_text))]
 fn write_kept_text<P: Page>(kept: u64, page: &mut P) -> Result<(), Failed>
     ensures { Writes (P.told page.old) (P.told page.new) result (kept_text kept) }
 {
@@ -52,7 +52,7 @@ fn write_kept_text<P: Page>(kept: u64, page: &mut P) -> Result<(), Failed>
 }
 
 /// Writes it, if there are any.
-#[tactic(auto, using(pickle_io::proofs::Devices::text_steps), unfolding(pickle_show::specs::Line::kept_line))]
+#[tactic(auto, using(pickle_io::proofs::Devices::text_steps), unfolding(pickle_text::specs::Closing::kept_line))]
 fn write_kept<P: Page>(kept: u64, page: &mut P) -> Result<(), Failed>
     ensures { Writes (P.told page.old) (P.told page.new) result (kept_line kept) }
 {
@@ -73,7 +73,7 @@ fn write_closed<P: Page>(kept: u64, closing: Closing, page: &mut P) -> Result<()
 }
 
 /// Words of a line.
-#[tactic(auto, unfolding(pickle_show::specs::CallsLine::unsure_words))]
+#[tactic(auto, unfolding(pickle_calls::specs::CallsLine::unsure_words))]
 fn unsure_words() -> &'static str
     ensures { result.now ≡ unsure_words }
 {
@@ -81,7 +81,7 @@ fn unsure_words() -> &'static str
 }
 
 /// Writes that a frame goes on behind the STOP at this offset.
-#[tactic(auto, using(pickle_io::proofs::Devices::text_steps), unfolding(pickle_show::specs::CallsLine::unsure_line))]
+#[tactic(auto, using(pickle_io::proofs::Devices::text_steps), unfolding(pickle_calls::specs::CallsLine::unsure_line))]
 fn write_unsure_text<P: Page>(offset: u64, page: &mut P) -> Result<(), Failed>
     ensures { Writes (P.told page.old) (P.told page.new) result (unsure_line offset) }
 {
@@ -91,7 +91,7 @@ fn write_unsure_text<P: Page>(offset: u64, page: &mut P) -> Result<(), Failed>
 }
 
 /// Writes how the lines end.
-#[tactic(auto, unfolding(pickle_show::specs::CallsLine::ending_lines))]
+#[tactic(auto, unfolding(pickle_calls::specs::CallsLine::ending_lines))]
 pub(crate) fn write_ending_text<P: Page>(ending: Ending, page: &mut P) -> Result<(), Failed>
     ensures { Writes (P.told page.old) (P.told page.new) result (ending_lines ending) }
 {

@@ -3,8 +3,8 @@
 ghost use Rattle.pickle_io.specs.Device.{Writes};
 ghost use Rattle.json_lines.specs.Line.{fields_text};
 ghost use Rattle.line_buffer.specs.Line.{line_text};
-ghost use Rattle.pickle_show.specs.Begins.{begins_line};
-ghost use Rattle.pickle_show.specs.CallsLine.{totals_line};
+ghost use Rattle.pickle_calls.specs.Begins.{begins_line};
+ghost use Rattle.pickle_calls.specs.CallsLine.{totals_line};
 ghost use Rattle.pickle_further.specs.Leads.{warning_line};
 ghost use Rattle.pickle_further.specs.Deep.{deep_line};
 ghost use Rattle.pickle_further.specs.Parts.{header, loss_line, mixed_line};
@@ -12,12 +12,12 @@ ghost use Rattle.pickle_json.specs.ShownFields.{shown_fields};
 
 use crate::people::write_begins_text;
 use line_buffer::LineBuffer;
+use pickle_calls::{Course, ForPeople, write_totals};
 use pickle_further::Worder;
 use pickle_io::{Failed, Page};
 use pickle_json::write_shown;
 use pickle_lenient::Frames;
 use pickle_ops::ObjId;
-use pickle_show::{Course, ForPeople, write_totals};
 
 /// Writes the line of what the bytes begin like.
 pub(crate) fn write_begins_shown<P: Page>(name: &str, page: &mut P) -> Result<(), Failed>

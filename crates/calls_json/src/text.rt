@@ -12,9 +12,9 @@ ghost use Rattle.calls_json.specs.TextFields.{more_fields, own_fields, hex_field
 use crate::said::{Said, hex_name, raw_name, string_name, text_name, unicode_name};
 use byteorder::{ByteOrder, LittleEndian};
 use json_lines::{write_bytes_field, write_hex_field, write_integer_field, write_number_field};
+use pickle_calls::{Detail, front};
 use pickle_io::{Failed, Page};
 use pickle_names::{Coding, read};
-use pickle_show::{Detail, front};
 
 /// 2^53. A whole number from here on is written by its digits, since readers that take numbers as doubles would round it.
 const EXACT: u64 = 9_007_199_254_740_992;

@@ -2,7 +2,7 @@
 
 ghost use Rattle.std.specs.Prelude.{◌≤◌, length, IfOk, IfErr};
 ghost use Rattle.pickle_doc.specs.Document.{size_limit};
-ghost use Rattle.pickle_show.specs.Manner.{manner};
+ghost use Rattle.pickle_calls.specs.Manner.{manner};
 ghost use Rattle.calls_json.specs.Told.{for_programs, words_for_programs, CompletesLines, CutsLines};
 ghost use Rattle.calls_json.specs.MixFields.{mixes_for_programs};
 
@@ -13,12 +13,13 @@ use crate::last::{
 };
 use crate::mixes::{write_above, write_below, write_taken, write_too_many};
 use mixes_text::MixWorder;
+use pickle_calls::{Course, Detail, Ending, Event, Naming, Teller};
 use pickle_further::{Pickles, Worder};
 use pickle_io::{Failed, Holes, Page};
 use pickle_lenient::Frames;
 use pickle_machine::Inspect;
 use pickle_ops::{ObjId, Op};
-use pickle_show::{Closing, Course, Detail, Ending, Event, Naming, Teller, TextStop};
+use pickle_text::{Closing, TextStop};
 use std::alloc::Global;
 
 /// Lines of JSON for programs.

@@ -14,11 +14,11 @@ use crate::text::{write_integer, write_long, write_payload, write_text};
 use json_lines::{
     begin_line, write_hex_field, write_integer_field, write_number_field, write_string,
 };
+use pickle_calls::{Detail, Naming, front, global_pair, inner, stack_pair};
 use pickle_io::{Failed, Page, write_all};
 use pickle_machine::Inspect;
 use pickle_names::Coding;
 use pickle_ops::{KindRef, ObjId};
-use pickle_show::{Detail, Naming, front, global_pair, inner, stack_pair};
 
 /// At how many objects an operand is cut, as in the texts for people.
 const MOST_OBJECTS: usize = 16;

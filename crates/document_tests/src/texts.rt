@@ -1,10 +1,11 @@
 //! Texts of machines where requests for memory are refused, and large texts. What the others are is judged from
 //! outside, by the rows of equipment/conversations.txt.
 
+use object_texts::write_show;
 use pickle_doc::{DocFault, Document};
 use pickle_machine::Machine;
 use pickle_ops::Op;
-use pickle_show::{TextStop, write_show};
+use pickle_text::TextStop;
 use std::alloc::Global;
 use std::test::Fail;
 use test_equipment::{insist_on_paper, paper, taken, written_out};

@@ -1,7 +1,7 @@
 -- Lines by the texts for people: where the status of a line is 0.
 use Rattle.std.proofs.Common.{◌≡◌, ◌≤◌, ℕ, List, length, refl, sym, ap, ◌∙◌}
 use Rattle.pickle_doc.specs.Document.{AreBytes, size_limit}
-use Rattle.pickle_show.specs.Output.{Output}
+use Rattle.pickle_text.specs.Output.{Output}
 use Rattle.pickle_allow.specs.declared.list.Entry.{Entry as Allowed}
 use Rattle.pickle_allow.specs.declared.listing.Listing.{Listing}
 use Rattle.pickle_allow.specs.declared.listing.Listing.TheVariants as listing

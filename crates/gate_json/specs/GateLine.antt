@@ -2,7 +2,7 @@
 -- Source: own.
 use Rattle.std.specs.Prelude.{◌≡◌, ℕ, List, codes}
 use Rattle.json_lines.specs.Line.{line}
-use Rattle.pickle_show.specs.Output.{Output}
+use Rattle.pickle_text.specs.Output.{Output}
 use Rattle.pickle_allow.specs.declared.list.Entry.{Entry as Allowed}
 use Rattle.pickle_allow.specs.declared.listing.Listing.{Listing}
 use Rattle.pickle_allow.specs.declared.listing.Listing.TheVariants as listing

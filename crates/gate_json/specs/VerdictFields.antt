@@ -6,10 +6,10 @@ use Rattle.inflate.specs.declared.refusal.Refusal.{Refusal as StreamRefusal}
 use Rattle.json_lines.specs.Line.{Field, field, ◌⊕◌, whole, bytes_field}
 use Rattle.line_buffer.specs.Line.{line_text}
 use Rattle.pickle_machine.specs.declared.refusal.Refusal.{Refusal}
-use Rattle.pickle_show.specs.declared.report.Closing.{Closing}
-use Rattle.pickle_show.specs.declared.report.Closing.TheVariants as closing
-use Rattle.pickle_show.specs.declared.end.Ending.{Ending}
-use Rattle.pickle_show.specs.declared.end.Ending.TheVariants as ending
+use Rattle.pickle_text.specs.declared.closing.Closing.{Closing}
+use Rattle.pickle_text.specs.declared.closing.Closing.TheVariants as closing
+use Rattle.pickle_calls.specs.declared.end.Ending.{Ending}
+use Rattle.pickle_calls.specs.declared.end.Ending.TheVariants as ending
 use Rattle.pickle_json.specs.EndFields.{how_fields, stopped_fields, refused_fields, tail_fields}
 use Rattle.pickle_json.specs.FormFields.{other_fields}
 use Rattle.pickle_json.specs.ShownFields.{shown_fields}

@@ -8,6 +8,7 @@ ghost use Rattle.gate_json.specs.VerdictFields.{item_fields, said_words, not_all
 
 use crate::fields::{write_behind, write_offset};
 use json_lines::{write_bytes_field, write_number_field};
+use pickle_calls::Ending;
 use pickle_gate::Verdict;
 use pickle_io::{Failed, Page};
 use pickle_json::{
@@ -15,7 +16,7 @@ use pickle_json::{
 };
 use pickle_machine::Refusal;
 use pickle_script::words_of;
-use pickle_show::{Closing, Ending};
+use pickle_text::Closing;
 
 /// A line without its newline.
 fn before_newline(line: &[u8]) -> &[u8]

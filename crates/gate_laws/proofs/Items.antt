@@ -21,13 +21,13 @@ use Rattle.pickle_machine.specs.State.{State, start}
 use Rattle.pickle_machine.specs.Move.{deep, last_of, without, cut, push, changes_of, object_meets, fresh, next, next_of}
 use Rattle.pickle_machine.specs.Run.{run}
 use Rattle.pickle_machine.proofs.HeapGrowth.{fresh_heap}
-use Rattle.pickle_show.specs.declared.event.Event.{Event}
-use Rattle.pickle_show.specs.declared.event.Event.TheVariants as event
-use Rattle.pickle_show.specs.declared.event.Before.{Before}
-use Rattle.pickle_show.specs.Event.{before_of, event_of, made_event, made_as, is_shown, top_of, taken_count, filled_count, touches, filled_event}
-use Rattle.pickle_show.specs.Calls.{or_here}
-use Rattle.pickle_show.proofs.Steps.{some_same, get_pushed, Same, Grown, after_changes}
-use Rattle.pickle_show.proofs.Exact.{HeapOf, Stays, Pushes, Alters}
+use Rattle.pickle_calls.specs.declared.event.Event.{Event}
+use Rattle.pickle_calls.specs.declared.event.Event.TheVariants as event
+use Rattle.pickle_calls.specs.declared.event.Before.{Before}
+use Rattle.pickle_calls.specs.Event.{before_of, event_of, made_event, made_as, is_shown, top_of, taken_count, filled_count, touches, filled_event}
+use Rattle.pickle_calls.specs.Calls.{or_here}
+use Rattle.pickle_calls.proofs.Steps.{some_same, get_pushed, Same, Grown, after_changes}
+use Rattle.calls_laws.proofs.Exact.{HeapOf, Stays, Pushes, Alters}
 use Rattle.pickle_form.specs.Run.{is_proto}
 use Rattle.pickle_loader.specs.Environment.{Value, is_elsewhere, Name, Line, Given, Act, Find, Extension, Call, New, NewEx, Instance, SetState, Fill, Persist, NextBuffer}
 use Rattle.pickle_loader.specs.Unpickler.{item}

@@ -15,14 +15,14 @@ use Rattle.pickle_machine.specs.State.{State, start}
 use Rattle.pickle_machine.specs.Move.{fresh}
 use Rattle.pickle_machine.specs.Run.{run}
 use Rattle.pickle_ops.specs.Row.{row_of}
-use Rattle.pickle_show.specs.Event.{before_of, event_of}
-use Rattle.pickle_show.specs.declared.event.Event.{Event}
-use Rattle.pickle_show.specs.declared.event.Event.TheVariants as event
-use Rattle.pickle_show.specs.declared.naming.Detail.TheVariants as detail
-use Rattle.pickle_show.specs.Manner.{Manner}
-use Rattle.pickle_show.specs.Calls.{first_inside, end_to, end_from, calls_end, calls, calls_in}
-use Rattle.pickle_show.specs.CallsLine.{ending_status}
-use Rattle.pickle_show.proofs.Places.{reached_here}
+use Rattle.pickle_calls.specs.Event.{before_of, event_of}
+use Rattle.pickle_calls.specs.declared.event.Event.{Event}
+use Rattle.pickle_calls.specs.declared.event.Event.TheVariants as event
+use Rattle.pickle_calls.specs.declared.naming.Detail.TheVariants as detail
+use Rattle.pickle_calls.specs.Manner.{Manner}
+use Rattle.pickle_calls.specs.Calls.{first_inside, end_to, end_from, calls_end, calls, calls_in}
+use Rattle.pickle_calls.specs.CallsLine.{ending_status}
+use Rattle.pickle_text.proofs.Places.{reached_here}
 use Rattle.pickle_loader.specs.Environment.{Value, Act, Fill, World}
 use Rattle.pickle_loader.specs.Dispatch.{Loaded, Going, Ended, Failed, acts_of}
 use Rattle.pickle_loader.specs.Reader.{Fetched, Fetch, NoFetch, fetch}

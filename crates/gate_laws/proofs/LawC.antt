@@ -43,7 +43,7 @@ use Rattle.pickle_doc.specs.Document.{Contents, IsFormed, document_bytes}
 use Rattle.pickle_doc.specs.Place.{ops_of}
 use Rattle.pickle_machine.specs.State.{start}
 use Rattle.pickle_machine.specs.Run.{run}
-use Rattle.pickle_show.specs.declared.naming.Detail.TheVariants as detail
+use Rattle.pickle_calls.specs.declared.naming.Detail.TheVariants as detail
 use Rattle.pickle_loader.specs.Listed.{listed}
 use Rattle.pickle_loader.proofs.Still.{move_to}
 

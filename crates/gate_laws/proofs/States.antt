@@ -16,9 +16,9 @@ use Rattle.pickle_doc.specs.Place.{ops_of, item_at}
 use Rattle.pickle_machine.specs.State.{State, start}
 use Rattle.pickle_machine.specs.Move.{fresh}
 use Rattle.pickle_machine.specs.Run.{run}
-use Rattle.pickle_show.specs.declared.event.Event.{Event}
-use Rattle.pickle_show.specs.declared.event.Event.TheVariants as event
-use Rattle.pickle_show.specs.Event.{before_of, event_of}
+use Rattle.pickle_calls.specs.declared.event.Event.{Event}
+use Rattle.pickle_calls.specs.declared.event.Event.TheVariants as event
+use Rattle.pickle_calls.specs.Event.{before_of, event_of}
 use Rattle.pickle_loader.proofs.Still.{move_to}
 use Rattle.pickle_allow.specs.declared.list.Use.TheVariants as use_of
 use Rattle.pickle_allow.specs.declared.list.Entry.{Entry}

@@ -5,8 +5,8 @@ use Rattle.pickle_io.specs.Device.{Told}
 use Rattle.pickle_io.proofs.Devices.{WroteAllBut-none}
 use Rattle.pickle_doc.specs.Document.{AreBytes, size_limit}
 use Rattle.pickle_doc.proofs.Existence.{some_document}
-use Rattle.pickle_show.specs.Output.{Output}
-use Rattle.pickle_show.specs.declared.stop.TextStop.{TextStop}
+use Rattle.pickle_text.specs.Output.{Output}
+use Rattle.pickle_text.specs.declared.stop.TextStop.{TextStop}
 use Rattle.pickle_json.specs.Listing.{listing}
 use Rattle.pickle_script.specs.declared.stop.Stop.TheVariants as stop
 use Rattle.json_script.specs.Once.{CutsOnce}

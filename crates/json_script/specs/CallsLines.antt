@@ -6,10 +6,10 @@ use Rattle.pickle_io.specs.Device.{Told, Wrote}
 use Rattle.pickle_io.specs.declared.hole.Hole.{Hole}
 use Rattle.pickle_io.specs.Holes.{first_outside, without}
 use Rattle.pickle_doc.specs.Document.{size_limit}
-use Rattle.pickle_show.specs.Output.{Output}
-use Rattle.pickle_show.specs.Manner.{Manner}
-use Rattle.pickle_show.specs.declared.stop.TextStop.{TextStop}
-use Rattle.pickle_show.specs.declared.stop.TextStop.TheVariants as cut
+use Rattle.pickle_text.specs.Output.{Output}
+use Rattle.pickle_calls.specs.Manner.{Manner}
+use Rattle.pickle_text.specs.declared.stop.TextStop.{TextStop}
+use Rattle.pickle_text.specs.declared.stop.TextStop.TheVariants as cut
 use Rattle.pickle_further.specs.declared.way.Pickles.{Pickles}
 use Rattle.pickle_further.specs.CallsText.{CutsText}
 use Rattle.calls_json.specs.LastFields.{hole_line, status_line}

@@ -1,7 +1,7 @@
 -- Whether a pickle is in the form that picklers write, as a line of JSON.
 -- Source: own.
 use Rattle.std.specs.Prelude.{◌≡◌, ℕ, List, Option, Some, None}
-use Rattle.pickle_show.specs.Output.{Output}
+use Rattle.pickle_text.specs.Output.{Output}
 use Rattle.pickle_form.specs.declared.reason.Other.{Other}
 use Rattle.pickle_form.specs.Form.{IsFirstOther}
 use Rattle.pickle_json.specs.FormFields.{other_line, in_form_line}

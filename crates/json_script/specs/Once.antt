@@ -2,9 +2,9 @@
 -- Source: own.
 use Rattle.std.specs.Prelude.{◌≡◌}
 use Rattle.pickle_io.specs.Device.{Told}
-use Rattle.pickle_show.specs.Output.{Output}
-use Rattle.pickle_show.specs.declared.stop.TextStop.{TextStop}
-use Rattle.pickle_show.specs.declared.stop.TextStop.TheVariants as cut
+use Rattle.pickle_text.specs.Output.{Output}
+use Rattle.pickle_text.specs.declared.stop.TextStop.{TextStop}
+use Rattle.pickle_text.specs.declared.stop.TextStop.TheVariants as cut
 use Rattle.pickle_script.specs.GateText.{BrokeText}
 use Rattle.pickle_script.specs.declared.stop.Stop.{Stop}
 use Rattle.pickle_script.specs.declared.stop.Stop.TheVariants as stop

@@ -3,7 +3,7 @@
 use Rattle.std.specs.Prelude.{◌≡◌, ℕ, Bool, List}
 use Rattle.pickle_ops.specs.Spelling.{Operation}
 use Rattle.pickle_lenient.specs.declared.taken.Frames.{Frames}
-use Rattle.pickle_show.specs.Output.{Output}
+use Rattle.pickle_text.specs.Output.{Output}
 use Rattle.pickle_reach.specs.declared.granted.Granted.{Granted}
 use Rattle.pickle_reach.specs.declared.spot.Spot.{Spot}
 use Rattle.pickle_reach.specs.declared.answer.Reach.{Reach}

@@ -5,16 +5,16 @@ ghost use Rattle.pickle_doc.specs.Document.{size_limit};
 ghost use Rattle.pickle_io.specs.Device.{Writes};
 ghost use Rattle.pickle_io.specs.Holes.{first_outside};
 ghost use Rattle.pickle_io.specs.Text.{◌⧺◌};
-ghost use Rattle.pickle_show.specs.Manner.{manner};
+ghost use Rattle.pickle_calls.specs.Manner.{manner};
 ghost use Rattle.calls_json.specs.LastFields.{hole_line, status_line};
 ghost use Rattle.json_script.specs.CallsLines.{CompletesFile, StopsFile, AnswersCallsLines};
 
 use calls_json::{calls_lines, write_hole, write_status};
+use pickle_calls::Detail;
 use pickle_doc::LIMIT;
 use pickle_further::Pickles;
 use pickle_io::{Failed, Hole, Holes, Page};
 use pickle_script::Stop;
-use pickle_show::Detail;
 use std::alloc::Global;
 
 /// Writes the lines where a hole does not lie within so many bytes.

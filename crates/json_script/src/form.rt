@@ -9,7 +9,7 @@ ghost use Rattle.json_script.specs.FormLine.{IsFormLine};
 use pickle_form::first_other;
 use pickle_io::Page;
 use pickle_json::{write_in_form, write_other_form};
-use pickle_show::TextStop;
+use pickle_text::TextStop;
 use std::alloc::Global;
 
 /// Writes whether the pickle that the bytes are is in the form that picklers write, else the first place at which it is not, and why.

@@ -10,7 +10,7 @@ ghost use Rattle.json_script.specs.ReachLine.{IsReachLine};
 use pickle_io::Page;
 use pickle_json::{write_nothing_reached, write_reached, write_too_many_ways};
 use pickle_reach::{Granted, Reach, first_reach, op_reached};
-use pickle_show::TextStop;
+use pickle_text::TextStop;
 use std::alloc::Global;
 
 /// Writes what is answered, and answers the status.

@@ -4,8 +4,8 @@ use Rattle.std.specs.Prelude.{IfOk, OnOk}
 use Rattle.pickle_io.specs.Device.{Told}
 use Rattle.pickle_io.specs.declared.hole.Hole.{Hole}
 use Rattle.pickle_io.specs.Holes.{end_of, without_from}
-use Rattle.pickle_show.specs.declared.naming.Detail.{Detail}
-use Rattle.pickle_show.specs.Manner.{manner, whole}
+use Rattle.pickle_calls.specs.declared.naming.Detail.{Detail}
+use Rattle.pickle_calls.specs.Manner.{manner, whole}
 use Rattle.pickle_further.specs.declared.way.Pickles.{Pickles}
 use Rattle.mixes_text.specs.CallsWith.{CompletesCalls}
 use Rattle.pickle_script.specs.Output.{CompletesFile}

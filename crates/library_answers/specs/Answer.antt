@@ -6,8 +6,8 @@ use Rattle.pickle_doc.specs.Document.{size_limit}
 use Rattle.pickle_io.specs.declared.hole.Hole.{Hole}
 use Rattle.pickle_session.specs.Opening.{IsOpenedIn}
 use Rattle.pickle_session.specs.Allowed.{SessionState}
-use Rattle.pickle_show.specs.declared.naming.Detail.{Detail}
-use Rattle.pickle_show.specs.Manner.{manner}
+use Rattle.pickle_calls.specs.declared.naming.Detail.{Detail}
+use Rattle.pickle_calls.specs.Manner.{manner}
 use Rattle.pickle_further.specs.declared.way.Pickles.{Pickles}
 use Rattle.pickle_script.specs.Output.{CompletesText, CompletesFile}
 use Rattle.json_script.specs.Answer.{CompletesLines}

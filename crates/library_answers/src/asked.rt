@@ -5,10 +5,10 @@ ghost use Rattle.pickle_io.specs.Holes.{end_of};
 ghost use Rattle.pickle_io.specs.Holes.{may_follow};
 ghost use Rattle.library_answers.specs.Asked.{is_given, is_many, is_loose, are_modes, pickles_by, pickles_of, pickles_of_input, pickles_left, detail_of, granted_of, hole_of, stand_from, holes_of};
 
+use pickle_calls::Detail;
 use pickle_further::Pickles;
 use pickle_io::{Hole, Holes};
 use pickle_reach::Granted;
-use pickle_show::Detail;
 use std::alloc::{AllocError, Global};
 
 /// Several pickles that follow one another.

@@ -2,7 +2,7 @@
 
 ghost use Rattle.std.specs.Prelude.{◌≡◌, ◌≤◌, [], true, length, IfOk};
 ghost use Rattle.pickle_doc.specs.Document.{size_limit};
-ghost use Rattle.pickle_show.specs.Manner.{manner};
+ghost use Rattle.pickle_calls.specs.Manner.{manner};
 ghost use Rattle.json_script.specs.CallsLines.{CompletesFile};
 ghost use Rattle.library_answers.specs.Asked.{detail_of, stand_from, holes_of, pickles_left};
 ghost use Rattle.library_answers.specs.Answer.{IsCallsLinesOf, Fills, FillsOf};
@@ -11,11 +11,11 @@ use crate::asked::{self, GivenHole};
 use crate::fill::{NO_TASK, ROOM, Written, number_of, put};
 use calls_json::calls_lines;
 use json_script::write_calls_lines;
+use pickle_calls::Detail;
 use pickle_doc::LIMIT;
 use pickle_further::Pickles;
 use pickle_io::{Buffered, Holes, Page, Sink, ToWrite};
 use pickle_script::Stop;
-use pickle_show::Detail;
 use std::alloc::Global;
 
 /// Writes the lines of an input without holes.

@@ -2,7 +2,7 @@
 
 ghost use Rattle.std.specs.Prelude.{◌≡◌, ◌<◌, ◌↔◌, [], true, false, length, IfOk, Err};
 ghost use Rattle.pickle_doc.specs.Document.{size_limit};
-ghost use Rattle.pickle_show.specs.Manner.{manner};
+ghost use Rattle.pickle_calls.specs.Manner.{manner};
 ghost use Rattle.pickle_script.specs.Output.{CompletesFile};
 ghost use Rattle.pickle_script.specs.declared.stop.Stop.TheVariants as stops;
 ghost use Rattle.pickle_script.specs.declared.texts.written.Text.TheVariants as asked_text;
@@ -11,11 +11,11 @@ ghost use Rattle.library_answers.specs.Answer.{IsTextOf, IsCallsOf, Fills, Fills
 
 use crate::asked::{self, GivenHole};
 use crate::fill::{NO_TASK, ROOM, Written, number_of, put};
+use pickle_calls::Detail;
 use pickle_doc::LIMIT;
 use pickle_further::Pickles;
 use pickle_io::{Buffered, Holes, Page, Sink, ToWrite};
 use pickle_script::{Stop, Text, calls_of_file, write_text};
-use pickle_show::Detail;
 use std::alloc::Global;
 
 /// The text of an input, and its status.

@@ -5,8 +5,8 @@ use Rattle.std.proofs.lemmas.List.{take-append-drop, take_more, take_all}
 use Rattle.pickle_io.specs.Text.{◌⧺◌}
 use Rattle.pickle_io.specs.Device.{Told, Wrote, Broke, each}
 use Rattle.pickle_io.proofs.Devices.{Wrote-none, each-append, each-cons, each-nil}
-use Rattle.pickle_show.specs.declared.stop.TextStop.{TextStop}
-use Rattle.pickle_show.specs.declared.stop.TextStop.TheVariants as stop
+use Rattle.pickle_text.specs.declared.stop.TextStop.{TextStop}
+use Rattle.pickle_text.specs.declared.stop.TextStop.TheVariants as stop
 use Rattle.pickle_further.specs.CallsText.{CutsText, PutsText}
 use Rattle.pickle_further.proofs.Pieces.{cut_after, cut_before, pieces}
 use Rattle.pickle_ops.specs.declared.fault.FrontFault.{FrontFault}

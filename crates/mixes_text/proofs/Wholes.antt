@@ -3,8 +3,8 @@ use Rattle.std.proofs.Common.{◌≡◌, ℕ, List, refl, sym, subst}
 use Rattle.pickle_io.specs.Text.{◌⧺◌}
 use Rattle.pickle_io.specs.Device.{Told, Wrote}
 use Rattle.pickle_io.proofs.Devices.{Wrote-trans}
-use Rattle.pickle_show.specs.Manner.{Manner}
-use Rattle.pickle_show.specs.declared.stop.TextStop.{TextStop}
+use Rattle.pickle_calls.specs.Manner.{Manner}
+use Rattle.pickle_text.specs.declared.stop.TextStop.{TextStop}
 use Rattle.pickle_further.specs.declared.way.Pickles.{Pickles}
 use Rattle.pickle_further.specs.Parts.{Wording}
 use Rattle.pickle_further.specs.CallsText.{CutsText, CompletesTextIn, CutsCallsTextIn}

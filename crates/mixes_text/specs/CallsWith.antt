@@ -2,9 +2,9 @@
 -- Source: own.
 use Rattle.std.specs.Prelude.{◌≡◌, ℕ, List}
 use Rattle.pickle_io.specs.Device.{Told, Wrote}
-use Rattle.pickle_show.specs.declared.stop.TextStop.{TextStop}
-use Rattle.pickle_show.specs.Manner.{Manner}
-use Rattle.pickle_show.specs.Output.{Output}
+use Rattle.pickle_text.specs.declared.stop.TextStop.{TextStop}
+use Rattle.pickle_calls.specs.Manner.{Manner}
+use Rattle.pickle_text.specs.Output.{Output}
 use Rattle.pickle_further.specs.declared.way.Pickles.{Pickles}
 use Rattle.pickle_further.specs.Parts.{Wording, people}
 use Rattle.pickle_further.specs.CallsText.{IsCallsTextIn, CutsText}

@@ -11,9 +11,9 @@ use Rattle.pickle_ops.specs.Table.{name_of}
 use Rattle.pickle_ops.specs.Text.{arg_text}
 use Rattle.pickle_lenient.specs.declared.taken.Frames.TheVariants as frames
 use Rattle.pickle_lenient.specs.declared.taken.Taken.{Taken}
-use Rattle.pickle_show.specs.Column.{right_aligned, newline}
-use Rattle.pickle_show.specs.Manner.{Manner}
-use Rattle.pickle_show.specs.Output.{Output}
+use Rattle.pickle_text.specs.Column.{right_aligned, newline}
+use Rattle.pickle_calls.specs.Manner.{Manner}
+use Rattle.pickle_text.specs.Output.{Output}
 use Rattle.pickle_further.specs.declared.way.Pickles.{Pickles}
 use Rattle.pickle_further.specs.declared.way.Pickles.TheVariants as pickles
 use Rattle.pickle_further.specs.Parts.{first_mixed}

@@ -5,9 +5,10 @@ ghost use Rattle.pickle_io.specs.Device.{Writes};
 ghost use Rattle.mixes_text.specs.MixText.{above_words, above_line, op_text, taken_line, below_line, many_words, many_line, mixes_for_people};
 
 use crate::words::MixWorder;
+use pickle_calls::ForPeople;
 use pickle_io::{Failed, Page, write_all, write_decimal};
 use pickle_ops::{Op, write_arg_text};
-use pickle_show::{ForPeople, write_right};
+use pickle_text::write_right;
 
 /// Words of a line.
 #[tactic(auto, unfolding(crate::specs::MixText::above_words))]

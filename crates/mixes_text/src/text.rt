@@ -3,7 +3,7 @@
 ghost use Rattle.std.specs.Prelude.{◌≡◌, ◌<◌, ◌≤◌, ◌^◌, length, drop, None, Some, MatchOption};
 ghost use Rattle.pickle_io.specs.Device.{each};
 ghost use Rattle.pickle_doc.specs.Document.{size_limit};
-ghost use Rattle.pickle_show.specs.Manner.{manner};
+ghost use Rattle.pickle_calls.specs.Manner.{manner};
 ghost use Rattle.pickle_further.specs.CallsText.{PutsText};
 ghost use Rattle.pickle_further.specs.Parts.{first_mixed};
 ghost use Rattle.pickle_mixes.specs.Acting.{acting_places};
@@ -11,11 +11,12 @@ ghost use Rattle.pickle_io.specs.Text.{◌⧺◌};
 ghost use Rattle.mixes_text.specs.MixText.{place_text, found_text, goes_on, all_text, mixed_text, mixes_behind};
 
 use crate::words::MixWorder;
+use pickle_calls::Detail;
 use pickle_further::{Pickles, first_mixed};
 use pickle_io::{Holes, Page};
 use pickle_lenient::{Frames, NotTaken, take_op};
 use pickle_mixes::{Place, acting_places};
-use pickle_show::{Detail, TextStop};
+use pickle_text::TextStop;
 use std::alloc::Global;
 
 /// The bytes from an offset on.

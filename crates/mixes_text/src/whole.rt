@@ -2,15 +2,16 @@
 
 ghost use Rattle.std.specs.Prelude.{◌≤◌, length, IfOk, IfErr};
 ghost use Rattle.pickle_doc.specs.Document.{size_limit};
-ghost use Rattle.pickle_show.specs.Manner.{manner};
+ghost use Rattle.pickle_calls.specs.Manner.{manner};
 ghost use Rattle.pickle_further.specs.Parts.{wording};
 ghost use Rattle.mixes_text.specs.CallsWith.{CompletesCallsIn, CutsCallsIn};
 
 use crate::text::write_mixes;
 use crate::words::MixWorder;
+use pickle_calls::Detail;
 use pickle_further::{Pickles, Worder};
 use pickle_io::{Holes, Page};
-use pickle_show::{Detail, TextStop};
+use pickle_text::TextStop;
 use std::alloc::Global;
 
 /// Writes what the pickles of the bytes would import and call, as `pickle_further::calls` does, and behind it, where frames may be mixed,

@@ -2,7 +2,7 @@
 use Rattle.std.proofs.Common.{refl, inl, inr}
 use Rattle.pickle_io.specs.Text.{◌⧺◌}
 use Rattle.pickle_ops.specs.declared.kind.Kind.TheVariants as kind
-use Rattle.pickle_show.specs.ObjectText.{kind_text}
+use Rattle.pickle_text.specs.Words.{kind_text}
 use Rattle.objects_json.specs.ObjectFields.{kind_word}
 use Rattle.objects_json.specs.Agreeing.{WordsAgree}
 

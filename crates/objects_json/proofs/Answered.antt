@@ -2,9 +2,9 @@
 use Rattle.std.proofs.Common.{◌≡◌, ℕ, Bool, List, refl}
 use Rattle.pickle_io.specs.Device.{Told, Wrote, Broke}
 use Rattle.pickle_machine.specs.State.{State}
-use Rattle.pickle_show.specs.declared.report.Closing.{Closing}
-use Rattle.pickle_show.specs.Inside.Ending.{EndsIn}
-use Rattle.pickle_show.specs.Report.{closing_status}
+use Rattle.pickle_text.specs.declared.closing.Closing.{Closing}
+use Rattle.object_texts.specs.Inside.Ending.{EndsIn}
+use Rattle.pickle_text.specs.Closing.{closing_status}
 use Rattle.objects_json.specs.Objects.{objects_text, objects_output, WroteObjects, BrokeObjects}
 
 pub wrote_objects : (many loose : Bool) (bytes : List ℕ) (s : State) (c : Closing) (a b : Told) (status : ℕ) → EndsIn many loose bytes s c → status ≡ closing_status c

@@ -3,7 +3,7 @@
 use Rattle.std.specs.Prelude.{◌≡◌, ◌⊎◌, ℕ, List, codes}
 use Rattle.pickle_io.specs.Text.{◌⧺◌}
 use Rattle.pickle_ops.specs.declared.kind.Kind.{Kind}
-use Rattle.pickle_show.specs.ObjectText.{kind_text}
+use Rattle.pickle_text.specs.Words.{kind_text}
 use Rattle.objects_json.specs.ObjectFields.{kind_word}
 
 abbrev pub WordsAgree : Type 0

@@ -9,11 +9,11 @@ use Rattle.pickle_doc.specs.declared.fault.TailFault.{TailFault}
 use Rattle.pickle_ops.specs.Object.{Object}
 use Rattle.pickle_machine.specs.declared.refusal.Refusal.{Refusal}
 use Rattle.pickle_machine.specs.State.{State}
-use Rattle.pickle_show.specs.declared.report.Closing.{Closing}
-use Rattle.pickle_show.specs.declared.report.Closing.TheVariants as closing
-use Rattle.pickle_show.specs.Inside.Ending.{EndsIn}
-use Rattle.pickle_show.specs.Output.{Output}
-use Rattle.pickle_show.specs.Report.{closing_status}
+use Rattle.pickle_text.specs.declared.closing.Closing.{Closing}
+use Rattle.pickle_text.specs.declared.closing.Closing.TheVariants as closing
+use Rattle.object_texts.specs.Inside.Ending.{EndsIn}
+use Rattle.pickle_text.specs.Output.{Output}
+use Rattle.pickle_text.specs.Closing.{closing_status}
 use Rattle.pickle_json.specs.EndFields.{how_fields, refused_fields, tail_fields}
 use Rattle.objects_json.specs.ObjectFields.{object_line}
 

@@ -4,18 +4,19 @@ ghost use Rattle.std.specs.Prelude.{◌≡◌, ◌≤◌, length, Err, IfOk};
 ghost use Rattle.json_lines.specs.Line.{fields_text};
 ghost use Rattle.pickle_io.specs.Device.{Writes, each};
 ghost use Rattle.pickle_doc.specs.Document.{size_limit};
-ghost use Rattle.pickle_show.specs.Report.{closing_status};
-ghost use Rattle.pickle_show.specs.Source.{GivesDocument};
+ghost use Rattle.pickle_text.specs.Closing.{closing_status};
+ghost use Rattle.pickle_text.specs.Source.{GivesDocument};
 ghost use Rattle.objects_json.specs.Objects.{result_line, stopped_line, item_refused_fields, refused_line, fault_line, closing_line, heap_lines, objects_text, WroteObjects, BrokeObjects};
 
 use crate::object::write_object;
 use json_lines::{begin_line, end_line, write_number_field};
+use object_texts::walk_items;
 use pickle_doc::{ItemSource, Items, TailFault};
 use pickle_io::{Failed, Page};
 use pickle_json::{write_how, write_refused_fields, write_tail_fields};
 use pickle_machine::{Machine, Refusal};
 use pickle_ops::ObjId;
-use pickle_show::{Closing, TextStop, status_of, walk_items};
+use pickle_text::{Closing, TextStop, status_of};
 use std::alloc::Global;
 
 /// Writes the lines of all objects of a machine, by rising number.

@@ -16,18 +16,18 @@ use Rattle.pickle_machine.specs.State.{State}
 use Rattle.pickle_machine.specs.Move.{refusal_of, next_of, outcome, fresh}
 use Rattle.pickle_machine.specs.Loader.{loader_move, fill_move, fill_of, import_move, move_as, is_inst, cleared}
 use Rattle.pickle_machine.proofs.HeapGrowth.{fresh_heap}
-use Rattle.pickle_show.specs.Event.{before_of, event_of}
+use Rattle.pickle_calls.specs.Event.{before_of, event_of}
 use Rattle.pickle_lenient.specs.declared.taken.Taken.{Taken}
 use Rattle.pickle_lenient.specs.Stream.{taken}
 use Rattle.pickle_further.specs.declared.way.Way.{Way}
 use Rattle.pickle_further.specs.Going.{Standing, going, gone_by, gone_to, moved_so, then_as, used_op, event_by, keeps}
 use Rattle.pickle_further.specs.Parts.{parts}
-use Rattle.pickle_show.specs.Calls.{calls}
+use Rattle.pickle_calls.specs.Calls.{calls}
 use Rattle.pickle_further.specs.Leads.{or_first, warned_status}
 use Rattle.pickle_further.specs.CallsText.{document_leads, document_deep, document_warnings}
 use Rattle.pickle_further.specs.Laws.{LinesComeFirst, NoLineNoReachBehind}
-use Rattle.pickle_show.proofs.Walking.{event_by as event_fresh}
-use Rattle.pickle_show.proofs.Reaches.{row_unseen}
+use Rattle.pickle_calls.proofs.Walking.{event_by as event_fresh}
+use Rattle.pickle_calls.proofs.Unseen.{row_unseen}
 
 status_first : (leads : Option ℕ) (status : ℕ) → warned_status leads status ≡ 0 → status ≡ 0
 status_first None status e = e

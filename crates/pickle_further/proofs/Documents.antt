@@ -8,16 +8,16 @@ use Rattle.pickle_doc.specs.Document.{Contents}
 use Rattle.pickle_doc.specs.Place.{ops_of}
 use Rattle.pickle_machine.specs.State.{State, start}
 use Rattle.pickle_machine.specs.Run.{run}
-use Rattle.pickle_show.specs.declared.stop.TextStop.{TextStop}
-use Rattle.pickle_show.specs.declared.stop.TextStop.TheVariants as stop
-use Rattle.pickle_show.specs.declared.calls.Ran.{Ran}
-use Rattle.pickle_show.specs.Manner.{Manner, ending_in}
-use Rattle.pickle_show.specs.CallsLine.{ending_status}
-use Rattle.pickle_show.specs.CallsWritten.{CutsCalls}
-use Rattle.pickle_show.specs.Telling.{Telling}
-use Rattle.pickle_show.specs.Calls.{CallsEnd, calls_in, entries_in}
-use Rattle.pickle_show.specs.Ran.{IsRun}
-use Rattle.pickle_show.proofs.Walking.{run_whole, run_answers}
+use Rattle.pickle_text.specs.declared.stop.TextStop.{TextStop}
+use Rattle.pickle_text.specs.declared.stop.TextStop.TheVariants as stop
+use Rattle.pickle_calls.specs.declared.calls.Ran.{Ran}
+use Rattle.pickle_calls.specs.Manner.{Manner, ending_in}
+use Rattle.pickle_calls.specs.CallsLine.{ending_status}
+use Rattle.pickle_calls.specs.CallsWritten.{CutsCalls}
+use Rattle.pickle_calls.specs.Telling.{Telling}
+use Rattle.pickle_calls.specs.Calls.{CallsEnd, calls_in, entries_in}
+use Rattle.pickle_calls.specs.Ran.{IsRun}
+use Rattle.pickle_calls.proofs.Walking.{run_whole, run_answers}
 use Rattle.pickle_further.specs.declared.way.Pickles.{Pickles}
 use Rattle.pickle_further.specs.declared.way.Pickles.TheVariants as pickles
 use Rattle.pickle_further.specs.Leads.{first_leading, or_first, warned_status}

@@ -13,15 +13,15 @@ use Rattle.pickle_lenient.specs.declared.taken.Taken.{Taken}
 use Rattle.pickle_lenient.specs.declared.fault.NotTaken.{NotTaken}
 use Rattle.pickle_lenient.specs.declared.fault.NotTaken.TheVariants as stop
 use Rattle.pickle_lenient.specs.Stream.{taken, IsTaken, IsNotTaken}
-use Rattle.pickle_show.specs.declared.report.Closing.{Closing}
-use Rattle.pickle_show.specs.declared.report.Closing.TheVariants as closing
-use Rattle.pickle_show.specs.declared.naming.Detail.TheVariants as detail
-use Rattle.pickle_show.specs.declared.naming.Naming.{Naming}
-use Rattle.pickle_show.specs.declared.stop.TextStop.{TextStop}
+use Rattle.pickle_text.specs.declared.closing.Closing.{Closing}
+use Rattle.pickle_text.specs.declared.closing.Closing.TheVariants as closing
+use Rattle.pickle_calls.specs.declared.naming.Detail.TheVariants as detail
+use Rattle.pickle_calls.specs.declared.naming.Naming.{Naming}
+use Rattle.pickle_text.specs.declared.stop.TextStop.{TextStop}
 use Rattle.pickle_further.specs.declared.way.Way.{Way}
 use Rattle.pickle_further.specs.declared.way.Spot.{Spot}
 use Rattle.pickle_further.specs.declared.going.Gone.{Gone}
-use Rattle.pickle_show.specs.Naming.{begin}
+use Rattle.pickle_calls.specs.Naming.{begin}
 use Rattle.pickle_further.specs.Going.{Standing, moved_so, used_op, gone_to, gone_as, going, nothing}
 use Rattle.pickle_further.specs.Inside.{standing, Goes, EndsAtFault}
 

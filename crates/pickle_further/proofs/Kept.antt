@@ -5,14 +5,14 @@ use Rattle.pickle_io.specs.Text.{◌⧺◌}
 use Rattle.pickle_io.specs.Device.{Told, Wrote, Broke}
 use Rattle.pickle_io.proofs.Devices.{Wrote-trans, Broke-after, Broke-more}
 use Rattle.pickle_machine.specs.State.{State}
-use Rattle.pickle_show.specs.declared.report.Closing.{Closing}
-use Rattle.pickle_show.specs.Output.{Output}
-use Rattle.pickle_show.specs.declared.end.Ending.TheVariants as ending
-use Rattle.pickle_show.specs.declared.stop.TextStop.{TextStop}
-use Rattle.pickle_show.specs.declared.stop.TextStop.TheVariants as stop
+use Rattle.pickle_text.specs.declared.closing.Closing.{Closing}
+use Rattle.pickle_text.specs.Output.{Output}
+use Rattle.pickle_calls.specs.declared.end.Ending.TheVariants as ending
+use Rattle.pickle_text.specs.declared.stop.TextStop.{TextStop}
+use Rattle.pickle_text.specs.declared.stop.TextStop.TheVariants as stop
 use Rattle.pickle_io.specs.Holes.{in_file}
-use Rattle.pickle_show.specs.Manner.{Manner, ending_in}
-use Rattle.pickle_show.specs.CallsLine.{ending_status}
+use Rattle.pickle_calls.specs.Manner.{Manner, ending_in}
+use Rattle.pickle_calls.specs.CallsLine.{ending_status}
 use Rattle.pickle_further.specs.declared.way.Pickles.TheVariants as pickles
 use Rattle.pickle_further.specs.declared.way.Way.{Way}
 use Rattle.pickle_further.specs.declared.going.Gone.{Gone}

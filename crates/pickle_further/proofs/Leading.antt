@@ -11,7 +11,7 @@ use Rattle.pickle_ops.specs.Class.{is_any}
 use Rattle.pickle_ops.specs.Kind.{class_of}
 use Rattle.pickle_machine.specs.Seen.{class_at}
 use Rattle.pickle_ops.specs.KindRef.{kind_view, parts_shown, shown, look_shown}
-use Rattle.pickle_show.proofs.Looks.{there, absent}
+use Rattle.pickle_calls.proofs.Looks.{there, absent}
 use Rattle.pickle_further.specs.Leads.{name_of, name_at, kind_leads, leads_at, or_first, if_leads, first_of}
 
 -- ---- what a look says

@@ -11,7 +11,7 @@ use Rattle.pickle_ops.specs.Object.{Object}
 use Rattle.pickle_ops.specs.Kind.{class_of}
 use Rattle.pickle_ops.specs.KindRef.{kind_view, parts_shown, shown, look_shown}
 use Rattle.pickle_machine.specs.Seen.{class_at}
-use Rattle.pickle_show.proofs.Looks.{there, absent}
+use Rattle.pickle_calls.proofs.Looks.{there, absent}
 use Rattle.pickle_further.specs.Deep.{is_tuple, are_tuples, deepest, depth_by, depth_at, depths, is_deep}
 
 -- ---- what a look says

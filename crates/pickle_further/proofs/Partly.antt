@@ -7,8 +7,8 @@ use Rattle.pickle_io.specs.Device.{Told, Wrote, Broke}
 use Rattle.pickle_io.proofs.Devices.{Wrote-none, Wrote-trans, Broke-after, Broke-more}
 use Rattle.pickle_machine.specs.State.{State}
 use Rattle.pickle_io.specs.declared.hole.Hole.{Hole}
-use Rattle.pickle_show.specs.Manner.{closing_in}
-use Rattle.pickle_show.specs.declared.stop.TextStop.{TextStop}
+use Rattle.pickle_calls.specs.Manner.{closing_in}
+use Rattle.pickle_text.specs.declared.stop.TextStop.{TextStop}
 use Rattle.pickle_further.specs.declared.way.Way.{Way}
 use Rattle.pickle_further.specs.declared.way.Spot.{Spot}
 use Rattle.pickle_further.specs.declared.seek.Sought.TheVariants as sought

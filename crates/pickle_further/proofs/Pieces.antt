@@ -5,10 +5,10 @@ use Rattle.pickle_io.specs.Device.{Told, Wrote}
 use Rattle.pickle_io.proofs.Devices.{Wrote-trans, Broke-after, Broke-more, WroteAllBut-none}
 use Rattle.pickle_doc.specs.Document.{AreBytes}
 use Rattle.pickle_doc.proofs.Existence.{some_document}
-use Rattle.pickle_show.specs.Manner.{Manner}
-use Rattle.pickle_show.specs.Output.{Output}
-use Rattle.pickle_show.specs.declared.stop.TextStop.{TextStop}
-use Rattle.pickle_show.specs.declared.stop.TextStop.TheVariants as stop
+use Rattle.pickle_calls.specs.Manner.{Manner}
+use Rattle.pickle_text.specs.Output.{Output}
+use Rattle.pickle_text.specs.declared.stop.TextStop.{TextStop}
+use Rattle.pickle_text.specs.declared.stop.TextStop.TheVariants as stop
 use Rattle.pickle_further.specs.declared.way.Pickles.{Pickles}
 use Rattle.pickle_further.specs.declared.way.Pickles.TheVariants as pickles
 use Rattle.pickle_further.specs.Parts.{Wording}

@@ -3,7 +3,7 @@ use Rattle.std.proofs.Common.{◌≡◌, ℕ, suc, ◌+◌, ◌-◌, ◌≤◌, 
 use Rattle.std.specs.Prelude.{drop, is_some}
 use Rattle.std.proofs.lemmas.List.{length-drop}
 use Rattle.pickle_machine.specs.State.{State}
-use Rattle.pickle_show.specs.declared.report.Closing.{Closing}
+use Rattle.pickle_text.specs.declared.closing.Closing.{Closing}
 use Rattle.pickle_further.specs.declared.way.Way.{Way}
 use Rattle.pickle_further.specs.declared.going.Gone.{Gone}
 use Rattle.pickle_further.specs.declared.seek.Sought.{Sought}

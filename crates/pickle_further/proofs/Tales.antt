@@ -11,17 +11,17 @@ use Rattle.pickle_doc.specs.declared.fault.TailFault.TheVariants as tail
 use Rattle.pickle_machine.specs.State.{State}
 use Rattle.pickle_io.specs.declared.hole.Hole.{Hole}
 use Rattle.pickle_io.specs.Holes.{in_file}
-use Rattle.pickle_show.specs.declared.report.Closing.{Closing}
-use Rattle.pickle_show.specs.declared.report.Closing.TheVariants as closing
-use Rattle.pickle_show.specs.declared.course.Course.{Course}
-use Rattle.pickle_show.specs.declared.naming.Naming.{Naming}
-use Rattle.pickle_show.specs.declared.stop.TextStop.{TextStop}
-use Rattle.pickle_show.specs.declared.stop.TextStop.TheVariants as stop
-use Rattle.pickle_show.specs.Naming.{naming_after}
-use Rattle.pickle_show.specs.CallsLine.{imports_of, calls_of}
-use Rattle.pickle_show.specs.Telling.{Telling}
-use Rattle.pickle_show.specs.Calls.{CountedText, counted_in}
-use Rattle.pickle_show.proofs.Walking.{few_imports, few_calls}
+use Rattle.pickle_text.specs.declared.closing.Closing.{Closing}
+use Rattle.pickle_text.specs.declared.closing.Closing.TheVariants as closing
+use Rattle.pickle_calls.specs.declared.course.Course.{Course}
+use Rattle.pickle_calls.specs.declared.naming.Naming.{Naming}
+use Rattle.pickle_text.specs.declared.stop.TextStop.{TextStop}
+use Rattle.pickle_text.specs.declared.stop.TextStop.TheVariants as stop
+use Rattle.pickle_calls.specs.Naming.{naming_after}
+use Rattle.pickle_calls.specs.CallsLine.{imports_of, calls_of}
+use Rattle.pickle_calls.specs.Telling.{Telling}
+use Rattle.pickle_calls.specs.Calls.{CountedText, counted_in}
+use Rattle.pickle_calls.proofs.Walking.{few_imports, few_calls}
 use Rattle.pickle_further.specs.declared.way.Way.{Way}
 use Rattle.pickle_further.specs.declared.way.Spot.{Spot}
 use Rattle.pickle_further.specs.declared.going.Gone.{Gone}

@@ -8,16 +8,16 @@ use Rattle.pickle_doc.specs.Document.{Contents, ReadsAs}
 use Rattle.pickle_doc.specs.Place.{ops_of}
 use Rattle.pickle_machine.specs.State.{State, start}
 use Rattle.pickle_machine.specs.Run.{run}
-use Rattle.pickle_show.specs.declared.end.Ending.TheVariants as ending
-use Rattle.pickle_show.specs.declared.stop.TextStop.{TextStop}
-use Rattle.pickle_show.specs.declared.stop.TextStop.TheVariants as stop
-use Rattle.pickle_show.specs.Manner.{Manner, ending_in}
-use Rattle.pickle_show.specs.Output.{Output}
-use Rattle.pickle_show.specs.CallsLine.{ending_status}
-use Rattle.pickle_show.specs.Calls.{calls_in, calls_end}
+use Rattle.pickle_calls.specs.declared.end.Ending.TheVariants as ending
+use Rattle.pickle_text.specs.declared.stop.TextStop.{TextStop}
+use Rattle.pickle_text.specs.declared.stop.TextStop.TheVariants as stop
+use Rattle.pickle_calls.specs.Manner.{Manner, ending_in}
+use Rattle.pickle_text.specs.Output.{Output}
+use Rattle.pickle_calls.specs.CallsLine.{ending_status}
+use Rattle.pickle_calls.specs.Calls.{calls_in, calls_end}
 use Rattle.pickle_further.specs.declared.way.Pickles.{Pickles}
 use Rattle.pickle_further.specs.declared.way.Pickles.TheVariants as pickles
-use Rattle.pickle_show.specs.declared.naming.Detail.{Detail}
+use Rattle.pickle_calls.specs.declared.naming.Detail.{Detail}
 use Rattle.pickle_io.specs.Holes.{in_file}
 use Rattle.pickle_further.specs.Leads.{first_leading, or_first, warned_status}
 use Rattle.pickle_further.specs.Deep.{first_deep}

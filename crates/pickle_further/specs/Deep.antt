@@ -9,8 +9,8 @@ use Rattle.pickle_ops.specs.declared.kind.Kind.TheVariants as kind
 use Rattle.pickle_ops.specs.declared.class.Class.{Class}
 use Rattle.pickle_ops.specs.declared.class.Class.TheVariants as class
 use Rattle.pickle_ops.specs.Object.{Object}
-use Rattle.pickle_show.specs.ObjectText.{id_text}
-use Rattle.pickle_show.specs.Column.{newline}
+use Rattle.pickle_text.specs.Words.{id_text}
+use Rattle.pickle_text.specs.Column.{newline}
 use Rattle.pickle_further.specs.Leads.{first_of, warning_words, warning_line}
 
 abbrev pub is_tuple : Kind → Bool

@@ -15,7 +15,7 @@ use Rattle.pickle_machine.specs.Kept.{AreBelow}
 use Rattle.pickle_machine.specs.Inside.Slots.{IsAbove}
 use Rattle.pickle_machine.specs.Loader.{move_as}
 use Rattle.pickle_lenient.specs.declared.taken.Taken.{Taken}
-use Rattle.pickle_show.specs.declared.report.Closing.TheVariants as closing
+use Rattle.pickle_text.specs.declared.closing.Closing.TheVariants as closing
 use Rattle.pickle_further.specs.declared.going.Gone.{Gone}
 use Rattle.pickle_further.specs.declared.going.NearItem.{NearItem}
 use Rattle.pickle_further.specs.Going.{nothing}

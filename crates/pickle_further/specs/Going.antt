@@ -26,15 +26,15 @@ use Rattle.pickle_further.specs.Splits.{splits}
 use Rattle.pickle_further.specs.Leads.{or_first, event_leads}
 use Rattle.pickle_io.specs.declared.hole.Hole.{Hole}
 use Rattle.pickle_io.specs.Holes.{in_file}
-use Rattle.pickle_show.specs.declared.report.Closing.{Closing}
-use Rattle.pickle_show.specs.declared.report.Closing.TheVariants as closing
-use Rattle.pickle_show.specs.declared.event.Event.{Event}
-use Rattle.pickle_show.specs.declared.event.Event.TheVariants as event
-use Rattle.pickle_show.specs.declared.naming.Naming.{Naming}
-use Rattle.pickle_show.specs.Naming.{naming_after}
-use Rattle.pickle_show.specs.Event.{before_of, event_of}
-use Rattle.pickle_show.specs.Telling.{Telling, for_people}
-use Rattle.pickle_show.specs.Calls.{CountedText, counted_in}
+use Rattle.pickle_text.specs.declared.closing.Closing.{Closing}
+use Rattle.pickle_text.specs.declared.closing.Closing.TheVariants as closing
+use Rattle.pickle_calls.specs.declared.event.Event.{Event}
+use Rattle.pickle_calls.specs.declared.event.Event.TheVariants as event
+use Rattle.pickle_calls.specs.declared.naming.Naming.{Naming}
+use Rattle.pickle_calls.specs.Naming.{naming_after}
+use Rattle.pickle_calls.specs.Event.{before_of, event_of}
+use Rattle.pickle_calls.specs.Telling.{Telling, for_people}
+use Rattle.pickle_calls.specs.Calls.{CountedText, counted_in}
 use Rattle.pickle_further.specs.declared.way.Pickles.{Pickles}
 use Rattle.pickle_further.specs.declared.way.Pickles.TheVariants as pickles
 use Rattle.pickle_further.specs.declared.way.Way.{Way}

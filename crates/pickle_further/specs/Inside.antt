@@ -8,14 +8,14 @@ use Rattle.pickle_machine.specs.State.{State}
 use Rattle.pickle_lenient.specs.declared.fault.NotTaken.{NotTaken}
 use Rattle.pickle_lenient.specs.declared.fault.NotTaken.TheVariants as stop
 use Rattle.pickle_io.specs.declared.hole.Hole.{Hole}
-use Rattle.pickle_show.specs.declared.course.Course.{Course}
-use Rattle.pickle_show.specs.declared.calls.Ran.{Ran}
-use Rattle.pickle_show.specs.declared.naming.Naming.{Naming}
-use Rattle.pickle_show.specs.declared.naming.Detail.{Detail}
-use Rattle.pickle_show.specs.Telling.{Telling}
-use Rattle.pickle_show.specs.Naming.{begin}
-use Rattle.pickle_show.specs.declared.report.Closing.{Closing}
-use Rattle.pickle_show.specs.declared.report.Closing.TheVariants as closing
+use Rattle.pickle_calls.specs.declared.course.Course.{Course}
+use Rattle.pickle_calls.specs.declared.calls.Ran.{Ran}
+use Rattle.pickle_calls.specs.declared.naming.Naming.{Naming}
+use Rattle.pickle_calls.specs.declared.naming.Detail.{Detail}
+use Rattle.pickle_calls.specs.Telling.{Telling}
+use Rattle.pickle_calls.specs.Naming.{begin}
+use Rattle.pickle_text.specs.declared.closing.Closing.{Closing}
+use Rattle.pickle_text.specs.declared.closing.Closing.TheVariants as closing
 use Rattle.pickle_further.specs.declared.way.Way.{Way}
 use Rattle.pickle_further.specs.declared.way.Spot.{Spot}
 use Rattle.pickle_further.specs.declared.engine.TaleEnd.{TaleEnd}

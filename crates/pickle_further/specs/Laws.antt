@@ -5,8 +5,8 @@ use Rattle.pickle_ops.specs.Kind.{is_opaque}
 use Rattle.pickle_ops.specs.Object.{Object}
 use Rattle.pickle_doc.specs.Document.{Contents}
 use Rattle.pickle_io.specs.declared.hole.Hole.{Hole}
-use Rattle.pickle_show.specs.Manner.{Manner}
-use Rattle.pickle_show.specs.Calls.{calls}
+use Rattle.pickle_calls.specs.Manner.{Manner}
+use Rattle.pickle_calls.specs.Calls.{calls}
 use Rattle.pickle_further.specs.declared.way.Pickles.{Pickles}
 use Rattle.pickle_further.specs.declared.way.Way.{Way}
 use Rattle.pickle_further.specs.declared.seek.Sought.TheVariants as sought

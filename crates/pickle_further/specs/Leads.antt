@@ -14,11 +14,11 @@ use Rattle.pickle_names.specs.Value.{decode_all}
 use Rattle.pickle_ops.specs.declared.kind.Kind.{Kind}
 use Rattle.pickle_ops.specs.declared.kind.Kind.TheVariants as kind
 use Rattle.pickle_ops.specs.Object.{Object}
-use Rattle.pickle_show.specs.Column.{newline}
-use Rattle.pickle_show.specs.ObjectText.{id_text}
-use Rattle.pickle_show.specs.Naming.{inner}
-use Rattle.pickle_show.specs.declared.event.Event.{Event}
-use Rattle.pickle_show.specs.declared.event.Event.TheVariants as event
+use Rattle.pickle_text.specs.Column.{newline}
+use Rattle.pickle_text.specs.Words.{id_text}
+use Rattle.pickle_calls.specs.Naming.{inner}
+use Rattle.pickle_calls.specs.declared.event.Event.{Event}
+use Rattle.pickle_calls.specs.declared.event.Event.TheVariants as event
 use Rattle.pickle_further.specs.declared.leads.TheConstants.{LEADING}
 
 -- ---- names

@@ -8,21 +8,21 @@ use Rattle.pickle_machine.specs.State.{State, start}
 use Rattle.pickle_machine.specs.Run.{run}
 use Rattle.pickle_lenient.specs.declared.taken.Frames.{Frames}
 use Rattle.pickle_lenient.specs.declared.taken.Frames.TheVariants as frames
-use Rattle.pickle_show.specs.declared.report.Closing.{Closing}
-use Rattle.pickle_show.specs.declared.report.Closing.TheVariants as closing
-use Rattle.pickle_show.specs.declared.end.Ending.{Ending}
-use Rattle.pickle_show.specs.declared.end.Ending.TheVariants as ending
-use Rattle.pickle_show.specs.Column.{newline}
-use Rattle.pickle_show.specs.Report.{closing_line}
-use Rattle.pickle_show.specs.CallsLine.{totals_line}
+use Rattle.pickle_text.specs.declared.closing.Closing.{Closing}
+use Rattle.pickle_text.specs.declared.closing.Closing.TheVariants as closing
+use Rattle.pickle_calls.specs.declared.end.Ending.{Ending}
+use Rattle.pickle_calls.specs.declared.end.Ending.TheVariants as ending
+use Rattle.pickle_text.specs.Column.{newline}
+use Rattle.pickle_text.specs.Closing.{closing_line}
+use Rattle.pickle_calls.specs.CallsLine.{totals_line}
 use Rattle.std.specs.List.{list_any}
 use Rattle.pickle_io.specs.declared.hole.Hole.{Hole}
 use Rattle.pickle_io.specs.Holes.{in_file}
-use Rattle.pickle_show.specs.declared.naming.Detail.{Detail}
-use Rattle.pickle_show.specs.Manner.{Manner, closing_in}
-use Rattle.pickle_show.specs.Naming.{begin}
-use Rattle.pickle_show.specs.Telling.{Telling, for_people}
-use Rattle.pickle_show.specs.Calls.{CallsEnd, calls_end, naming_at}
+use Rattle.pickle_calls.specs.declared.naming.Detail.{Detail}
+use Rattle.pickle_calls.specs.Manner.{Manner, closing_in}
+use Rattle.pickle_calls.specs.Naming.{begin}
+use Rattle.pickle_calls.specs.Telling.{Telling, for_people}
+use Rattle.pickle_calls.specs.Calls.{CallsEnd, calls_end, naming_at}
 use Rattle.pickle_further.specs.declared.way.Pickles.{Pickles}
 use Rattle.pickle_further.specs.declared.way.Pickles.TheVariants as pickles
 use Rattle.pickle_further.specs.declared.way.Way.{Way}

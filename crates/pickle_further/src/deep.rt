@@ -9,7 +9,7 @@ use crate::leads::{warning_words, write_warning_line};
 use pickle_io::{Failed, Page, write_all};
 use pickle_machine::Inspect;
 use pickle_ops::{Class, KindRef, ObjId};
-use pickle_show::write_id;
+use pickle_text::write_id;
 use std::alloc::{AllocError, Global};
 
 /// Tuples may be nested so deep.

@@ -8,10 +8,11 @@ use crate::going::{Gone, go};
 use crate::leads::{event_leads, or_first};
 use crate::machine::LoaderMachine;
 use crate::way::{Spot, Way};
+use pickle_calls::{Course, Naming, Teller};
 use pickle_doc::TailFault;
 use pickle_io::{Holes, Page};
 use pickle_ops::{FrontFault, ObjId};
-use pickle_show::{Closing, Course, Naming, Teller, TextStop};
+use pickle_text::{Closing, TextStop};
 use std::alloc::Global;
 
 /// How the lines of what loaders do end.

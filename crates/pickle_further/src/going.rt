@@ -4,21 +4,22 @@ ghost use Rattle.std.specs.Prelude.{◌≡◌, ℕ, drop, true, false, ◌≢◌
 ghost use Rattle.pickle_machine.specs.State.{State};
 ghost use Rattle.pickle_machine.specs.Move.{fresh};
 ghost use Rattle.pickle_machine.specs.Loader.{loader_move, cleared};
-ghost use Rattle.pickle_show.specs.Event.{before_of};
+ghost use Rattle.pickle_calls.specs.Event.{before_of};
 ghost use Rattle.pickle_doc.specs.DocUnit.{frame_op};
 ghost use Rattle.pickle_lenient.specs.Row.{is_far};
 ghost use Rattle.pickle_further.specs.Far.{near_item, far_gone};
 ghost use Rattle.pickle_further.specs.Going.{Standing, moved_so, used_op, event_by, stops, stopped_after, closing_after, keeps, nothing, gone_as, going};
-ghost use Rattle.pickle_show.specs.declared.naming.Naming.{Naming};
+ghost use Rattle.pickle_calls.specs.declared.naming.Naming.{Naming};
 ghost use Rattle.pickle_further.specs.Inside.{standing, Goes, EndsAtFault};
 
 use crate::machine::LoaderMachine;
 use crate::way::{Pickles, Spot, Way};
+use pickle_calls::{Before, Event, event_of};
 use pickle_doc::{TailFault, is_stop};
 use pickle_lenient::{NotTaken, RowKind, Taken, take_op};
 use pickle_machine::{LoaderMove, Refusal};
 use pickle_ops::{FrontFault, Op, Opcode, Row, op_of};
-use pickle_show::{Before, Closing, Event, TextStop, event_of};
+use pickle_text::{Closing, TextStop};
 use std::alloc::Global;
 
 /// What an item comes to.

@@ -5,14 +5,15 @@ ghost use Rattle.std.specs.List.{list_all, list_any};
 ghost use Rattle.std.specs.Option.{option_map};
 ghost use Rattle.pickle_io.specs.Device.{Writes};
 ghost use Rattle.pickle_ops.specs.KindRef.{kind_view};
-ghost use Rattle.pickle_show.specs.Naming.{inner};
+ghost use Rattle.pickle_calls.specs.Naming.{inner};
 ghost use Rattle.pickle_further.specs.Leads.{is_point, ends_part, begins, begins_behind, has_parts, rest_begins, begins_over, row_leads, names_lead, is_no_backslash, if_plain, if_read, and_read, name_of, name_at, pair_leads, coded_lead, lines_lead, is_by_parts, parts_lead, kind_leads, leads_at, or_first, if_leads, first_leading, event_leads, warning_words, leads_words, warning_line, warning_text, warned_status};
 
+use pickle_calls::Event;
 use pickle_io::{Failed, Page, write_all};
 use pickle_machine::Inspect;
 use pickle_names::{Coding, read};
 use pickle_ops::{KindRef, ObjId};
-use pickle_show::{Event, write_id};
+use pickle_text::write_id;
 
 /// What leads to the unpickler: parts that stand side by side in the dotted name of a module or of its member, or with which both names together begin.
 /// The names are those that a pickle says, which Python 3 may take for those of Python 2. Modules have other names in modules that import them.

@@ -7,7 +7,7 @@ ghost use Rattle.pickle_further.specs.CallsText.{PutsText};
 ghost use Rattle.pickle_further.specs.Going.{search_from};
 ghost use Rattle.pickle_further.specs.Parts.{wording, tale_text_in, part_text_in, text_from_in, found_text_in, is_frame_code, mixed_there, mixed_from};
 ghost use Rattle.pickle_machine.specs.State.{State};
-ghost use Rattle.pickle_show.specs.Naming.{begin};
+ghost use Rattle.pickle_calls.specs.Naming.{begin};
 ghost use Rattle.pickle_further.specs.Inside.{standing, standing_begun, standing_of, loss_from, tale_at, IsGoneOver, HasRoom, Finds, FindsRoom};
 
 use crate::engine::write_items;
@@ -16,8 +16,9 @@ use crate::machine::LoaderMachine;
 use crate::seek::{Sought, Visited, seek};
 use crate::way::{Spot, Way};
 use crate::worder::Worder;
+use pickle_calls::{Detail, Naming, closing_in};
 use pickle_io::{Holes, Page};
-use pickle_show::{Detail, Naming, TextStop, closing_in};
+use pickle_text::TextStop;
 use std::alloc::Global;
 
 /// Writes what comes to this, and the last lines.

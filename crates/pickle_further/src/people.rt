@@ -10,10 +10,11 @@ ghost use Rattle.pickle_further.specs.Parts.{stop_words, stop_line, ends_line, p
 use crate::deep::write_warnings;
 use crate::leads::write_warning;
 use crate::worder::Worder;
+use pickle_calls::{Course, ForPeople, write_totals};
 use pickle_io::{Failed, Page, write_all, write_decimal};
 use pickle_lenient::Frames;
 use pickle_ops::ObjId;
-use pickle_show::{Closing, Course, ForPeople, write_closing, write_totals};
+use pickle_text::{Closing, write_closing};
 
 /// The words of the line above what loaders may do that ignore frames.
 #[tactic(auto, unfolding(crate::specs::Parts::ignored_words))]

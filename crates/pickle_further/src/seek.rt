@@ -10,8 +10,9 @@ use crate::going::{Gone, go};
 use crate::machine::LoaderMachine;
 use crate::splits::splits;
 use crate::way::{Spot, Way};
+use pickle_calls::Naming;
 use pickle_machine::Inspect;
-use pickle_show::{Naming, TextStop};
+use pickle_text::TextStop;
 use std::alloc::Global;
 
 /// What is looked for.

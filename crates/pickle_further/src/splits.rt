@@ -4,7 +4,7 @@ ghost use Rattle.std.specs.Prelude.{◌≡◌, ◌<◌, ◌^◌, length, IfOk, I
 ghost use Rattle.pickle_further.specs.Splits.{leaves, are_apart, splits};
 
 use pickle_lenient::{Frames, NotTaken, take_op};
-use pickle_show::TextStop;
+use pickle_text::TextStop;
 use std::alloc::Global;
 
 /// What an item leaves.

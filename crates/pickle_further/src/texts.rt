@@ -3,8 +3,8 @@
 ghost use Rattle.std.specs.Prelude.{◌≡◌, ◌≤◌, ◌+◌, ◌*◌, ◌-◌, ◌^◌, length, drop, IfOk, IfErr};
 ghost use Rattle.pickle_io.specs.Device.{Told, Writes};
 ghost use Rattle.pickle_doc.specs.Document.{size_limit};
-ghost use Rattle.pickle_show.specs.Manner.{manner};
-ghost use Rattle.pickle_show.specs.Ran.{IsRun};
+ghost use Rattle.pickle_calls.specs.Manner.{manner};
+ghost use Rattle.pickle_calls.specs.Ran.{IsRun};
 ghost use Rattle.pickle_further.specs.Parts.{wording, are_many, ignoring, text_from_in, is_open, lost_by_in, lost_text_in, file_frames, first_mixed, mixed_text_in, parts_in};
 ghost use Rattle.pickle_further.specs.Inside.{standing_behind};
 ghost use Rattle.pickle_further.specs.CallsText.{CompletesTextIn, CutsCallsTextIn, CompletesDocument, CutsDocument, PutsText, first_loss, loss_text_in, losses_text_in, kept_behind_in, kept_status};
@@ -17,11 +17,12 @@ use crate::machine::LoaderMachine;
 use crate::parts::{find_loss, find_mixed, write_found, write_from};
 use crate::way::{Pickles, Spot, Way};
 use crate::worder::Worder;
+use pickle_calls::{Detail, Ending, Naming, Ran, run_items, write_end};
 use pickle_doc::Items;
 use pickle_io::{Failed, Holes, Page};
 use pickle_lenient::Frames;
 use pickle_machine::{Machine, Slim};
-use pickle_show::{Closing, Detail, Ending, Naming, Ran, TextStop, run_items, write_end};
+use pickle_text::{Closing, TextStop};
 use std::alloc::Global;
 
 /// Whether several pickles are read one after another, each by a machine that begins anew.

@@ -1,9 +1,10 @@
 //! Who writes the lines that are no events.
 
+use pickle_calls::{Course, Teller};
 use pickle_io::{Failed, Page};
 use pickle_lenient::Frames;
 use pickle_ops::ObjId;
-use pickle_show::{Closing, Course, Teller};
+use pickle_text::Closing;
 
 /// Who tells also what loaders may do behind the end of the lines, and of what is warned. Each function writes a line or several, and
 /// `Failed` comes from the sink: a beginning was written then. Offsets are those in the file.

@@ -12,18 +12,17 @@ use Rattle.pickle_machine.specs.declared.refusal.Refusal.{Refusal}
 use Rattle.pickle_machine.specs.State.{State, start}
 use Rattle.pickle_machine.specs.Move.{move, next, fresh, refusal_at}
 use Rattle.pickle_machine.specs.Run.{run}
-use Rattle.pickle_show.specs.declared.event.Event.{Event}
-use Rattle.pickle_show.specs.declared.event.Event.TheVariants as event
-use Rattle.pickle_show.specs.declared.report.Closing.TheVariants as closing
-use Rattle.pickle_show.specs.declared.end.Ending.TheVariants as ending
-use Rattle.pickle_show.specs.Event.{is_shown, made_as, made_event, before_of, event_of}
-use Rattle.pickle_show.specs.Calls.{left_at, is_inside, or_here, first_inside, CallsEnd, calls_end}
-use Rattle.pickle_show.specs.Listing.{reached}
-use Rattle.pickle_show.proofs.Walking.{event_by, accepted}
-use Rattle.pickle_show.proofs.Moves.{refused_move}
-use Rattle.pickle_show.proofs.Places.{offset_next, run-suc, stuck_behind, reached_last}
-use Rattle.pickle_show.proofs.Listings.{within}
-use Rattle.pickle_show.proofs.Runs.{run_nothing}
+use Rattle.pickle_calls.specs.declared.event.Event.{Event}
+use Rattle.pickle_calls.specs.declared.event.Event.TheVariants as event
+use Rattle.pickle_text.specs.declared.closing.Closing.TheVariants as closing
+use Rattle.pickle_calls.specs.declared.end.Ending.TheVariants as ending
+use Rattle.pickle_calls.specs.Event.{is_shown, made_as, made_event, before_of, event_of}
+use Rattle.pickle_calls.specs.Calls.{left_at, is_inside, or_here, first_inside, CallsEnd, calls_end}
+use Rattle.pickle_text.specs.Reached.{reached}
+use Rattle.pickle_calls.proofs.Walking.{event_by, accepted}
+use Rattle.pickle_text.proofs.Moves.{refused_move}
+use Rattle.pickle_text.proofs.Places.{offset_next, run-suc, stuck_behind, reached_last, within}
+use Rattle.pickle_text.proofs.Runs.{run_nothing}
 use Rattle.pickle_form.specs.declared.reason.Reason.{Reason}
 use Rattle.pickle_form.specs.declared.reason.Other.{Other}
 use Rattle.pickle_form.specs.Form.{Before, end_reason, after, reason_of, at_place, other_here, first_from, first_other}

@@ -18,10 +18,10 @@ use Rattle.pickle_machine.specs.declared.refusal.Refusal.{Refusal}
 use Rattle.pickle_machine.specs.State.{State}
 use Rattle.pickle_machine.specs.Move.{deep, changes_of, push, last_of, without, cut, object_meets, next_of, next, fresh, outcome, refusal_at, move}
 use Rattle.pickle_machine.proofs.HeapGrowth.{changed_length, push_length, fresh_heap}
-use Rattle.pickle_show.specs.declared.event.Event.{Event}
-use Rattle.pickle_show.specs.declared.event.Event.TheVariants as event
-use Rattle.pickle_show.specs.declared.event.Before.{Before}
-use Rattle.pickle_show.specs.Event.{is_shown, is_view, made_as, made_event, before_of, top_of, taken_count, filled_count, touches, filled_event, event_of}
+use Rattle.pickle_calls.specs.declared.event.Event.{Event}
+use Rattle.pickle_calls.specs.declared.event.Event.TheVariants as event
+use Rattle.pickle_calls.specs.declared.event.Before.{Before}
+use Rattle.pickle_calls.specs.Event.{is_shown, is_view, made_as, made_event, before_of, top_of, taken_count, filled_count, touches, filled_event, event_of}
 use Rattle.pickle_allow.specs.Allow.{Source}
 use Rattle.pickle_allow.specs.Source.{source_of}
 use Rattle.pickle_gate.specs.Kept.{event_source}

@@ -14,7 +14,7 @@ use Rattle.pickle_allow.specs.Allow.{Source, has, is_in, allows, may_find, may_u
 use Rattle.pickle_allow.specs.Source.{line_text, part_text, of_part, import_name, itself, made_of, source_at, callee_source, extension_word, persistent_word, buffer_word, source_of}
 use Rattle.pickle_allow.specs.Granted.{grant_of}
 use Rattle.pickle_allow.specs.Arguments.{may_be_given, may_be_set}
-use Rattle.pickle_show.specs.declared.event.Event.TheVariants as event
+use Rattle.pickle_calls.specs.declared.event.Event.TheVariants as event
 use Rattle.pickle_gate.specs.declared.packed.Kept.{Kept}
 use Rattle.pickle_gate.specs.declared.judge.Made.{Made}
 use Rattle.pickle_gate.specs.declared.judge.Made.TheVariants as made

@@ -20,20 +20,19 @@ use Rattle.pickle_machine.specs.declared.refusal.Refusal.{Refusal}
 use Rattle.pickle_machine.specs.State.{State, start}
 use Rattle.pickle_machine.specs.Move.{move, next, refusal_at, fresh}
 use Rattle.pickle_machine.specs.Run.{run}
-use Rattle.pickle_show.specs.declared.event.Event.{Event}
-use Rattle.pickle_show.specs.declared.naming.Naming.{Naming}
-use Rattle.pickle_show.specs.declared.naming.Detail.TheVariants as detail
-use Rattle.pickle_show.specs.Event.{before_of, event_of}
-use Rattle.pickle_show.specs.CallsLine.{line_of}
-use Rattle.pickle_show.specs.Manner.{whole}
-use Rattle.pickle_show.specs.Naming.{begin, naming_after}
-use Rattle.pickle_show.specs.Telling.{for_people}
-use Rattle.pickle_show.specs.Calls.{naming_at, CountedText, counted_text, entry_on, entry_in}
-use Rattle.pickle_show.proofs.Runs.{run_nothing}
-use Rattle.pickle_show.proofs.Moves.{refused_move}
-use Rattle.pickle_show.proofs.Places.{offset_next, length-bytes_of, run-suc, stuck_behind}
-use Rattle.pickle_show.proofs.Listings.{ops_within}
-use Rattle.pickle_show.proofs.Walking.{entry_is, event_by, accepted}
+use Rattle.pickle_calls.specs.declared.event.Event.{Event}
+use Rattle.pickle_calls.specs.declared.naming.Naming.{Naming}
+use Rattle.pickle_calls.specs.declared.naming.Detail.TheVariants as detail
+use Rattle.pickle_calls.specs.Event.{before_of, event_of}
+use Rattle.pickle_calls.specs.CallsLine.{line_of}
+use Rattle.pickle_calls.specs.Manner.{whole}
+use Rattle.pickle_calls.specs.Naming.{begin, naming_after}
+use Rattle.pickle_calls.specs.Telling.{for_people}
+use Rattle.pickle_calls.specs.Calls.{naming_at, CountedText, counted_text, entry_on, entry_in}
+use Rattle.pickle_text.proofs.Runs.{run_nothing}
+use Rattle.pickle_text.proofs.Moves.{refused_move}
+use Rattle.pickle_text.proofs.Places.{offset_next, length-bytes_of, run-suc, stuck_behind, ops_within}
+use Rattle.pickle_calls.proofs.Walking.{entry_is, event_by, accepted}
 use Rattle.pickle_gate.specs.Line.{line_at}
 
 -- the first k items of a pickle were run, this many bytes of it, and this is the state and how names are read there

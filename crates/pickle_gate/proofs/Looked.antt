@@ -10,7 +10,7 @@ use Rattle.pickle_ops.specs.KindRef.{kind_view, parts_shown, shown, look_shown}
 use Rattle.pickle_allow.specs.declared.list.Entry.{Entry}
 use Rattle.pickle_allow.specs.Arguments.{is_held, may_be_given}
 use Rattle.pickle_allow.proofs.Taking.{there, absent, given_same}
-use Rattle.pickle_show.specs.declared.event.Event.TheVariants as event
+use Rattle.pickle_calls.specs.declared.event.Event.TheVariants as event
 use Rattle.pickle_gate.specs.declared.packed.Kept.{Kept}
 use Rattle.pickle_gate.specs.declared.judge.Made.{Made}
 use Rattle.pickle_gate.specs.declared.judge.Made.TheVariants as made

@@ -15,11 +15,11 @@ use Rattle.pickle_ops.specs.Kind.{is_opaque}
 use Rattle.pickle_machine.specs.State.{State}
 use Rattle.pickle_machine.specs.Seen.{class_at}
 use Rattle.pickle_machine.specs.Loader.{view_at, loose_at}
-use Rattle.pickle_show.specs.declared.event.Event.{Event}
-use Rattle.pickle_show.specs.declared.event.Event.TheVariants as event
-use Rattle.pickle_show.specs.declared.event.Before.{Before}
-use Rattle.pickle_show.specs.Event.{is_view, is_shown, object_is, top_of, taken_count, filled_count, made_event, filled_event, event_of}
-use Rattle.pickle_show.proofs.Looks.{opaque_by_class, opaque_without_class, loose_by_class, loose_without_class, shown_by_class, shown_without_class, made_if_shown}
+use Rattle.pickle_calls.specs.declared.event.Event.{Event}
+use Rattle.pickle_calls.specs.declared.event.Event.TheVariants as event
+use Rattle.pickle_calls.specs.declared.event.Before.{Before}
+use Rattle.pickle_calls.specs.Event.{is_view, is_shown, object_is, top_of, taken_count, filled_count, made_event, filled_event, event_of}
+use Rattle.pickle_calls.proofs.Looks.{opaque_by_class, opaque_without_class, loose_by_class, loose_without_class, shown_by_class, shown_without_class, made_if_shown}
 use Rattle.pickle_allow.specs.declared.list.Entry.{Entry}
 use Rattle.pickle_gate.specs.declared.packed.Kept.{Kept}
 use Rattle.pickle_gate.specs.declared.judge.Made.TheVariants as made

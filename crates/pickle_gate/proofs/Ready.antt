@@ -13,8 +13,8 @@ use Rattle.pickle_allow.specs.declared.list.Entry.{Entry}
 use Rattle.pickle_allow.specs.Allow.{Source, has}
 use Rattle.pickle_allow.specs.Source.{source_at}
 use Rattle.pickle_allow.specs.Arguments.{may_be_given, may_be_set}
-use Rattle.pickle_show.specs.declared.event.Event.{Event}
-use Rattle.pickle_show.specs.declared.event.Event.TheVariants as event
+use Rattle.pickle_calls.specs.declared.event.Event.{Event}
+use Rattle.pickle_calls.specs.declared.event.Event.TheVariants as event
 use Rattle.pickle_gate.specs.declared.packed.Kept.{Kept}
 use Rattle.pickle_gate.specs.declared.judge.Made.{Made}
 use Rattle.pickle_gate.specs.declared.judge.Made.TheVariants as made

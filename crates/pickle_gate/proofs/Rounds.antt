@@ -13,10 +13,10 @@ use Rattle.pickle_doc.specs.Unread.{IsNextItem}
 use Rattle.pickle_machine.specs.declared.refusal.Refusal.{Refusal}
 use Rattle.pickle_machine.specs.State.{State, start}
 use Rattle.pickle_machine.specs.Move.{move, refusal_at}
-use Rattle.pickle_show.specs.declared.report.Closing.TheVariants as closing
-use Rattle.pickle_show.specs.declared.end.Ending.TheVariants as ending
-use Rattle.pickle_show.specs.Event.{before_of, event_of}
-use Rattle.pickle_show.proofs.Listings.{within}
+use Rattle.pickle_text.specs.declared.closing.Closing.TheVariants as closing
+use Rattle.pickle_calls.specs.declared.end.Ending.TheVariants as ending
+use Rattle.pickle_calls.specs.Event.{before_of, event_of}
+use Rattle.pickle_text.proofs.Places.{within}
 use Rattle.pickle_form.specs.declared.reason.Reason.{Reason}
 use Rattle.pickle_form.specs.declared.reason.Reason.TheVariants as reason
 use Rattle.pickle_form.specs.Form.{Before, begin, after, reason_of, fault_reason, at_place, first_other}

@@ -13,14 +13,13 @@ use Rattle.pickle_machine.specs.declared.refusal.Refusal.{Refusal}
 use Rattle.pickle_machine.specs.State.{State, start}
 use Rattle.pickle_machine.specs.Move.{move, next, outcome}
 use Rattle.pickle_machine.specs.Run.{run}
-use Rattle.pickle_show.specs.declared.report.Closing.{Closing}
-use Rattle.pickle_show.specs.declared.report.Closing.TheVariants as closing
-use Rattle.pickle_show.specs.CallsLine.{ending_status}
-use Rattle.pickle_show.specs.Listing.{reached}
-use Rattle.pickle_show.specs.Report.{refused_on}
-use Rattle.pickle_show.specs.Calls.{CallsEnd, closing_of, closing_to, closed, end_to, end_from, end_by, calls_end}
-use Rattle.pickle_show.proofs.Places.{is_reached, reached_here, run-suc}
-use Rattle.pickle_show.proofs.Listings.{within}
+use Rattle.pickle_text.specs.declared.closing.Closing.{Closing}
+use Rattle.pickle_text.specs.declared.closing.Closing.TheVariants as closing
+use Rattle.pickle_calls.specs.CallsLine.{ending_status}
+use Rattle.pickle_text.specs.Reached.{reached}
+use Rattle.pickle_text.specs.Closing.{refused_on}
+use Rattle.pickle_calls.specs.Calls.{CallsEnd, closing_of, closing_to, closed, end_to, end_from, end_by, calls_end}
+use Rattle.pickle_text.proofs.Places.{is_reached, reached_here, run-suc, within}
 use Rattle.pickle_form.specs.declared.reason.Reason.{Reason}
 use Rattle.pickle_form.specs.declared.reason.Reason.TheVariants as reason
 use Rattle.pickle_form.specs.declared.reason.Other.{Other}

@@ -16,11 +16,11 @@ use Rattle.pickle_doc.specs.Place.{ops_of, item_at}
 use Rattle.pickle_machine.specs.State.{State, start}
 use Rattle.pickle_machine.specs.Move.{fresh}
 use Rattle.pickle_machine.specs.Run.{run}
-use Rattle.pickle_show.specs.declared.event.Event.{Event}
-use Rattle.pickle_show.specs.declared.event.Event.TheVariants as event
-use Rattle.pickle_show.specs.Event.{before_of, event_of}
-use Rattle.pickle_show.specs.CallsLine.{ending_status}
-use Rattle.pickle_show.specs.Calls.{or_here, calls_end}
+use Rattle.pickle_calls.specs.declared.event.Event.{Event}
+use Rattle.pickle_calls.specs.declared.event.Event.TheVariants as event
+use Rattle.pickle_calls.specs.Event.{before_of, event_of}
+use Rattle.pickle_calls.specs.CallsLine.{ending_status}
+use Rattle.pickle_calls.specs.Calls.{or_here, calls_end}
 use Rattle.pickle_form.specs.Run.{is_proto}
 use Rattle.pickle_form.specs.Form.{first_other}
 use Rattle.pickle_allow.specs.declared.list.Use.TheVariants as use_of

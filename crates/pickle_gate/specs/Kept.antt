@@ -8,10 +8,10 @@ use Rattle.pickle_ops.specs.Spelling.{Operation}
 use Rattle.pickle_ops.specs.declared.row.Row.{Row}
 use Rattle.pickle_ops.specs.Object.{Object}
 use Rattle.pickle_machine.specs.State.{State}
-use Rattle.pickle_show.specs.declared.event.Event.{Event}
-use Rattle.pickle_show.specs.declared.event.Event.TheVariants as event
-use Rattle.pickle_show.specs.declared.event.Before.{Before}
-use Rattle.pickle_show.specs.Event.{event_of}
+use Rattle.pickle_calls.specs.declared.event.Event.{Event}
+use Rattle.pickle_calls.specs.declared.event.Event.TheVariants as event
+use Rattle.pickle_calls.specs.declared.event.Before.{Before}
+use Rattle.pickle_calls.specs.Event.{event_of}
 use Rattle.pickle_allow.specs.declared.list.Use.{Use}
 use Rattle.pickle_allow.specs.declared.list.Use.TheVariants as use_of
 use Rattle.pickle_allow.specs.declared.list.Uses.{Uses}

@@ -2,9 +2,9 @@
 -- Source: own.
 use Rattle.std.specs.Prelude.{◌≡◌, ℕ, false, List}
 use Rattle.pickle_doc.specs.Document.{Contents, ReadsAs}
-use Rattle.pickle_show.specs.declared.naming.Detail.TheVariants as detail
-use Rattle.pickle_show.specs.Manner.{whole}
-use Rattle.pickle_show.specs.Calls.{entry_at}
+use Rattle.pickle_calls.specs.declared.naming.Detail.TheVariants as detail
+use Rattle.pickle_calls.specs.Manner.{whole}
+use Rattle.pickle_calls.specs.Calls.{entry_at}
 
 -- of item k; nothing where the item has no line, or is not run
 abbrev pub line_at : Contents → ℕ → List ℕ

@@ -7,7 +7,7 @@ use Rattle.pickle_ops.specs.declared.row.Filling.TheVariants as filling
 use Rattle.pickle_ops.specs.Object.{Object}
 use Rattle.pickle_ops.specs.Kind.{is_opaque}
 use Rattle.pickle_machine.specs.Loader.{loose_at}
-use Rattle.pickle_show.specs.Event.{object_is, made_event}
+use Rattle.pickle_calls.specs.Event.{object_is, made_event}
 
 -- no event tells of the making of the object of this number, if it is there, and none of items that go into it
 pub record IsUnseen (heap : List Object) (id : ℕ) : Type 0 where

@@ -5,7 +5,7 @@ use Rattle.pickle_doc.specs.Document.{Contents, ReadsAs, AreBytes, size_limit}
 use Rattle.pickle_doc.specs.Place.{ops_of, offset_of}
 use Rattle.pickle_machine.specs.State.{State, start}
 use Rattle.pickle_machine.specs.Run.{run}
-use Rattle.pickle_show.specs.Calls.{calls_end}
+use Rattle.pickle_calls.specs.Calls.{calls_end}
 use Rattle.pickle_form.specs.declared.reason.Other.{Other}
 use Rattle.pickle_form.specs.Form.{first_other}
 use Rattle.pickle_allow.specs.declared.list.Entry.{Entry}

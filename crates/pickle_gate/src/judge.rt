@@ -16,9 +16,9 @@ use pickle_allow::{
     Entry, Grant, Use, Uses, extension_word, grant_of, import_name, line_text, may_be_given,
     may_be_set, part_text,
 };
+use pickle_calls::{Before, Event, event_of};
 use pickle_machine::Inspect;
 use pickle_ops::{KindRef, Look, ObjId, OpRef, Opcode, Row};
-use pickle_show::{Before, Event, event_of};
 use std::alloc::{AllocError, Global};
 
 /// Nothing may be done.

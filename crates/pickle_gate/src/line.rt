@@ -3,14 +3,14 @@
 ghost use Rattle.std.specs.Prelude.{◌≡◌, ◌≤◌, [], length, IfOk};
 ghost use Rattle.pickle_io.specs.Holes.{in_file};
 ghost use Rattle.pickle_doc.specs.Document.{size_limit};
-ghost use Rattle.pickle_show.specs.CallsLine.{line_of};
+ghost use Rattle.pickle_calls.specs.CallsLine.{line_of};
 ghost use Rattle.pickle_gate.specs.Line.{IsLineAt};
 
+use pickle_calls::{Before, Detail, Event, Naming, event_of, write_line};
 use pickle_doc::{ItemSource, Items, NextRef, is_stop};
 use pickle_io::{Buffered, Holes, Sink, ToWrite};
 use pickle_machine::{Inspect, Refusal, Slim};
 use pickle_ops::{ObjId, Row};
-use pickle_show::{Before, Detail, Event, Naming, event_of, write_line};
 use std::alloc::{AllocError, Global};
 
 /// The line of an event, in memory.

@@ -4,12 +4,12 @@
 ghost use Rattle.std.specs.Prelude.{◌≡◌, ◌<◌, ◌^◌, ◌||◌, not, length, true, None};
 ghost use Rattle.pickle_ops.specs.Class.{is_any, class_meets};
 ghost use Rattle.pickle_machine.specs.State.{State};
-ghost use Rattle.pickle_show.specs.Event.{before_of, top_of, filled_event, event_of};
+ghost use Rattle.pickle_calls.specs.Event.{before_of, top_of, filled_event, event_of};
 ghost use Rattle.pickle_gate.specs.Quiet.{IsUnseen, puts_items, filling_of};
 
+use pickle_calls::Before;
 use pickle_machine::Inspect;
 use pickle_ops::{Class, Demand, Filling, ObjId, Row};
-use pickle_show::Before;
 
 /// What is looked at of the machine before a step of this row, as far as the event of the step asks for it.
 #[inline(always)]

@@ -9,9 +9,9 @@ ghost use Rattle.pickle_gate.specs.Kept.{is_named};
 
 use crate::packed::Packed;
 use pickle_allow::{arguments_of, is_held};
+use pickle_calls::Event;
 use pickle_machine::Inspect;
 use pickle_ops::{KindRef, Look, ObjId};
-use pickle_show::Event;
 
 /// The most arguments of a call whose answer is a state.
 const MOST_ARGUMENTS: usize = 8;

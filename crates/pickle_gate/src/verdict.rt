@@ -1,7 +1,7 @@
 //! What the gate says.
 
+use pickle_calls::Ending;
 use pickle_form::Other;
-use pickle_show::Ending;
 
 /// What the gate says of a pickle.
 #[derive(Clone, Copy)]

@@ -9,11 +9,12 @@ use crate::judge::{allow_step, protocol_here};
 use crate::seen::looked_before;
 use crate::verdict::Verdict;
 use pickle_allow::{Entry, limits_of};
+use pickle_calls::Ending;
 use pickle_doc::{ItemSource, Items, NextRef, is_stop};
 use pickle_form::{FormSoFar, Other, Reason, fault_reason};
 use pickle_machine::{Inspect, Refusal, Slim};
 use pickle_ops::Row;
-use pickle_show::{Closing, Ending};
+use pickle_text::Closing;
 use std::alloc::{AllocError, Global};
 
 /// What is said of a place that is not as picklers write it.

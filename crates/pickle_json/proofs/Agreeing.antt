@@ -7,7 +7,7 @@ use Rattle.pickle_doc.specs.declared.fault.TailFault.{TailFault}
 use Rattle.pickle_doc.specs.declared.fault.TailFault.TheVariants as tail
 use Rattle.pickle_machine.specs.declared.refusal.Refusal.{Refusal}
 use Rattle.pickle_machine.specs.declared.refusal.Refusal.TheVariants as refusal
-use Rattle.pickle_show.specs.ReportLine as text
+use Rattle.pickle_text.specs.ReportLine as text
 use Rattle.pickle_json.specs.EndFields.{refusal_code, refusal_words, fault_code, fault_words}
 use Rattle.pickle_json.specs.Agreeing.{refusal_sign, fault_sign, CodesAgree}
 

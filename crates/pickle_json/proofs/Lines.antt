@@ -14,14 +14,15 @@ use Rattle.pickle_machine.specs.declared.refusal.Refusal.{Refusal}
 use Rattle.pickle_machine.specs.State.{State, Marked, start}
 use Rattle.pickle_machine.specs.Move.{refusal_of, refusal_at, fresh}
 use Rattle.pickle_machine.specs.Run.{run}
-use Rattle.pickle_show.specs.Line.{raised, highest_protocol}
-use Rattle.pickle_show.specs.Listing.{reached, end_status}
-use Rattle.pickle_show.specs.Inside.Marks.{last_element, mark_offsets}
-use Rattle.pickle_show.specs.Inside.Listed.{Progress}
-use Rattle.pickle_show.specs.Output.{BeganOutput}
-use Rattle.pickle_show.proofs.Moves.{refused_move}
-use Rattle.pickle_show.proofs.Places.{run-suc, reached_here, reached_last, is_reached}
-use Rattle.pickle_show.proofs.Listings.{within, last-mark_offsets, highest_next}
+use Rattle.pickle_list.specs.Line.{raised, highest_protocol}
+use Rattle.pickle_text.specs.Reached.{reached}
+use Rattle.pickle_list.specs.Listing.{end_status}
+use Rattle.pickle_list.specs.Inside.Marks.{last_element, mark_offsets}
+use Rattle.pickle_list.specs.Inside.Listed.{Progress}
+use Rattle.pickle_text.specs.Output.{BeganOutput}
+use Rattle.pickle_text.proofs.Moves.{refused_move}
+use Rattle.pickle_text.proofs.Places.{run-suc, reached_here, reached_last, is_reached, within}
+use Rattle.pickle_list.proofs.Listings.{last-mark_offsets, highest_next}
 use Rattle.pickle_json.specs.ItemFields.{item_line}
 use Rattle.pickle_json.specs.EndFields.{refused_end}
 use Rattle.pickle_json.specs.Listing.{note_with, note_unless, line_at, left_by, lines, end_text, refused_text, listing, listing_to}

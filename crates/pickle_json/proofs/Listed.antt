@@ -39,16 +39,16 @@ use Rattle.pickle_doc.specs.Stream.{HasRead, IsDone, IsItemAt}
 use Rattle.pickle_machine.proofs.Outlines.{refusals_read_outlines, moves_read_outlines, fresh_reads_outlines}
 use Rattle.pickle_doc.proofs.Ends.{finish_at, finish_stopped}
 use Rattle.pickle_doc.proofs.Streams.{stands_first, item_in, fault_is, fault_in}
-use Rattle.pickle_show.proofs.Runs.{last_taken}
-use Rattle.pickle_show.specs.declared.stop.TextStop.{TextStop}
-use Rattle.pickle_show.specs.Inside.Marks.{last_element, followed}
-use Rattle.pickle_show.specs.Inside.Answer.{IsAnswer}
-use Rattle.pickle_show.proofs.Stops.{none_last, neither, no_bytes, stays_fresh, last_of_all}
-use Rattle.pickle_show.specs.Line.{raised}
-use Rattle.pickle_show.specs.Listing.{end_status}
-use Rattle.pickle_show.specs.Inside.Listed.{Progress}
-use Rattle.pickle_show.proofs.Listings.{Progress-none, Progress-more, Progress-fresh, within, place_within, offset_within, ops_within}
-use Rattle.pickle_show.proofs.Places.{length-bytes_of}
+use Rattle.pickle_text.proofs.Runs.{last_taken}
+use Rattle.pickle_text.specs.declared.stop.TextStop.{TextStop}
+use Rattle.pickle_list.specs.Inside.Marks.{last_element, followed}
+use Rattle.pickle_list.specs.Inside.Answer.{IsAnswer}
+use Rattle.pickle_list.proofs.Stops.{none_last, neither, no_bytes, stays_fresh, last_of_all}
+use Rattle.pickle_list.specs.Line.{raised}
+use Rattle.pickle_list.specs.Listing.{end_status}
+use Rattle.pickle_list.specs.Inside.Listed.{Progress}
+use Rattle.pickle_list.proofs.Listings.{Progress-none, Progress-more, Progress-fresh, offset_within}
+use Rattle.pickle_text.proofs.Places.{within, place_within, ops_within, length-bytes_of}
 use Rattle.pickle_json.specs.declared.note.Note.{Note}
 use Rattle.pickle_json.specs.declared.note.Note.TheVariants as note
 use Rattle.pickle_json.specs.ItemFields.{item_line}

@@ -7,7 +7,7 @@ use Rattle.pickle_doc.specs.declared.stream.NextRef.TheVariants as next
 use Rattle.pickle_doc.specs.Fitting.{left_behind}
 use Rattle.pickle_doc.specs.Tail.{HasTailFault}
 use Rattle.pickle_doc.specs.Unread.{Unread, IsNextItem, Follows}
-use Rattle.pickle_show.proofs.Parts.{shorter}
+use Rattle.pickle_text.proofs.Parts.{shorter}
 
 -- an item, and what is not read yet then
 pub record NextIs (loose : Bool) (old new : Unread) (o : Operation) : Type 0 where

@@ -7,7 +7,7 @@ use Rattle.pickle_doc.specs.declared.fault.TailFault.{TailFault}
 use Rattle.pickle_doc.specs.declared.fault.TailFault.TheVariants as tail
 use Rattle.pickle_machine.specs.declared.refusal.Refusal.{Refusal}
 use Rattle.pickle_machine.specs.declared.refusal.Refusal.TheVariants as refusal
-use Rattle.pickle_show.specs.ReportLine as text
+use Rattle.pickle_text.specs.ReportLine as text
 use Rattle.pickle_json.specs.EndFields.{refusal_code, refusal_words, fault_code, fault_words}
 
 -- what a text has between the words of a refusal and the number behind them

@@ -17,9 +17,10 @@ use Rattle.pickle_machine.specs.declared.refusal.Refusal.{Refusal}
 use Rattle.pickle_machine.specs.State.{State, stack_size, start}
 use Rattle.pickle_machine.specs.Move.{refusal_of, refusal_at, takes_mark, fresh}
 use Rattle.pickle_machine.specs.Run.{run}
-use Rattle.pickle_show.specs.Line.{highest_protocol}
-use Rattle.pickle_show.specs.Listing.{topmost_offset, end_status, reached}
-use Rattle.pickle_show.specs.Output.{Output}
+use Rattle.pickle_list.specs.Line.{highest_protocol}
+use Rattle.pickle_list.specs.Listing.{topmost_offset, end_status}
+use Rattle.pickle_text.specs.Reached.{reached}
+use Rattle.pickle_text.specs.Output.{Output}
 use Rattle.pickle_json.specs.declared.note.Note.{Note}
 use Rattle.pickle_json.specs.declared.note.Note.TheVariants as note
 use Rattle.pickle_json.specs.ItemFields.{item_line}

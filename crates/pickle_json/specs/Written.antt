@@ -2,8 +2,8 @@
 -- or with frames.
 use Rattle.std.specs.Prelude.{ℕ, Bool, List}
 use Rattle.pickle_io.specs.Device.{Told}
-use Rattle.pickle_show.specs.declared.stop.TextStop.{TextStop}
-use Rattle.pickle_show.specs.Output.{Completes, Breaks, Begins, Cuts}
+use Rattle.pickle_text.specs.declared.stop.TextStop.{TextStop}
+use Rattle.pickle_text.specs.Output.{Completes, Breaks, Begins, Cuts}
 use Rattle.pickle_json.specs.Listing.{listing}
 
 -- the whole listing was written, and this is its status

@@ -2,8 +2,8 @@
 
 ghost use Rattle.std.specs.Prelude.{◌≡◌, ◌≤◌, length, IfOk, IfErr};
 ghost use Rattle.pickle_doc.specs.Document.{size_limit};
-ghost use Rattle.pickle_show.specs.Inside.Answer.{IsAnswer};
-ghost use Rattle.pickle_show.specs.Source.{GivesDocument};
+ghost use Rattle.pickle_list.specs.Inside.Answer.{IsAnswer};
+ghost use Rattle.pickle_text.specs.Source.{GivesDocument};
 ghost use Rattle.pickle_json.specs.Written.{IsListed, CutsListing};
 
 use crate::ends::{write_fault_end, write_stopped_end};
@@ -14,7 +14,7 @@ use pickle_doc::{ItemSource, Items, NextRef, is_stop};
 use pickle_io::{Failed, Page};
 use pickle_machine::Lean;
 use pickle_ops::{Class, Row};
-use pickle_show::TextStop;
+use pickle_text::TextStop;
 use std::alloc::Global;
 
 /// What a listing comes to that ends with this status, where its last lines were written or the sink failed.

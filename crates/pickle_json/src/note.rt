@@ -2,7 +2,7 @@
 
 ghost use Rattle.std.specs.Prelude.{◌≡◌};
 ghost use Rattle.pickle_ops.specs.Row.{row_of};
-ghost use Rattle.pickle_show.specs.Inside.Marks.{last_element};
+ghost use Rattle.pickle_list.specs.Inside.Marks.{last_element};
 ghost use Rattle.pickle_json.specs.Listing.{note_with};
 
 use pickle_machine::Lean;

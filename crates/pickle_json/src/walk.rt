@@ -6,8 +6,8 @@ ghost use Rattle.pickle_io.specs.Text.{◌⧺◌};
 ghost use Rattle.pickle_machine.specs.State.{stack_size};
 ghost use Rattle.pickle_machine.specs.Move.{next_of, refusal_of, fresh};
 ghost use Rattle.pickle_machine.specs.Outline.{outline, sample};
-ghost use Rattle.pickle_show.specs.Line.{raised};
-ghost use Rattle.pickle_show.specs.Inside.Marks.{followed, followed_by};
+ghost use Rattle.pickle_list.specs.Line.{raised};
+ghost use Rattle.pickle_list.specs.Inside.Marks.{followed, followed_by};
 ghost use Rattle.pickle_json.specs.ItemFields.{item_line};
 ghost use Rattle.pickle_json.specs.EndFields.{left_line, refused_end};
 
@@ -48,7 +48,7 @@ fn follow_marks(row: Row, lean: &Lean, opened: &mut Vec<u64>, offset: u64) -> Re
 }
 
 /// Moves the outline by an item that is not refused, and follows its marks.
-#[tactic(auto, using(pickle_show::proofs::Moves::followed_is))]
+#[tactic(auto, using(pickle_list::proofs::Marks::followed_is))]
 pub fn perform(
     lean: &mut Lean,
     opened: &mut Vec<u64>,

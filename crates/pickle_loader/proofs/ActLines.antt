@@ -2,9 +2,9 @@
 use Rattle.std.proofs.Common.{◌≡◌, ◌≢◌, ◌⊎◌, ℕ, zero, suc, ◌^◌, ◌<◌, true, List, [], ◌∷◌, ◌++◌, length, Option, Some, None, refl, subst, ◌∙◌, inl, inr}
 use Rattle.pickle_lenient.specs.declared.taken.Frames.{Frames}
 use Rattle.pickle_lenient.specs.declared.taken.Frames.TheVariants as frames
-use Rattle.pickle_show.specs.Manner.{Manner}
-use Rattle.pickle_show.specs.Output.{Output}
-use Rattle.pickle_show.specs.declared.naming.Detail.TheVariants as detail
+use Rattle.pickle_calls.specs.Manner.{Manner}
+use Rattle.pickle_text.specs.Output.{Output}
+use Rattle.pickle_calls.specs.declared.naming.Detail.TheVariants as detail
 use Rattle.pickle_further.specs.declared.way.Pickles.{Pickles}
 use Rattle.pickle_further.specs.declared.way.Pickles.TheVariants as pickles
 use Rattle.pickle_further.specs.declared.way.Way.{Way}

@@ -20,7 +20,7 @@ use Rattle.pickle_machine.specs.declared.refusal.Refusal.{Refusal}
 use Rattle.pickle_machine.specs.State.{State}
 use Rattle.pickle_machine.specs.Move.{deep, last_of, without, refusal_of, next_of, fresh, outcome}
 use Rattle.pickle_machine.specs.Loader.{takes_call, takes_call_with, takes_obj, is_string, takes_string, asks_less}
-use Rattle.pickle_show.specs.Event.{before_of, event_of}
+use Rattle.pickle_calls.specs.Event.{before_of, event_of}
 use Rattle.pickle_loader.specs.Environment.{Value, Plain, Act, Extension, Call, New, NewEx, Unpickler, World}
 use Rattle.pickle_loader.specs.Unpickler.{Step, Ran, Stopped, Raised, item, get, if_able, can_call, can_call_with, instantiated, load_reduce, load_newobj, load_newobj_ex, load_obj, load_ext, load_readonly_buffer, viewed, viewed_string}
 use Rattle.pickle_loader.specs.Dispatch.{dispatch, load_op}
@@ -28,7 +28,7 @@ use Rattle.pickle_loader.specs.Listed.{listed_of, acts_listed, protocol_after}
 use Rattle.pickle_loader.specs.Values.{origin, IsFrom, Knows}
 use Rattle.pickle_loader.specs.Laws.{sections, entries, IsSame}
 use Rattle.pickle_loader.specs.Beyond.{HasValue, less_of, StepFollows, MapsNew, WideMovesAreFollowed}
-use Rattle.pickle_show.proofs.Steps.{is_there}
+use Rattle.pickle_calls.proofs.Steps.{is_there}
 use Rattle.pickle_loader.proofs.Images.{image, on_top_image}
 use Rattle.pickle_loader.proofs.Pushes.{Good}
 use Rattle.pickle_loader.proofs.Still.{fresh_same}

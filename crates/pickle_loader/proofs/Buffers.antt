@@ -17,8 +17,8 @@ use Rattle.pickle_lenient.specs.declared.taken.Taken.{Taken}
 use Rattle.pickle_lenient.specs.Lenient.{Lenient, lenient}
 use Rattle.pickle_lenient.proofs.Behind.{lenient_more}
 use Rattle.pickle_lenient.specs.Stream.{first_read, joined, ends_in, refilled, framed, settled, taken_as, plain, within, across, taken}
-use Rattle.pickle_show.specs.declared.report.Closing.{Closing}
-use Rattle.pickle_show.specs.declared.naming.Detail.{Detail}
+use Rattle.pickle_text.specs.declared.closing.Closing.{Closing}
+use Rattle.pickle_calls.specs.declared.naming.Detail.{Detail}
 use Rattle.pickle_further.specs.declared.way.Way.{Way}
 use Rattle.pickle_further.specs.Going.{Standing, Going as Gone, used_op, moved_so, gone_to, gone_by, going, stands_after}
 use Rattle.pickle_further.specs.Parts.{ignoring, standing_first}

@@ -19,10 +19,10 @@ use Rattle.pickle_doc.proofs.Ends.{stopped_last, stops_are}
 use Rattle.pickle_machine.specs.declared.refusal.Refusal.{Refusal}
 use Rattle.pickle_machine.specs.State.{State, start}
 use Rattle.pickle_machine.specs.Run.{run}
-use Rattle.pickle_show.specs.Listing.{reached}
-use Rattle.pickle_show.specs.Report.{refused_on, closing_status}
-use Rattle.pickle_show.specs.Calls.{first_inside, closing_of, closing_to, end_to, end_from, calls_end}
-use Rattle.pickle_show.proofs.Places.{is_reached}
+use Rattle.pickle_text.specs.Reached.{reached}
+use Rattle.pickle_text.specs.Closing.{refused_on, closing_status}
+use Rattle.pickle_calls.specs.Calls.{first_inside, closing_of, closing_to, end_to, end_from, calls_end}
+use Rattle.pickle_text.proofs.Places.{is_reached}
 use Rattle.pickle_loader.specs.Environment.{Value, Act, Unpickler, World}
 use Rattle.pickle_loader.specs.Unpickler.{Step, Ran, Stopped, Raised}
 use Rattle.pickle_loader.specs.Dispatch.{Loaded, Going, Ended, Failed, loaded, acts_of, load_op, dispatch, load_item, load}

@@ -14,7 +14,7 @@ use Rattle.pickle_doc.specs.Place.{ops_of}
 use Rattle.pickle_lenient.specs.declared.taken.Frames.{Frames}
 use Rattle.pickle_lenient.specs.declared.taken.Taken.{Taken}
 use Rattle.pickle_lenient.specs.Stream.{taken}
-use Rattle.pickle_show.specs.declared.naming.Detail.TheVariants as detail
+use Rattle.pickle_calls.specs.declared.naming.Detail.TheVariants as detail
 use Rattle.pickle_further.specs.declared.way.Pickles.{Pickles}
 use Rattle.pickle_further.specs.declared.way.Pickles.TheVariants as pickles
 use Rattle.pickle_further.specs.declared.way.Way.{Way}

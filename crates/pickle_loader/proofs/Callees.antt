@@ -10,15 +10,15 @@ use Rattle.pickle_names.specs.Value.{decode_all, raw_text, whole_text}
 use Rattle.pickle_ops.specs.declared.kind.Kind.{Kind}
 use Rattle.pickle_ops.specs.declared.kind.Kind.TheVariants as kind
 use Rattle.pickle_ops.specs.Object.{Object}
-use Rattle.pickle_show.specs.ObjectText.{id_text, kind_text}
-use Rattle.pickle_show.specs.declared.event.Event.TheVariants as event
-use Rattle.pickle_show.specs.declared.naming.Naming.{Naming}
-use Rattle.pickle_show.specs.Event.{part}
-use Rattle.pickle_show.specs.Naming.{Spelled, Pair, NewPair, member_text, said_text, pair_text, pair_renamed, import_text, is_text, said_names, renamed_text, names_by, names_text, global_pair, stack_pair}
-use Rattle.pickle_show.specs.Brief.{kind_name, name_text, briefs_text, value_text}
-use Rattle.pickle_show.specs.CallsLine.{inst_text, call_text, call_with_text, obj_text, made_words, made_text, made_at}
-use Rattle.pickle_show.proofs.QuotesApart.{other, quotes_apart}
-use Rattle.pickle_show.proofs.OneEvent.{lacks, apart_first, decimal_lacks, no_blank, one_line_one_event}
+use Rattle.pickle_text.specs.Words.{id_text, kind_text}
+use Rattle.pickle_calls.specs.declared.event.Event.TheVariants as event
+use Rattle.pickle_calls.specs.declared.naming.Naming.{Naming}
+use Rattle.pickle_calls.specs.Event.{part}
+use Rattle.pickle_calls.specs.Naming.{Spelled, Pair, NewPair, member_text, said_text, pair_text, pair_renamed, import_text, is_text, said_names, renamed_text, names_by, names_text, global_pair, stack_pair}
+use Rattle.pickle_calls.specs.Brief.{kind_name, name_text, briefs_text, value_text}
+use Rattle.pickle_calls.specs.CallsLine.{inst_text, call_text, call_with_text, obj_text, made_words, made_text, made_at}
+use Rattle.calls_laws.proofs.QuotesApart.{other, quotes_apart}
+use Rattle.calls_laws.proofs.OneEvent.{lacks, apart_first, decimal_lacks, no_blank, one_line_one_event}
 use Rattle.pickle_loader.specs.Callee.{callee_said, OneLineOneCallee}
 
 -- ---- a name, and what is behind it

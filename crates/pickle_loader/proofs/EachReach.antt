@@ -21,20 +21,20 @@ use Rattle.pickle_machine.specs.Run.{run}
 use Rattle.pickle_machine.proofs.LoaderRows.{loaders_take_moves}
 use Rattle.pickle_io.specs.declared.hole.Hole.{Hole}
 use Rattle.pickle_io.specs.Holes.{in_file}
-use Rattle.pickle_show.specs.declared.event.Event.{Event}
-use Rattle.pickle_show.specs.declared.end.Ending.TheVariants as ending
-use Rattle.pickle_show.specs.declared.report.Closing.{Closing}
-use Rattle.pickle_show.specs.declared.report.Closing.TheVariants as closing
-use Rattle.pickle_show.specs.Event.{before_of, event_of}
-use Rattle.pickle_show.specs.CallsLine.{line_of}
-use Rattle.pickle_show.specs.Listing.{reached}
-use Rattle.pickle_show.specs.Report.{refused_on}
-use Rattle.pickle_show.specs.Manner.{Manner}
-use Rattle.pickle_show.specs.Telling.{for_people}
-use Rattle.pickle_show.specs.Calls.{CountedText, CallsEnd, entry_at, is_inside, left_at, or_here, first_inside, closing_of, closing_to, kept_by, end_to, end_from, calls_end}
-use Rattle.pickle_show.specs.LineLaws.{if_any, item_lines}
-use Rattle.pickle_show.proofs.Places.{is_reached}
-use Rattle.pickle_show.proofs.Walking.{entry_is}
+use Rattle.pickle_calls.specs.declared.event.Event.{Event}
+use Rattle.pickle_calls.specs.declared.end.Ending.TheVariants as ending
+use Rattle.pickle_text.specs.declared.closing.Closing.{Closing}
+use Rattle.pickle_text.specs.declared.closing.Closing.TheVariants as closing
+use Rattle.pickle_calls.specs.Event.{before_of, event_of}
+use Rattle.pickle_calls.specs.CallsLine.{line_of}
+use Rattle.pickle_text.specs.Reached.{reached}
+use Rattle.pickle_text.specs.Closing.{refused_on}
+use Rattle.pickle_calls.specs.Manner.{Manner}
+use Rattle.pickle_calls.specs.Telling.{for_people}
+use Rattle.pickle_calls.specs.Calls.{CountedText, CallsEnd, entry_at, is_inside, left_at, or_here, first_inside, closing_of, closing_to, kept_by, end_to, end_from, calls_end}
+use Rattle.calls_laws.specs.LineLaws.{if_any, item_lines}
+use Rattle.pickle_text.proofs.Places.{is_reached}
+use Rattle.pickle_calls.proofs.Walking.{entry_is}
 use Rattle.pickle_further.specs.declared.way.Pickles.{Pickles}
 use Rattle.pickle_further.specs.declared.way.Pickles.TheVariants as pickles
 use Rattle.pickle_further.specs.Going.{Standing, Going, event_by, then_as, moved_so, gone_to, going}

@@ -16,13 +16,13 @@ use Rattle.pickle_machine.specs.State.{State, start}
 use Rattle.pickle_machine.specs.Run.{run}
 use Rattle.pickle_lenient.specs.declared.taken.Frames.TheVariants as frames
 use Rattle.pickle_lenient.specs.Stream.{taken}
-use Rattle.pickle_show.specs.Manner.{Manner}
-use Rattle.pickle_show.specs.declared.naming.Detail.TheVariants as detail
-use Rattle.pickle_show.specs.declared.report.Closing.TheVariants as closing
-use Rattle.pickle_show.specs.Listing.{reached}
-use Rattle.pickle_show.specs.Report.{refused_on}
-use Rattle.pickle_show.specs.Calls.{first_inside, closing_of, closing_to, kept_by, calls}
-use Rattle.pickle_show.proofs.Places.{is_reached}
+use Rattle.pickle_calls.specs.Manner.{Manner}
+use Rattle.pickle_calls.specs.declared.naming.Detail.TheVariants as detail
+use Rattle.pickle_text.specs.declared.closing.Closing.TheVariants as closing
+use Rattle.pickle_text.specs.Reached.{reached}
+use Rattle.pickle_text.specs.Closing.{refused_on}
+use Rattle.pickle_calls.specs.Calls.{first_inside, closing_of, closing_to, kept_by, calls}
+use Rattle.pickle_text.proofs.Places.{is_reached}
 use Rattle.pickle_further.specs.declared.way.Pickles.{Pickles}
 use Rattle.pickle_further.specs.Going.{Standing, Going as Gone, gone_by, going, over}
 use Rattle.pickle_further.specs.Parts.{ignoring, are_many, standing_first}

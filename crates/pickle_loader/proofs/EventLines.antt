@@ -17,25 +17,24 @@ use Rattle.pickle_io.specs.declared.hole.Hole.{Hole}
 use Rattle.pickle_io.specs.Holes.{in_file}
 use Rattle.pickle_lenient.specs.declared.taken.Frames.{Frames}
 use Rattle.pickle_lenient.specs.declared.taken.Frames.TheVariants as frames
-use Rattle.pickle_show.specs.declared.end.Ending.{Ending}
-use Rattle.pickle_show.specs.declared.end.Ending.TheVariants as ending
-use Rattle.pickle_show.specs.declared.event.Event.{Event}
-use Rattle.pickle_show.specs.declared.naming.Naming.{Naming}
-use Rattle.pickle_show.specs.declared.report.Closing.{Closing}
-use Rattle.pickle_show.specs.declared.report.Closing.TheVariants as closing
-use Rattle.pickle_show.specs.Column.{blanks, right_aligned, newline}
-use Rattle.pickle_show.specs.Begins.{begins_like, begins_line, begins_text}
-use Rattle.pickle_show.specs.Line.{kept_words, kept_text, kept_line}
-use Rattle.pickle_show.specs.ReportLine.{fault_line}
-use Rattle.pickle_show.specs.Report.{refused_item_line, closing_line}
-use Rattle.pickle_show.specs.Manner.{Manner, closing_in, ending_in}
-use Rattle.pickle_show.specs.Output.{Output}
-use Rattle.pickle_show.specs.CallsLine.{event_text, event_line, totals_line, unsure_words, unsure_line}
-use Rattle.pickle_show.specs.Telling.{for_people}
-use Rattle.pickle_show.specs.Calls.{CallsEnd, naming_at, entry_on, entry_at, entries, calls_end, entry_in}
-use Rattle.pickle_show.specs.LineLaws.{cut_lines, if_any, item_lines, ending_pieces, last_pieces}
-use Rattle.pickle_show.proofs.LinesApart.{both_hold, first_of, rest_of}
-use Rattle.pickle_show.proofs.OneEvent.{lacks, lacks_none, lacks_joined, decimal_lacks, no_colon}
+use Rattle.pickle_calls.specs.declared.end.Ending.{Ending}
+use Rattle.pickle_calls.specs.declared.end.Ending.TheVariants as ending
+use Rattle.pickle_calls.specs.declared.event.Event.{Event}
+use Rattle.pickle_calls.specs.declared.naming.Naming.{Naming}
+use Rattle.pickle_text.specs.declared.closing.Closing.{Closing}
+use Rattle.pickle_text.specs.declared.closing.Closing.TheVariants as closing
+use Rattle.pickle_text.specs.Column.{blanks, right_aligned, newline}
+use Rattle.pickle_calls.specs.Begins.{begins_like, begins_line, begins_text}
+use Rattle.pickle_text.specs.Closing.{kept_words, kept_text, kept_line, refused_item_line, closing_line}
+use Rattle.pickle_text.specs.ReportLine.{fault_line}
+use Rattle.pickle_calls.specs.Manner.{Manner, closing_in, ending_in}
+use Rattle.pickle_text.specs.Output.{Output}
+use Rattle.pickle_calls.specs.CallsLine.{event_text, event_line, totals_line, unsure_words, unsure_line}
+use Rattle.pickle_calls.specs.Telling.{for_people}
+use Rattle.pickle_calls.specs.Calls.{CallsEnd, naming_at, entry_on, entry_at, entries, calls_end, entry_in}
+use Rattle.calls_laws.specs.LineLaws.{cut_lines, if_any, item_lines, ending_pieces, last_pieces}
+use Rattle.calls_laws.proofs.LinesApart.{both_hold, first_of, rest_of}
+use Rattle.calls_laws.proofs.OneEvent.{lacks, lacks_none, lacks_joined, decimal_lacks, no_colon}
 use Rattle.pickle_further.specs.declared.seek.Sought.TheVariants as sought
 use Rattle.pickle_further.specs.declared.seek.Sought.{Sought}
 use Rattle.pickle_further.specs.declared.way.Pickles.{Pickles}

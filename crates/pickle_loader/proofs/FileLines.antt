@@ -11,8 +11,8 @@ use Rattle.pickle_doc.specs.Fitting.{FitsFrom, IsLast, left_behind}
 use Rattle.pickle_doc.specs.Place.{ops_of, item_at}
 use Rattle.pickle_machine.specs.State.{State, start}
 use Rattle.pickle_machine.specs.Run.{run}
-use Rattle.pickle_show.specs.declared.naming.Detail.TheVariants as detail
-use Rattle.pickle_show.specs.Calls.{is_inside, first_inside, left_at, calls_end}
+use Rattle.pickle_calls.specs.declared.naming.Detail.TheVariants as detail
+use Rattle.pickle_calls.specs.Calls.{is_inside, first_inside, left_at, calls_end}
 use Rattle.pickle_further.specs.declared.way.Pickles.{Pickles}
 use Rattle.pickle_further.specs.Going.{Standing}
 use Rattle.pickle_further.specs.Parts.{ignoring, are_many, standing_first}

@@ -24,10 +24,10 @@ use Rattle.pickle_machine.specs.State.{Marked, State, stack_of, stack_size, obje
 use Rattle.pickle_machine.specs.Move.{deep, last_of, without, under, deeper, cut, change_top, changed, changes_of, object_meets, unless, if_deep, if_target, if_filled, if_paired}
 use Rattle.pickle_machine.specs.Loader.{loose_at, views}
 use Rattle.pickle_machine.proofs.Shown.{length-stack_of}
-use Rattle.pickle_show.specs.declared.event.Event.TheVariants as event
-use Rattle.pickle_show.specs.declared.event.Before.{Before}
-use Rattle.pickle_show.specs.Event.{top_of, before_of, object_is, taken_count, filled_count, touches, into, filled_event}
-use Rattle.pickle_show.proofs.Steps.{top_is, is_there, Same, Grown, after_changes}
+use Rattle.pickle_calls.specs.declared.event.Event.TheVariants as event
+use Rattle.pickle_calls.specs.declared.event.Before.{Before}
+use Rattle.pickle_calls.specs.Event.{top_of, before_of, object_is, taken_count, filled_count, touches, into, filled_event}
+use Rattle.pickle_calls.proofs.Steps.{top_is, is_there, Same, Grown, after_changes}
 use Rattle.pickle_loader.specs.Environment.{PyType, PyList, PyDict, PySet, PyByteArray, Value, Plain, Own, Foreign, Act, SetState, Fill, Method, Reply, Raises, Answers, Unpickler, World}
 use Rattle.pickle_loader.specs.Unpickler.{Step, Ran, item, answered, tell, pop, on_top, pop_mark, put_in, fill_own, fill, fill_none, fills, fill_pairs, then_raises, load_append, load_appends, load_setitem, load_setitems, load_additems, load_build}
 use Rattle.pickle_loader.specs.Listed.{listed_of, acts_listed, taken, objects_in}

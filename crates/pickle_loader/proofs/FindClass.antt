@@ -21,15 +21,15 @@ use Rattle.pickle_doc.specs.Place.{ops_of, offset_of}
 use Rattle.pickle_io.specs.Holes.{in_file}
 use Rattle.pickle_machine.specs.State.{State, start}
 use Rattle.pickle_machine.specs.Run.{run}
-use Rattle.pickle_show.specs.Column.{right_aligned, newline}
-use Rattle.pickle_show.specs.ObjectText.{id_text}
-use Rattle.pickle_show.specs.Brief.{briefs_text}
-use Rattle.pickle_show.specs.declared.naming.Detail.{Detail}
-use Rattle.pickle_show.specs.declared.naming.Naming.{Naming}
-use Rattle.pickle_show.specs.Naming.{Spelled, Pair, NewPair, short_of, may_be_name, by_both, by_module, renamed_by, pair_renamed, turned, naming_after}
-use Rattle.pickle_show.specs.Calls.{naming_on, naming_at}
-use Rattle.pickle_show.specs.LineLaws.{IsRead, two_quoted, import_said}
-use Rattle.pickle_show.proofs.Imports.{line_of_import, line_of_inst}
+use Rattle.pickle_text.specs.Column.{right_aligned, newline}
+use Rattle.pickle_text.specs.Words.{id_text}
+use Rattle.pickle_calls.specs.Brief.{briefs_text}
+use Rattle.pickle_calls.specs.declared.naming.Detail.{Detail}
+use Rattle.pickle_calls.specs.declared.naming.Naming.{Naming}
+use Rattle.pickle_calls.specs.Naming.{Spelled, Pair, NewPair, short_of, may_be_name, by_both, by_module, renamed_by, pair_renamed, turned, naming_after}
+use Rattle.pickle_calls.specs.Calls.{naming_on, naming_at}
+use Rattle.calls_laws.specs.LineLaws.{IsRead, two_quoted, import_said}
+use Rattle.calls_laws.proofs.Imports.{line_of_import, line_of_inst}
 use Rattle.pickle_loader.specs.Listed.{protocol_after, protocol_at}
 use Rattle.pickle_loader.specs.FindClass.{fixed, find_class, said_with, found_said, FoundIsSaid}
 use Rattle.pickle_loader.proofs.Still.{move_to}

@@ -27,14 +27,14 @@ use Rattle.pickle_lenient.specs.declared.taken.Frames.TheVariants as frames
 use Rattle.pickle_lenient.specs.declared.taken.Taken.{Taken}
 use Rattle.pickle_lenient.specs.Lenient.{Lenient, lenient}
 use Rattle.pickle_lenient.specs.Stream.{plain, taken}
-use Rattle.pickle_show.specs.declared.report.Closing.TheVariants as closing
-use Rattle.pickle_show.specs.declared.event.Event.{Event}
-use Rattle.pickle_show.specs.Event.{before_of, made_as, event_of}
-use Rattle.pickle_show.specs.CallsLine.{line_of}
-use Rattle.pickle_show.specs.Manner.{Manner}
-use Rattle.pickle_show.specs.Telling.{for_people}
-use Rattle.pickle_show.specs.Calls.{CountedText, naming_at, entry_at, left_on, left_at, calls_end}
-use Rattle.pickle_show.proofs.Walking.{entry_is}
+use Rattle.pickle_text.specs.declared.closing.Closing.TheVariants as closing
+use Rattle.pickle_calls.specs.declared.event.Event.{Event}
+use Rattle.pickle_calls.specs.Event.{before_of, made_as, event_of}
+use Rattle.pickle_calls.specs.CallsLine.{line_of}
+use Rattle.pickle_calls.specs.Manner.{Manner}
+use Rattle.pickle_calls.specs.Telling.{for_people}
+use Rattle.pickle_calls.specs.Calls.{CountedText, naming_at, entry_at, left_on, left_at, calls_end}
+use Rattle.pickle_calls.proofs.Walking.{entry_is}
 use Rattle.pickle_further.specs.declared.way.Pickles.TheVariants as pickles
 use Rattle.pickle_further.specs.declared.way.Way.{Way}
 use Rattle.pickle_further.specs.Going.{Standing, Going, used_op, moved_so, stopped_after, closing_after, gone_to, gone_by, going, stands_after}

@@ -19,8 +19,8 @@ use Rattle.pickle_lenient.specs.declared.taken.Frames.TheVariants as frames
 use Rattle.pickle_lenient.specs.declared.taken.Taken.{Taken}
 use Rattle.pickle_lenient.specs.Lenient.{Lenient, lenient}
 use Rattle.pickle_lenient.specs.Stream.{first_read, joined, ends_in, refilled, framed, settled, taken_as, within, across, taken}
-use Rattle.pickle_show.specs.declared.naming.Detail.{Detail}
-use Rattle.pickle_show.specs.declared.event.Event.{Event}
+use Rattle.pickle_calls.specs.declared.naming.Detail.{Detail}
+use Rattle.pickle_calls.specs.declared.event.Event.{Event}
 use Rattle.pickle_further.specs.declared.way.Pickles.{Pickles}
 use Rattle.pickle_further.specs.declared.way.Way.{Way}
 use Rattle.pickle_further.specs.Going.{Standing, Going, refused_at, used_op, moved_so, over, gone_to, gone_by, going}

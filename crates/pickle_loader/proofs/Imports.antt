@@ -12,17 +12,17 @@ use Rattle.pickle_ops.specs.declared.row.Filling.TheVariants as filling
 use Rattle.pickle_ops.specs.Object.{Object}
 use Rattle.pickle_io.specs.declared.hole.Hole.{Hole}
 use Rattle.pickle_io.specs.Holes.{in_file}
-use Rattle.pickle_show.specs.Column.{right_aligned}
-use Rattle.pickle_show.specs.ObjectText.{id_text}
-use Rattle.pickle_show.specs.declared.event.Event.{Event}
-use Rattle.pickle_show.specs.declared.event.Event.TheVariants as event
-use Rattle.pickle_show.specs.declared.naming.Naming.{Naming}
-use Rattle.pickle_show.specs.Naming.{Spelled, Pair, NewPair, member_text, said_text, pair_text, pair_renamed, import_text, import_for, names_by, names_text, global_pair, stack_pair}
-use Rattle.pickle_show.specs.Brief.{value_text}
-use Rattle.pickle_show.specs.CallsLine.{inst_text, call_text, call_with_text, obj_text, made_words, made_text, fill_keyword, fill_link, event_text, event_line, line_of}
-use Rattle.pickle_show.specs.LineLaws.{names_of, names_by_kind, two_quoted, member_of, import_said}
-use Rattle.pickle_show.proofs.QuotesApart.{other, quotes_apart}
-use Rattle.pickle_show.proofs.OneEvent.{lacks, lacks_none, apart_first, apart_last, decimal_lacks, no_hash, right_lacks, line_is, About, made_is, state_is, filled_is}
+use Rattle.pickle_text.specs.Column.{right_aligned}
+use Rattle.pickle_text.specs.Words.{id_text}
+use Rattle.pickle_calls.specs.declared.event.Event.{Event}
+use Rattle.pickle_calls.specs.declared.event.Event.TheVariants as event
+use Rattle.pickle_calls.specs.declared.naming.Naming.{Naming}
+use Rattle.pickle_calls.specs.Naming.{Spelled, Pair, NewPair, member_text, said_text, pair_text, pair_renamed, import_text, import_for, names_by, names_text, global_pair, stack_pair}
+use Rattle.pickle_calls.specs.Brief.{value_text}
+use Rattle.pickle_calls.specs.CallsLine.{inst_text, call_text, call_with_text, obj_text, made_words, made_text, fill_keyword, fill_link, event_text, event_line, line_of}
+use Rattle.calls_laws.specs.LineLaws.{names_of, names_by_kind, two_quoted, member_of, import_said}
+use Rattle.calls_laws.proofs.QuotesApart.{other, quotes_apart}
+use Rattle.calls_laws.proofs.OneEvent.{lacks, lacks_none, apart_first, apart_last, decimal_lacks, no_hash, right_lacks, line_is, About, made_is, state_is, filled_is}
 use Rattle.pickle_further.specs.declared.way.Way.{Way}
 use Rattle.pickle_further.specs.Going.{Standing, going}
 use Rattle.pickle_loader.specs.Text.{line_gone}

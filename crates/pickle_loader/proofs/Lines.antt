@@ -14,20 +14,20 @@ use Rattle.pickle_machine.specs.declared.refusal.Refusal.{Refusal}
 use Rattle.pickle_machine.specs.State.{State, start}
 use Rattle.pickle_machine.specs.Move.{fresh, next, outcome}
 use Rattle.pickle_machine.specs.Run.{after, run}
-use Rattle.pickle_show.proofs.Walks.{one_line}
-use Rattle.pickle_show.proofs.Places.{is_reached}
-use Rattle.pickle_show.specs.Column.{right_aligned, newline}
-use Rattle.pickle_show.specs.declared.event.Event.{Event}
-use Rattle.pickle_show.specs.Event.{before_of, event_of}
-use Rattle.pickle_show.specs.CallsLine.{event_text, event_line, line_of, ending_status}
-use Rattle.pickle_show.specs.Listing.{reached}
-use Rattle.pickle_show.specs.Report.{refused_on, closing_status}
-use Rattle.pickle_show.specs.declared.report.Closing.{Closing}
+use Rattle.pickle_text.proofs.Lengths.{one_line}
+use Rattle.pickle_text.proofs.Places.{is_reached}
+use Rattle.pickle_text.specs.Column.{right_aligned, newline}
+use Rattle.pickle_calls.specs.declared.event.Event.{Event}
+use Rattle.pickle_calls.specs.Event.{before_of, event_of}
+use Rattle.pickle_calls.specs.CallsLine.{event_text, event_line, line_of, ending_status}
+use Rattle.pickle_text.specs.Reached.{reached}
+use Rattle.pickle_text.specs.Closing.{refused_on, closing_status}
+use Rattle.pickle_text.specs.declared.closing.Closing.{Closing}
 use Rattle.pickle_io.specs.Holes.{in_file}
-use Rattle.pickle_show.specs.Manner.{Manner}
-use Rattle.pickle_show.specs.declared.naming.Naming.{Naming}
-use Rattle.pickle_show.specs.Telling.{for_people}
-use Rattle.pickle_show.specs.Calls.{naming_at, entry_on, entry_at, first_inside, closing_to, kept_by, end_to, end_from, end_by, calls_end, calls, entry_in, calls_in}
+use Rattle.pickle_calls.specs.Manner.{Manner}
+use Rattle.pickle_calls.specs.declared.naming.Naming.{Naming}
+use Rattle.pickle_calls.specs.Telling.{for_people}
+use Rattle.pickle_calls.specs.Calls.{naming_at, entry_on, entry_at, first_inside, closing_to, kept_by, end_to, end_from, end_by, calls_end, calls, entry_in, calls_in}
 use Rattle.pickle_loader.specs.Environment.{Value, Act, World}
 use Rattle.pickle_loader.specs.Listed.{listed, listed_of, acts_listed, listed_on, listed_at, protocol_at}
 use Rattle.pickle_loader.specs.Laws.{Follows, ActsHaveLines, AllListed, NoLineNoAct}

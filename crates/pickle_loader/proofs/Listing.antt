@@ -16,7 +16,7 @@ use Rattle.pickle_machine.specs.State.{State, start}
 use Rattle.pickle_machine.specs.Move.{begun, fresh, next, next_of, refusal_of, refusal_at}
 use Rattle.pickle_machine.specs.Run.{run}
 use Rattle.pickle_machine.proofs.HeapGrowth.{fresh_heap}
-use Rattle.pickle_show.specs.Event.{before_of, event_of}
+use Rattle.pickle_calls.specs.Event.{before_of, event_of}
 use Rattle.pickle_loader.specs.Environment.{Value, Plain, Act, Unpickler, World}
 use Rattle.pickle_loader.specs.Unpickler.{Step, Ran, Stopped, Raised}
 use Rattle.pickle_loader.specs.Dispatch.{dispatch, load_op, Loaded, Going, Ended, Failed, loaded, new_unpickler, load_item, load}

@@ -1,7 +1,7 @@
 -- The search for the first item that loses bytes.
 use Rattle.std.proofs.Common.{◌≡◌, ℕ, zero, suc, Bool, true, false, Option, Some, None, refl, sym, ap, ◌∙◌, arith}
 use Rattle.std.specs.Prelude.{is_some, if◌then◌else◌}
-use Rattle.pickle_show.specs.declared.report.Closing.{Closing}
+use Rattle.pickle_text.specs.declared.closing.Closing.{Closing}
 use Rattle.pickle_further.specs.declared.seek.Sought.TheVariants as sought
 use Rattle.pickle_further.specs.declared.way.Way.{Way}
 use Rattle.pickle_further.specs.Going.{Standing, going, stands_after, search}

@@ -15,9 +15,9 @@ use Rattle.pickle_lenient.specs.Row.{is_far}
 use Rattle.pickle_lenient.specs.Stream.{taken}
 use Rattle.pickle_doc.specs.declared.fault.TailFault.TheVariants as tail
 use Rattle.pickle_ops.specs.declared.fault.FrontFault.TheVariants as fault
-use Rattle.pickle_show.specs.declared.naming.Detail.{Detail}
-use Rattle.pickle_show.specs.declared.naming.Detail.TheVariants as detail
-use Rattle.pickle_show.specs.declared.report.Closing.TheVariants as closing
+use Rattle.pickle_calls.specs.declared.naming.Detail.{Detail}
+use Rattle.pickle_calls.specs.declared.naming.Detail.TheVariants as detail
+use Rattle.pickle_text.specs.declared.closing.Closing.TheVariants as closing
 use Rattle.pickle_further.specs.declared.way.Pickles.TheVariants as pickles
 use Rattle.pickle_further.specs.declared.way.Spot.{Spot}
 use Rattle.pickle_further.specs.declared.way.Way.{Way}

@@ -19,7 +19,7 @@ use Rattle.pickle_machine.specs.declared.refusal.Refusal.{Refusal}
 use Rattle.pickle_machine.specs.declared.refusal.Refusal.TheVariants as refusal
 use Rattle.pickle_machine.specs.State.{State}
 use Rattle.pickle_machine.specs.Move.{deep, last_of, without, cut, push, put_on, put, memo_at, unless, refusal_of, next_of, taking_refusal, cutting_refusal, if_deep}
-use Rattle.pickle_show.specs.Event.{made_event, event_of, before_of}
+use Rattle.pickle_calls.specs.Event.{made_event, event_of, before_of}
 use Rattle.pickle_loader.specs.Environment.{PyType, PyTuple, PyList, PyDict, PyFrozenSet, Value, Plain, Own, is_elsewhere, Line, Given, Act, Make, Find, Extension, Call, New, NewEx, Instance, Persist, NextBuffer, Method, Reply, Raises, Answers, Unpickler, World}
 use Rattle.pickle_loader.specs.Unpickler.{Step, Ran, Stopped, Raised, item, append, answered, ask, get, tell, acted, make, got, if_able, can_call, can_call_with, instantiated, is_str, load_proto, load_frame, load_binpersid, load_literal, load_next_buffer, load_tuple, load_tuple_of, load_frozenset, load_list, load_dict, load_inst, load_obj, load_newobj, load_newobj_ex, load_stack_global, load_ext, load_reduce, load_pop, load_pop_mark, load_dup, load_get, load_put, load_memoize, load_mark, load_stop, pop, pop_mark, on_top}
 use Rattle.pickle_loader.specs.Listed.{listed_of, making, acts_listed}

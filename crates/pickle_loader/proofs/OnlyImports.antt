@@ -2,9 +2,9 @@
 use Rattle.std.proofs.Common.{ℕ, Bool, List, Option}
 use Rattle.std.specs.Prelude.{codes}
 use Rattle.pickle_io.specs.Text.{◌⧺◌}
-use Rattle.pickle_show.specs.ObjectText.{id_text}
-use Rattle.pickle_show.specs.Naming.{NewPair}
-use Rattle.pickle_show.specs.LineLaws.{import_said}
+use Rattle.pickle_text.specs.Words.{id_text}
+use Rattle.pickle_calls.specs.Naming.{NewPair}
+use Rattle.calls_laws.specs.LineLaws.{import_said}
 use Rattle.pickle_loader.specs.EventLine.{BeginsWithOffset}
 use Rattle.pickle_loader.specs.Import.{import_line, OnlyImportsSayImport}
 use Rattle.pickle_loader.proofs.EventLines.{column_begins, no_other}

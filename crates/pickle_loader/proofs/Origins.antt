@@ -14,7 +14,7 @@ use Rattle.pickle_ops.specs.Class.{class_meets, is_any}
 use Rattle.pickle_ops.specs.Kind.{class_of, is_opaque, meets}
 use Rattle.pickle_machine.specs.Move.{object_meets}
 use Rattle.pickle_machine.specs.Loader.{opaque_at, views, view_at, loose_at, keyed_at, iterates as can_iterate, iterates_at, is_string, string_at}
-use Rattle.pickle_show.proofs.Steps.{not_there}
+use Rattle.pickle_calls.proofs.Steps.{not_there}
 use Rattle.pickle_loader.specs.Environment.{PyType, PyStr, PyTuple, PyList, PyDict, PySet, PyFrozenSet, PyByteArray, PyMemoryView, Value, Plain, Own, Foreign, is_elsewhere, Act, Unpickler, World}
 use Rattle.pickle_loader.specs.Unpickler.{Raised, item, iterates, has_keys, has_memory, is_str, viewed, fill, fill_own}
 use Rattle.pickle_loader.specs.Values.{origin, IsFrom}

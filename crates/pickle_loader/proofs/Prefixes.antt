@@ -16,8 +16,8 @@ use Rattle.pickle_doc.specs.Place.{ops_of, item_at}
 use Rattle.pickle_doc.proofs.Units.{document_fits, length_bytes}
 use Rattle.pickle_machine.specs.State.{State, start}
 use Rattle.pickle_machine.specs.Run.{run}
-use Rattle.pickle_show.specs.Listing.{reached}
-use Rattle.pickle_show.specs.Calls.{is_inside, or_here, left_on, left_at, first_inside, end_to, end_from, calls_end}
+use Rattle.pickle_text.specs.Reached.{reached}
+use Rattle.pickle_calls.specs.Calls.{is_inside, or_here, left_on, left_at, first_inside, end_to, end_from, calls_end}
 use Rattle.pickle_loader.specs.Reader.{Reader, fetch, fetched, Fetch, behind, opened}
 use Rattle.pickle_loader.proofs.Fetching.{InFrame, InFile, at_side, fetches_op, stays_in_file, stays_in_frame, leaves_frame}
 use Rattle.pickle_loader.proofs.Cuts.{drop_zero, by_last}

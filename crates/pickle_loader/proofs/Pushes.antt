@@ -15,9 +15,9 @@ use Rattle.pickle_ops.specs.Kind.{class_of, is_opaque}
 use Rattle.pickle_machine.specs.State.{State}
 use Rattle.pickle_machine.specs.Move.{push}
 use Rattle.pickle_machine.proofs.Shown.{last_of_more}
-use Rattle.pickle_show.specs.declared.event.Event.TheVariants as event
-use Rattle.pickle_show.specs.Event.{made_event, made_as, is_shown, is_view}
-use Rattle.pickle_show.proofs.Steps.{some_same, none_made}
+use Rattle.pickle_calls.specs.declared.event.Event.TheVariants as event
+use Rattle.pickle_calls.specs.Event.{made_event, made_as, is_shown, is_view}
+use Rattle.pickle_calls.proofs.Steps.{some_same, none_made}
 use Rattle.pickle_loader.specs.Environment.{PyType, PyTuple, PyList, PyDict, PySet, PyFrozenSet, PyByteArray, PyMemoryView, Value, Plain, Own, Foreign, Act, Make, View, Reply, Raises, Answers, World}
 use Rattle.pickle_loader.specs.Unpickler.{Step, Ran, Stopped, Raised, item, append, answered, has_memory}
 use Rattle.pickle_loader.specs.Listed.{listed_of, making, acts_listed}

@@ -13,9 +13,9 @@ use Rattle.pickle_machine.specs.Loader.{asks_less}
 use Rattle.pickle_machine.specs.LoaderLaws.{one_move}
 use Rattle.pickle_machine.specs.Run.{run}
 use Rattle.pickle_machine.proofs.LoaderRows.{loaders_take_moves}
-use Rattle.pickle_show.specs.declared.naming.Detail.{Detail}
-use Rattle.pickle_show.specs.declared.report.Closing.{Closing}
-use Rattle.pickle_show.specs.declared.report.Closing.TheVariants as closing
+use Rattle.pickle_calls.specs.declared.naming.Detail.{Detail}
+use Rattle.pickle_text.specs.declared.closing.Closing.{Closing}
+use Rattle.pickle_text.specs.declared.closing.Closing.TheVariants as closing
 use Rattle.pickle_further.specs.declared.way.Pickles.{Pickles}
 use Rattle.pickle_further.specs.declared.way.Pickles.TheVariants as pickles
 use Rattle.pickle_further.specs.Going.{Standing, Going, stops, stopped_after, gone_to, going, stands_after}

@@ -32,13 +32,13 @@ use Rattle.pickle_lenient.specs.declared.taken.Frames.TheVariants as frames
 use Rattle.pickle_lenient.specs.declared.taken.Taken.{Taken}
 use Rattle.pickle_lenient.specs.Lenient.{lenient_at, lenient}
 use Rattle.pickle_lenient.specs.Stream.{plain, taken}
-use Rattle.pickle_show.specs.declared.event.Event.{Event}
-use Rattle.pickle_show.specs.declared.event.Before.{Before}
-use Rattle.pickle_show.specs.declared.naming.Naming.{Naming}
-use Rattle.pickle_show.specs.Event.{before_of, event_of}
-use Rattle.pickle_show.specs.Naming.{naming_after}
-use Rattle.pickle_show.specs.Calls.{naming_on, naming_at}
-use Rattle.pickle_show.specs.declared.naming.Detail.{Detail}
+use Rattle.pickle_calls.specs.declared.event.Event.{Event}
+use Rattle.pickle_calls.specs.declared.event.Before.{Before}
+use Rattle.pickle_calls.specs.declared.naming.Naming.{Naming}
+use Rattle.pickle_calls.specs.Event.{before_of, event_of}
+use Rattle.pickle_calls.specs.Naming.{naming_after}
+use Rattle.pickle_calls.specs.Calls.{naming_on, naming_at}
+use Rattle.pickle_calls.specs.declared.naming.Detail.{Detail}
 use Rattle.pickle_further.specs.declared.way.Pickles.{Pickles}
 use Rattle.pickle_further.specs.declared.way.Pickles.TheVariants as pickles
 use Rattle.pickle_further.specs.declared.way.Way.{Way}

@@ -21,8 +21,8 @@ use Rattle.pickle_machine.specs.declared.loader.LoaderMove.{LoaderMove}
 use Rattle.pickle_machine.specs.State.{Marked, State}
 use Rattle.pickle_machine.specs.Move.{unless, deep, under, without, cut, push, refusal_of, next_of, outcome}
 use Rattle.pickle_machine.specs.Loader.{asks_less, is_odd, fill_when, fill_of, ends_odd, is_inst, import_move, fill_move, move_as}
-use Rattle.pickle_show.specs.declared.event.Event.TheVariants as event
-use Rattle.pickle_show.specs.Event.{made_event}
+use Rattle.pickle_calls.specs.declared.event.Event.TheVariants as event
+use Rattle.pickle_calls.specs.Event.{made_event}
 use Rattle.pickle_further.specs.Going.{used_op, then_as, moved_so}
 use Rattle.pickle_loader.specs.Environment.{PyType, Value, Plain, Own, Foreign, Line, Act, Find, Instance, Fill, Reply, Raises, Answers, Unpickler}
 use Rattle.pickle_loader.specs.Unpickler.{Step, Ran, Stopped, Raised, answered, acted, get, fill_own, fills, fill_pairs, then_raises, to_mark, pop_mark, on_top}

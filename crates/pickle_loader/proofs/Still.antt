@@ -19,7 +19,7 @@ use Rattle.pickle_machine.specs.State.{State, start}
 use Rattle.pickle_machine.specs.Move.{deep, changes_of, push, last_of, without, cut, next_of, next, begun, fresh, outcome, refusal_at, object_meets}
 use Rattle.pickle_machine.proofs.HeapGrowth.{changed_length, push_length}
 use Rattle.pickle_machine.specs.Run.{after, run}
-use Rattle.pickle_show.proofs.Runs.{run_after}
+use Rattle.pickle_text.proofs.Runs.{run_after}
 
 pub record Still (s t : State) : Type 0 where
   pub many : t.many ≡ s.many

@@ -10,7 +10,7 @@ use Rattle.pickle_doc.specs.DocUnit.{DocUnit, Loose, Frame, is_stop, is_frame, i
 use Rattle.pickle_doc.specs.Document.{Contents, OnlyLastStops, OnlyLastOpen, IsPlain, IsUnit, IsFormed, open_of, items_of, document_bytes}
 use Rattle.pickle_doc.specs.Fitting.{left_behind}
 use Rattle.pickle_doc.specs.Place.{ops_of, item_at}
-use Rattle.pickle_show.specs.Calls.{is_inside, or_here, left_on, left_at, first_inside}
+use Rattle.pickle_calls.specs.Calls.{is_inside, or_here, left_on, left_at, first_inside}
 use Rattle.pickle_loader.specs.Reader.{StopsEndFrames}
 use Rattle.pickle_doc.proofs.Opcodes.{number-frame}
 use Rattle.pickle_doc.proofs.Units.{length_bytes, sizes-append}

@@ -20,7 +20,7 @@ use Rattle.pickle_lenient.specs.declared.taken.Taken.{Taken}
 use Rattle.pickle_lenient.specs.Lenient.{lenient}
 use Rattle.pickle_lenient.specs.Stream.{first_read, joined, ends_in, refilled, framed, settled, within, across, buffered, taken}
 use Rattle.pickle_lenient.proofs.Behind.{lenient_more, op_ends}
-use Rattle.pickle_show.specs.Calls.{is_inside, first_inside, left_on, left_at}
+use Rattle.pickle_calls.specs.Calls.{is_inside, first_inside, left_on, left_at}
 use Rattle.pickle_loader.proofs.Cuts.{drop_zero}
 use Rattle.pickle_loader.proofs.Readings.{rest_is}
 use Rattle.pickle_loader.proofs.Stops.{none_before}

@@ -19,7 +19,7 @@ use Rattle.pickle_machine.specs.declared.loader.Fill.{Fill as Goes}
 use Rattle.pickle_machine.specs.State.{State}
 use Rattle.pickle_machine.specs.Move.{deep, under, without, cut, last_of}
 use Rattle.pickle_machine.specs.Loader.{views, view_at, opaque_at, parts_in, is_odd, fills as puts, fill_when, fill_of, ends_odd}
-use Rattle.pickle_show.specs.declared.event.Event.TheVariants as event
+use Rattle.pickle_calls.specs.declared.event.Event.TheVariants as event
 use Rattle.pickle_loader.specs.Environment.{Reply, Raises, Answers, PyMemoryView, Value, Own, Foreign, Act, Fill, Unpickler}
 use Rattle.pickle_loader.specs.Unpickler.{Step, Ran, Raised, item, answered, pop, on_top, pop_mark, fill, fills, fill_pairs, then_raises}
 use Rattle.pickle_loader.specs.Dispatch.{dispatch, load_op}

@@ -15,8 +15,8 @@ use Rattle.pickle_ops.specs.Kind.{class_of, meets}
 use Rattle.pickle_machine.specs.declared.refusal.Refusal.TheVariants as refusal
 use Rattle.pickle_machine.specs.State.{State}
 use Rattle.pickle_machine.specs.Move.{deep, last_of, without, push, object_meets, if_viewable}
-use Rattle.pickle_show.specs.Event.{made_event}
-use Rattle.pickle_show.proofs.Steps.{is_there}
+use Rattle.pickle_calls.specs.Event.{made_event}
+use Rattle.pickle_calls.proofs.Steps.{is_there}
 use Rattle.pickle_loader.specs.Environment.{PyType, PyMemoryView, Value, Own, Foreign, Act, Make, View, Reply, Raises, Answers, World}
 use Rattle.pickle_loader.specs.Unpickler.{Step, Ran, Raised, item, answered, replaced, has_memory, viewed, load_readonly_buffer}
 use Rattle.pickle_loader.specs.Listed.{listed_of, acts_listed}

@@ -12,23 +12,22 @@ use Rattle.pickle_io.specs.declared.hole.Hole.{Hole}
 use Rattle.pickle_io.specs.Holes.{in_file}
 use Rattle.pickle_lenient.specs.declared.taken.Frames.{Frames}
 use Rattle.pickle_lenient.specs.declared.taken.Frames.TheVariants as frames
-use Rattle.pickle_show.specs.declared.report.Closing.{Closing}
-use Rattle.pickle_show.specs.declared.report.Closing.TheVariants as closing
-use Rattle.pickle_show.specs.declared.end.Ending.{Ending}
-use Rattle.pickle_show.specs.declared.end.Ending.TheVariants as ending
-use Rattle.pickle_show.specs.Begins.{begins_text}
-use Rattle.pickle_show.specs.Report.{closing_line}
-use Rattle.pickle_show.specs.Line.{kept_line}
-use Rattle.pickle_show.specs.Manner.{Manner, closing_in, ending_in}
-use Rattle.pickle_show.specs.Output.{Output}
-use Rattle.pickle_show.specs.CallsLine.{totals_line, unsure_line, ending_lines, calls_end_text}
-use Rattle.pickle_show.specs.Telling.{for_people}
-use Rattle.pickle_show.specs.Calls.{CallsEnd, entry_at, entries, calls, calls_end, entries_in}
-use Rattle.pickle_show.specs.ObjectText.{id_text}
-use Rattle.pickle_show.specs.LineLaws.{before_first, cut_lines, if_any, item_lines, last_pieces}
-use Rattle.pickle_show.proofs.Walking.{text-suc}
-use Rattle.pickle_show.proofs.WithinLines.{Stays, then_stays, decimal_stays, id_stays}
-use Rattle.pickle_show.proofs.TextLines.{IsLine, HasLine, line_of_body, cut_line, any_line, cut_any, cut_last, cut_end, calls_text, end_text, line_has, entry_has, totals_is_line, refused_is_line, fault_is_line, closing_has, kept_has, unsure_is_line, begins_has, text_is_its_lines}
+use Rattle.pickle_text.specs.declared.closing.Closing.{Closing}
+use Rattle.pickle_text.specs.declared.closing.Closing.TheVariants as closing
+use Rattle.pickle_calls.specs.declared.end.Ending.{Ending}
+use Rattle.pickle_calls.specs.declared.end.Ending.TheVariants as ending
+use Rattle.pickle_calls.specs.Begins.{begins_text}
+use Rattle.pickle_text.specs.Closing.{closing_line, kept_line}
+use Rattle.pickle_calls.specs.Manner.{Manner, closing_in, ending_in}
+use Rattle.pickle_text.specs.Output.{Output}
+use Rattle.pickle_calls.specs.CallsLine.{totals_line, unsure_line, ending_lines, calls_end_text}
+use Rattle.pickle_calls.specs.Telling.{for_people}
+use Rattle.pickle_calls.specs.Calls.{CallsEnd, entry_at, entries, calls, calls_end, entries_in}
+use Rattle.pickle_text.specs.Words.{id_text}
+use Rattle.calls_laws.specs.LineLaws.{before_first, cut_lines, if_any, item_lines, last_pieces}
+use Rattle.pickle_calls.proofs.Walking.{text-suc}
+use Rattle.calls_laws.proofs.WithinLines.{Stays, then_stays, decimal_stays, id_stays}
+use Rattle.calls_laws.proofs.TextLines.{IsLine, HasLine, line_of_body, cut_line, any_line, cut_any, cut_last, cut_end, calls_text, end_text, line_has, entry_has, totals_is_line, refused_is_line, fault_is_line, closing_has, kept_has, unsure_is_line, begins_has, text_is_its_lines}
 use Rattle.pickle_further.specs.declared.seek.Sought.TheVariants as sought
 use Rattle.pickle_further.specs.declared.way.Pickles.{Pickles}
 use Rattle.pickle_further.specs.declared.way.Pickles.TheVariants as pickles

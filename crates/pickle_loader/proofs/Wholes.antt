@@ -26,7 +26,7 @@ use Rattle.pickle_machine.specs.State.{Marked, State, start}
 use Rattle.pickle_machine.specs.Move.{deep, last_of, without, under, deeper, cut, put_on, push, changed, change_top, changes_of, put, memo_at, unless, object_meets, if_viewable, refusal_of, next_of, begun, fresh}
 use Rattle.pickle_machine.specs.Loader.{cleared}
 use Rattle.pickle_machine.proofs.HeapGrowth.{changed_length, push_length}
-use Rattle.pickle_show.proofs.Steps.{is_there, get_pushed, Same, Grown, after_changes}
+use Rattle.pickle_calls.proofs.Steps.{is_there, get_pushed, Same, Grown, after_changes}
 use Rattle.pickle_loader.specs.Whole.{AreThere, AreMarked, AreKept, IsSeen, IsWhole}
 use Rattle.pickle_loader.proofs.Images.{within_le}
 use Rattle.pickle_loader.proofs.Methods.{passes}

@@ -17,8 +17,8 @@ use Rattle.pickle_machine.specs.State.{State}
 use Rattle.pickle_machine.specs.Move.{refusal_of, without, cut}
 use Rattle.pickle_machine.specs.Loader.{asks_less, fill_of, ends_odd, is_inst, loader_move, move_as}
 use Rattle.pickle_machine.specs.declared.loader.LoaderMove.{LoaderMove}
-use Rattle.pickle_show.specs.declared.event.Event.TheVariants as event
-use Rattle.pickle_show.specs.Event.{before_of, event_of}
+use Rattle.pickle_calls.specs.declared.event.Event.TheVariants as event
+use Rattle.pickle_calls.specs.Event.{before_of, event_of}
 use Rattle.pickle_further.specs.Going.{used_op, moved_so, event_by}
 use Rattle.pickle_loader.specs.Environment.{Value, Act, Unpickler, World}
 use Rattle.pickle_loader.specs.Unpickler.{Step, Ran, Stopped, Raised, item}

@@ -6,10 +6,10 @@ use Rattle.pickle_ops.specs.Spelling.{Operation}
 use Rattle.pickle_machine.specs.State.{State}
 use Rattle.pickle_lenient.specs.declared.taken.Frames.{Frames}
 use Rattle.pickle_lenient.specs.declared.taken.Frames.TheVariants as frames
-use Rattle.pickle_show.specs.LineLaws.{cut_lines}
-use Rattle.pickle_show.specs.Manner.{Manner}
-use Rattle.pickle_show.specs.Output.{Output}
-use Rattle.pickle_show.specs.declared.naming.Detail.TheVariants as detail
+use Rattle.calls_laws.specs.LineLaws.{cut_lines}
+use Rattle.pickle_calls.specs.Manner.{Manner}
+use Rattle.pickle_text.specs.Output.{Output}
+use Rattle.pickle_calls.specs.declared.naming.Detail.TheVariants as detail
 use Rattle.pickle_further.specs.declared.way.Pickles.{Pickles}
 use Rattle.pickle_further.specs.declared.way.Pickles.TheVariants as pickles
 use Rattle.pickle_further.specs.declared.way.Way.{Way}

@@ -13,9 +13,9 @@ use Rattle.pickle_ops.specs.Argument.{integer_of}
 use Rattle.pickle_doc.specs.Document.{Contents, ReadsAs}
 use Rattle.pickle_lenient.specs.declared.taken.Taken.{Taken}
 use Rattle.pickle_lenient.specs.Stream.{taken}
-use Rattle.pickle_show.specs.Manner.{Manner}
-use Rattle.pickle_show.specs.declared.naming.Detail.TheVariants as detail
-use Rattle.pickle_show.specs.Calls.{calls}
+use Rattle.pickle_calls.specs.Manner.{Manner}
+use Rattle.pickle_calls.specs.declared.naming.Detail.TheVariants as detail
+use Rattle.pickle_calls.specs.Calls.{calls}
 use Rattle.pickle_further.specs.declared.way.Pickles.{Pickles}
 use Rattle.pickle_further.specs.declared.way.Pickles.TheVariants as pickles
 use Rattle.pickle_further.specs.declared.way.Way.{Way}

@@ -4,11 +4,11 @@ use Rattle.std.specs.Prelude.{◌≡◌, ℕ, ◌^◌, ◌<◌, List, slice_get,
 use Rattle.pickle_ops.specs.declared.kind.Kind.{Kind}
 use Rattle.pickle_ops.specs.declared.kind.Kind.TheVariants as kind
 use Rattle.pickle_ops.specs.Object.{Object}
-use Rattle.pickle_show.specs.declared.event.Event.TheVariants as event
-use Rattle.pickle_show.specs.declared.naming.Naming.{Naming}
-use Rattle.pickle_show.specs.Event.{part}
-use Rattle.pickle_show.specs.Brief.{name_text}
-use Rattle.pickle_show.specs.CallsLine.{event_line}
+use Rattle.pickle_calls.specs.declared.event.Event.TheVariants as event
+use Rattle.pickle_calls.specs.declared.naming.Naming.{Naming}
+use Rattle.pickle_calls.specs.Event.{part}
+use Rattle.pickle_calls.specs.Brief.{name_text}
+use Rattle.pickle_calls.specs.CallsLine.{event_line}
 
 -- the words for what REDUCE, OBJ, NEWOBJ and NEWOBJ_EX call
 abbrev pub callee_said : Naming → List Object → Kind → List ℕ → Option (List ℕ)

@@ -11,17 +11,16 @@ use Rattle.pickle_machine.specs.State.{State, start}
 use Rattle.pickle_machine.specs.Run.{run}
 use Rattle.pickle_lenient.specs.declared.taken.Frames.{Frames}
 use Rattle.pickle_io.specs.declared.hole.Hole.{Hole}
-use Rattle.pickle_show.specs.declared.event.Event.{Event}
-use Rattle.pickle_show.specs.declared.naming.Naming.{Naming}
-use Rattle.pickle_show.specs.declared.report.Closing.{Closing}
-use Rattle.pickle_show.specs.Column.{blanks}
-use Rattle.pickle_show.specs.Begins.{begins_text}
-use Rattle.pickle_show.specs.Line.{kept_line}
-use Rattle.pickle_show.specs.Report.{closing_line}
-use Rattle.pickle_show.specs.Manner.{Manner}
-use Rattle.pickle_show.specs.Output.{Output}
-use Rattle.pickle_show.specs.CallsLine.{event_line, totals_line, unsure_line}
-use Rattle.pickle_show.specs.LineLaws.{cut_lines}
+use Rattle.pickle_calls.specs.declared.event.Event.{Event}
+use Rattle.pickle_calls.specs.declared.naming.Naming.{Naming}
+use Rattle.pickle_text.specs.declared.closing.Closing.{Closing}
+use Rattle.pickle_text.specs.Column.{blanks}
+use Rattle.pickle_calls.specs.Begins.{begins_text}
+use Rattle.pickle_text.specs.Closing.{kept_line, closing_line}
+use Rattle.pickle_calls.specs.Manner.{Manner}
+use Rattle.pickle_text.specs.Output.{Output}
+use Rattle.pickle_calls.specs.CallsLine.{event_line, totals_line, unsure_line}
+use Rattle.calls_laws.specs.LineLaws.{cut_lines}
 use Rattle.pickle_further.specs.declared.way.Pickles.{Pickles}
 use Rattle.pickle_further.specs.declared.way.Way.{Way}
 use Rattle.pickle_further.specs.Going.{Standing, going}

@@ -10,14 +10,14 @@ use Rattle.pickle_doc.specs.Document.{Contents}
 use Rattle.pickle_doc.specs.Place.{ops_of, offset_of}
 use Rattle.pickle_io.specs.Holes.{in_file}
 use Rattle.pickle_machine.specs.State.{State}
-use Rattle.pickle_show.specs.Column.{right_aligned, newline}
-use Rattle.pickle_show.specs.ObjectText.{id_text}
-use Rattle.pickle_show.specs.Brief.{briefs_text}
-use Rattle.pickle_show.specs.Manner.{Manner}
-use Rattle.pickle_show.specs.Naming.{Pair}
-use Rattle.pickle_show.specs.Calls.{naming_at, entry_at}
-use Rattle.pickle_show.specs.CallsLaws.{IsStep}
-use Rattle.pickle_show.specs.LineLaws.{names_of, inst_names, IsRead, two_quoted}
+use Rattle.pickle_text.specs.Column.{right_aligned, newline}
+use Rattle.pickle_text.specs.Words.{id_text}
+use Rattle.pickle_calls.specs.Brief.{briefs_text}
+use Rattle.pickle_calls.specs.Manner.{Manner}
+use Rattle.pickle_calls.specs.Naming.{Pair}
+use Rattle.pickle_calls.specs.Calls.{naming_at, entry_at}
+use Rattle.calls_laws.specs.CallsLaws.{IsStep}
+use Rattle.calls_laws.specs.LineLaws.{names_of, inst_names, IsRead, two_quoted}
 use Rattle.pickle_loader.specs.Listed.{protocol_at}
 
 -- if self.proto < 3 and self.fix_imports: another import than the names say, where a table has one

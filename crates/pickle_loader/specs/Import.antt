@@ -6,13 +6,13 @@ use Rattle.pickle_names.specs.Value.{decode_all}
 use Rattle.pickle_ops.specs.Object.{Object}
 use Rattle.pickle_io.specs.declared.hole.Hole.{Hole}
 use Rattle.pickle_io.specs.Holes.{in_file}
-use Rattle.pickle_show.specs.declared.event.Event.TheVariants as event
-use Rattle.pickle_show.specs.Column.{right_aligned, newline}
-use Rattle.pickle_show.specs.ObjectText.{id_text}
-use Rattle.pickle_show.specs.Manner.{Manner}
-use Rattle.pickle_show.specs.Naming.{Spelled, Pair, NewPair}
-use Rattle.pickle_show.specs.Output.{Output}
-use Rattle.pickle_show.specs.LineLaws.{cut_lines, names_of, import_said}
+use Rattle.pickle_calls.specs.declared.event.Event.TheVariants as event
+use Rattle.pickle_text.specs.Column.{right_aligned, newline}
+use Rattle.pickle_text.specs.Words.{id_text}
+use Rattle.pickle_calls.specs.Manner.{Manner}
+use Rattle.pickle_calls.specs.Naming.{Spelled, Pair, NewPair}
+use Rattle.pickle_text.specs.Output.{Output}
+use Rattle.calls_laws.specs.LineLaws.{cut_lines, names_of, import_said}
 use Rattle.pickle_further.specs.declared.way.Pickles.{Pickles}
 use Rattle.pickle_further.specs.declared.way.Way.{Way}
 use Rattle.pickle_further.specs.Going.{Standing, going}

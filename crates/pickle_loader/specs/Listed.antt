@@ -16,9 +16,9 @@ use Rattle.pickle_ops.specs.Row.{row_of}
 use Rattle.pickle_machine.specs.State.{State, start, stack_of, stack_size}
 use Rattle.pickle_machine.specs.Move.{fresh}
 use Rattle.pickle_machine.specs.Run.{run}
-use Rattle.pickle_show.specs.declared.event.Event.{Event}
-use Rattle.pickle_show.specs.declared.event.Event.TheVariants as event
-use Rattle.pickle_show.specs.Event.{before_of, event_of}
+use Rattle.pickle_calls.specs.declared.event.Event.{Event}
+use Rattle.pickle_calls.specs.declared.event.Event.TheVariants as event
+use Rattle.pickle_calls.specs.Event.{before_of, event_of}
 use Rattle.pickle_loader.specs.Environment.{Value, is_elsewhere, Line, Given, Act, Make, Find, Extension, Call, New, NewEx, Instance, SetState, Fill, Persist, NextBuffer, View, Method}
 use Rattle.pickle_loader.specs.Unpickler.{item}
 

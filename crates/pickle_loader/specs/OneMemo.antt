@@ -3,8 +3,8 @@
 -- memo stays.
 use Rattle.std.specs.Prelude.{◌≡◌, ℕ, List}
 use Rattle.pickle_lenient.specs.declared.taken.Frames.{Frames}
-use Rattle.pickle_show.specs.Manner.{Manner}
-use Rattle.pickle_show.specs.Output.{Output}
+use Rattle.pickle_calls.specs.Manner.{Manner}
+use Rattle.pickle_text.specs.Output.{Output}
 use Rattle.pickle_further.specs.declared.way.Pickles.TheVariants as pickles
 use Rattle.pickle_further.specs.Parts.{ignoring, standing_first}
 use Rattle.pickle_further.specs.CallsText.{IsCallsText}

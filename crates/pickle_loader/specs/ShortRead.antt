@@ -13,8 +13,8 @@ use Rattle.pickle_ops.specs.Table.{form_of, opcode_of}
 use Rattle.pickle_ops.specs.Shape.{is_negative}
 use Rattle.pickle_ops.specs.Spelling.{Operation}
 use Rattle.pickle_lenient.specs.declared.taken.Frames.{Frames}
-use Rattle.pickle_show.specs.Manner.{Manner}
-use Rattle.pickle_show.specs.Output.{Output}
+use Rattle.pickle_calls.specs.Manner.{Manner}
+use Rattle.pickle_text.specs.Output.{Output}
 use Rattle.pickle_further.specs.declared.way.Pickles.{Pickles}
 use Rattle.pickle_further.specs.CallsText.{IsCallsText}
 use Rattle.pickle_loader.specs.Environment.{Value, Act, World}

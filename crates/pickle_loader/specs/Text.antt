@@ -10,14 +10,14 @@ use Rattle.pickle_io.specs.declared.hole.Hole.{Hole}
 use Rattle.pickle_io.specs.Holes.{in_file}
 use Rattle.pickle_lenient.specs.declared.taken.Frames.{Frames}
 use Rattle.pickle_lenient.specs.declared.taken.Frames.TheVariants as frames
-use Rattle.pickle_show.specs.declared.naming.Detail.{Detail}
-use Rattle.pickle_show.specs.declared.end.Ending.TheVariants as ending
-use Rattle.pickle_show.specs.Begins.{begins_text}
-use Rattle.pickle_show.specs.Manner.{Manner, closing_in, ending_in}
-use Rattle.pickle_show.specs.Output.{Output}
-use Rattle.pickle_show.specs.CallsLine.{line_of, totals_line}
-use Rattle.pickle_show.specs.Calls.{CallsEnd, calls_end}
-use Rattle.pickle_show.specs.LineLaws.{cut_lines, if_any, item_lines, ending_pieces, last_pieces}
+use Rattle.pickle_calls.specs.declared.naming.Detail.{Detail}
+use Rattle.pickle_calls.specs.declared.end.Ending.TheVariants as ending
+use Rattle.pickle_calls.specs.Begins.{begins_text}
+use Rattle.pickle_calls.specs.Manner.{Manner, closing_in, ending_in}
+use Rattle.pickle_text.specs.Output.{Output}
+use Rattle.pickle_calls.specs.CallsLine.{line_of, totals_line}
+use Rattle.pickle_calls.specs.Calls.{CallsEnd, calls_end}
+use Rattle.calls_laws.specs.LineLaws.{cut_lines, if_any, item_lines, ending_pieces, last_pieces}
 use Rattle.pickle_further.specs.declared.seek.Sought.TheVariants as sought
 use Rattle.pickle_further.specs.declared.way.Pickles.{Pickles}
 use Rattle.pickle_further.specs.declared.way.Pickles.TheVariants as pickles

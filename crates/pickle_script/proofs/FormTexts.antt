@@ -3,9 +3,9 @@ use Rattle.std.proofs.Common.{◌≡◌, ℕ, List, false, Ok, Err, Option, sym,
 use Rattle.std.specs.Prelude.{Result, IfErr, IsErrAnd}
 use Rattle.pickle_io.specs.Device.{Told, Wrote, Broke}
 use Rattle.pickle_doc.specs.Document.{Contents}
-use Rattle.pickle_show.specs.Output.{Output, Completes, Breaks}
-use Rattle.pickle_show.specs.declared.stop.TextStop.{TextStop}
-use Rattle.pickle_show.specs.declared.stop.TextStop.TheVariants as stop
+use Rattle.pickle_text.specs.Output.{Output, Completes, Breaks}
+use Rattle.pickle_text.specs.declared.stop.TextStop.{TextStop}
+use Rattle.pickle_text.specs.declared.stop.TextStop.TheVariants as stop
 use Rattle.pickle_form.specs.declared.reason.Other.{Other}
 use Rattle.pickle_form.specs.Form.{IsFirstOther}
 use Rattle.pickle_script.specs.FormText.{form_text, form_status, form_answer, form_output}

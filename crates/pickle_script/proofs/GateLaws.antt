@@ -1,7 +1,7 @@
 -- Where the status of the gate's text is 0.
 use Rattle.std.proofs.Common.{◌≡◌, ℕ, ◌≤◌, ◌<◌, ◌^◌, List, length, refl, sym, ap, ◌∙◌, arith}
 use Rattle.pickle_doc.specs.Document.{AreBytes, size_limit}
-use Rattle.pickle_show.specs.Output.{Output}
+use Rattle.pickle_text.specs.Output.{Output}
 use Rattle.pickle_allow.specs.declared.list.Entry.{Entry}
 use Rattle.pickle_gate.specs.declared.verdict.Verdict.{Verdict}
 use Rattle.pickle_gate.specs.declared.verdict.Verdict.TheVariants as verdict

@@ -5,15 +5,15 @@ use Rattle.pickle_io.specs.Device.{Told, Wrote, Broke}
 use Rattle.pickle_io.proofs.Devices.{WroteAllBut-none}
 use Rattle.pickle_doc.specs.Document.{Contents, AreBytes, size_limit}
 use Rattle.pickle_doc.proofs.Existence.{some_document}
-use Rattle.pickle_show.specs.Output.{Output, Begins}
-use Rattle.pickle_show.specs.Listing.{listing}
+use Rattle.pickle_text.specs.Output.{Output, Begins}
+use Rattle.pickle_list.specs.Listing.{listing}
 use Rattle.pickle_further.specs.declared.way.Pickles.{Pickles}
 use Rattle.pickle_further.specs.declared.way.Pickles.TheVariants as pickles
 use Rattle.pickle_further.specs.CallsText.{document_calls, kept_calls}
 use Rattle.mixes_text.specs.MixText.{mixes_for_people, with_mixes}
 use Rattle.mixes_text.specs.CallsWith.{CutsCalls}
-use Rattle.pickle_show.specs.Manner.{Manner, whole}
-use Rattle.pickle_show.specs.declared.stop.TextStop.TheVariants as cut
+use Rattle.pickle_calls.specs.Manner.{Manner, whole}
+use Rattle.pickle_text.specs.declared.stop.TextStop.TheVariants as cut
 use Rattle.pickle_script.specs.declared.stop.Stop.{Stop}
 use Rattle.pickle_script.specs.declared.stop.Stop.TheVariants as stop
 use Rattle.pickle_script.specs.declared.texts.written.Text.{Text}

@@ -7,7 +7,7 @@ use Rattle.pickle_ops.specs.Object.{Object}
 use Rattle.pickle_machine.specs.State.{State}
 use Rattle.pickle_session.specs.Session.{Session, state_at}
 use Rattle.pickle_session.specs.Allowed.{SessionState}
-use Rattle.pickle_show.specs.Show.{show_text}
+use Rattle.object_texts.specs.Show.{show_text}
 use Rattle.pickle_script.specs.declared.conversation.line.Line.TheVariants as line
 use Rattle.pickle_script.specs.declared.conversation.line.Query.{Query}
 use Rattle.pickle_script.specs.declared.conversation.line.Query.TheVariants as query

@@ -3,8 +3,8 @@ use Rattle.std.proofs.Common.{◌≡◌, ℕ, Bool, List, Ok, Err, refl, sym, su
 use Rattle.std.specs.Prelude.{Result, IfErr, IsErrAnd}
 use Rattle.pickle_io.specs.Device.{Told, Wrote, Broke}
 use Rattle.pickle_ops.specs.Spelling.{Operation}
-use Rattle.pickle_show.specs.Output.{Output}
-use Rattle.pickle_show.specs.declared.stop.TextStop.{TextStop}
+use Rattle.pickle_text.specs.Output.{Output}
+use Rattle.pickle_text.specs.declared.stop.TextStop.{TextStop}
 use Rattle.pickle_reach.specs.declared.granted.Granted.{Granted}
 use Rattle.pickle_reach.specs.declared.answer.Reach.{Reach}
 use Rattle.pickle_reach.specs.declared.answer.Reach.TheVariants as answer

@@ -9,11 +9,12 @@ use Rattle.pickle_doc.specs.Place.{item_at}
 use Rattle.pickle_ops.specs.Spelling.{Operation}
 use Rattle.pickle_ops.specs.Object.{Object}
 use Rattle.pickle_machine.specs.State.{State}
-use Rattle.pickle_show.specs.ObjectText.{id_text, object_text, object_line, lines_from, objects_text}
-use Rattle.pickle_show.specs.StackText.{stack_text}
-use Rattle.pickle_show.specs.MemoText.{memo_text}
+use Rattle.pickle_text.specs.Words.{id_text}
+use Rattle.object_texts.specs.ObjectText.{object_text, object_line, lines_from, objects_text}
+use Rattle.object_texts.specs.StackText.{stack_text}
+use Rattle.object_texts.specs.MemoText.{memo_text}
 use Rattle.std.specs.Fmt.{digits}
-use Rattle.pickle_show.specs.Show.{first_line, again_line, at_depth, content, found, walk, show_text}
+use Rattle.object_texts.specs.Show.{first_line, again_line, at_depth, content, found, walk, show_text}
 use Rattle.pickle_session.specs.Session.{Session, len_of}
 use Rattle.pickle_session.specs.declared.reply.Fault.{Fault}
 use Rattle.pickle_session.specs.declared.reply.Why.{Why}

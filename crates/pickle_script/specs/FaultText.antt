@@ -1,4 +1,4 @@
--- Why a document ends, and why bytes are no opcode, in words. The words of the faults of a tail are `pickle_show`'s.
+-- Why a document ends, and why bytes are no opcode, in words. The words of the faults of a tail are `pickle_text`'s.
 -- Source: own.
 use Rattle.std.specs.Prelude.{ℕ, List, codes}
 use Rattle.pickle_ops.specs.declared.fault.OpFault.{OpFault}
@@ -6,7 +6,7 @@ use Rattle.pickle_ops.specs.declared.fault.OpFault.TheVariants as fault
 use Rattle.pickle_doc.specs.declared.fault.TailFault.TheVariants as tail
 use Rattle.pickle_doc.specs.declared.fault.End.{End}
 use Rattle.pickle_doc.specs.declared.fault.End.TheVariants as end
-use Rattle.pickle_show.specs.ReportLine.{fault_text, fault_at}
+use Rattle.pickle_text.specs.ReportLine.{fault_text, fault_at}
 
 -- why a document ends, and the offset of a tail with a fault
 unfoldable pub end_text : End → List ℕ

@@ -3,8 +3,8 @@
 use Rattle.std.specs.Prelude.{ℕ, List, codes, decimal, Option, Some, None}
 use Rattle.pickle_io.specs.Text.{◌⧺◌}
 use Rattle.pickle_doc.specs.Document.{Contents}
-use Rattle.pickle_show.specs.Column.{newline}
-use Rattle.pickle_show.specs.Output.{Output}
+use Rattle.pickle_text.specs.Column.{newline}
+use Rattle.pickle_text.specs.Output.{Output}
 use Rattle.pickle_form.specs.declared.reason.Other.{Other}
 use Rattle.pickle_form.specs.Sentence.{sentence_of}
 use Rattle.pickle_form.specs.Form.{first_other}

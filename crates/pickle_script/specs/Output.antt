@@ -4,16 +4,16 @@ use Rattle.std.specs.Prelude.{◌≡◌, ◌<◌, ◌↔◌, ℕ, Bool, false, L
 use Rattle.pickle_io.specs.Text.{◌⧺◌}
 use Rattle.pickle_io.specs.Device.{Told, Wrote}
 use Rattle.pickle_doc.specs.Document.{Contents, size_limit}
-use Rattle.pickle_show.specs.Output.{Output, Completes, Breaks, Begins}
-use Rattle.pickle_show.specs.Listing.{listing}
-use Rattle.pickle_show.specs.Written.{IsListed}
-use Rattle.pickle_show.specs.Report.{IsReported, BreaksReport}
+use Rattle.pickle_text.specs.Output.{Output, Completes, Breaks, Begins}
+use Rattle.pickle_list.specs.Listing.{listing}
+use Rattle.pickle_list.specs.Written.{IsListed}
+use Rattle.object_texts.specs.Report.{IsReported, BreaksReport}
 use Rattle.pickle_io.specs.declared.hole.Hole.{Hole}
 use Rattle.pickle_io.specs.Holes.{first_outside, without}
-use Rattle.pickle_show.specs.Column.{newline}
-use Rattle.pickle_show.specs.Manner.{Manner, whole}
-use Rattle.pickle_show.specs.declared.stop.TextStop.{TextStop}
-use Rattle.pickle_show.specs.declared.stop.TextStop.TheVariants as cut
+use Rattle.pickle_text.specs.Column.{newline}
+use Rattle.pickle_calls.specs.Manner.{Manner, whole}
+use Rattle.pickle_text.specs.declared.stop.TextStop.{TextStop}
+use Rattle.pickle_text.specs.declared.stop.TextStop.TheVariants as cut
 use Rattle.pickle_further.specs.declared.way.Pickles.{Pickles}
 use Rattle.pickle_further.specs.CallsText.{CutsText}
 use Rattle.mixes_text.specs.CallsWith.{IsCalls, CompletesCalls, CutsCalls}

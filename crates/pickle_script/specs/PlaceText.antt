@@ -11,8 +11,9 @@ use Rattle.pickle_doc.specs.declared.fault.End.{End}
 use Rattle.pickle_doc.specs.Place.{item_at, offset_of, end_of}
 use Rattle.pickle_machine.specs.State.{State}
 use Rattle.pickle_session.specs.Session.{Session, len_of, has_break}
-use Rattle.pickle_show.specs.ObjectText.{id_text, next_text}
-use Rattle.pickle_show.specs.Column.{right_aligned, newline}
+use Rattle.pickle_text.specs.Words.{id_text}
+use Rattle.object_texts.specs.ObjectText.{next_text}
+use Rattle.pickle_text.specs.Column.{right_aligned, newline}
 use Rattle.pickle_script.specs.FaultText.{end_text}
 
 -- ---- where the cursor is: `at K of N, offset O, buffers B, result R, end E`

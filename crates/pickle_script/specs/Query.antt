@@ -4,10 +4,10 @@ use Rattle.std.specs.Prelude.{◌≡◌, ℕ, List, length, Bool, true, false, n
 use Rattle.pickle_ops.specs.Object.{Object}
 use Rattle.pickle_machine.specs.State.{State}
 use Rattle.pickle_session.specs.Session.{Session}
-use Rattle.pickle_show.specs.ObjectText.{objects_text}
-use Rattle.pickle_show.specs.StackText.{stack_text}
-use Rattle.pickle_show.specs.MemoText.{memo_text}
-use Rattle.pickle_show.specs.Show.{show_text}
+use Rattle.object_texts.specs.ObjectText.{objects_text}
+use Rattle.object_texts.specs.StackText.{stack_text}
+use Rattle.object_texts.specs.MemoText.{memo_text}
+use Rattle.object_texts.specs.Show.{show_text}
 use Rattle.pickle_script.specs.declared.conversation.line.Query.{Query}
 use Rattle.pickle_script.specs.declared.conversation.line.Query.TheVariants as query
 use Rattle.pickle_script.specs.declared.conversation.line.Syntax.TheVariants as syntax

@@ -13,8 +13,8 @@ use Rattle.pickle_session.specs.declared.reply.Reply.{Reply}
 use Rattle.pickle_session.specs.declared.reply.Reply.TheVariants as reply
 use Rattle.pickle_script.specs.declared.conversation.line.Syntax.{Syntax}
 use Rattle.pickle_script.specs.declared.conversation.line.Syntax.TheVariants as syntax
-use Rattle.pickle_show.specs.Column.{newline}
-use Rattle.pickle_show.specs.ReportLine.{refusal_text, item_text}
+use Rattle.pickle_text.specs.Column.{newline}
+use Rattle.pickle_text.specs.ReportLine.{refusal_text, item_text}
 use Rattle.pickle_script.specs.FaultText.{end_text, op_fault_text}
 
 -- ---- refused commands

@@ -4,8 +4,8 @@ use Rattle.pickle_doc.specs.declared.fault.DocFault.{DocFault}
 use Rattle.pickle_doc.specs.declared.fault.DocFault.TheVariants as doc
 use Rattle.pickle_io.specs.declared.whole.ReadStop.{ReadStop}
 use Rattle.pickle_io.specs.declared.whole.ReadStop.TheVariants as read
-use Rattle.pickle_show.specs.declared.stop.TextStop.{TextStop}
-use Rattle.pickle_show.specs.declared.stop.TextStop.TheVariants as text
+use Rattle.pickle_text.specs.declared.stop.TextStop.{TextStop}
+use Rattle.pickle_text.specs.declared.stop.TextStop.TheVariants as text
 use Rattle.pickle_script.specs.declared.stop.Stop.{Stop}
 use Rattle.pickle_script.specs.declared.stop.Stop.TheVariants as stop
 

@@ -5,7 +5,7 @@ ghost use Rattle.pickle_script.specs.Stop.{stop_words, stop_of, stop_of_read, st
 
 use pickle_doc::DocFault;
 use pickle_io::{Failed, ReadStop};
-use pickle_show::TextStop;
+use pickle_text::TextStop;
 use std::alloc::AllocError;
 
 /// Why a run was not finished.

@@ -12,7 +12,7 @@
 #![tactic(auto)]
 
 ghost use Rattle.pickle_further.specs.declared.way.Pickles.TheVariants as pickles;
-ghost use Rattle.pickle_show.specs.declared.naming.Detail.TheVariants as detail;
+ghost use Rattle.pickle_calls.specs.declared.naming.Detail.TheVariants as detail;
 ghost use Rattle.pickle_script.specs.declared.texts.written.Text.TheVariants as asked_text;
 ghost use Rattle.json_script.specs.declared.lines.Lines.TheVariants as asked_lines;
 ghost use Rattle.std.specs.Prelude.{◌≡◌, false, None};
@@ -24,9 +24,9 @@ use json_script::Lines;
 use library_answers::{
     GivenHole, Handle, Written, assembled, calls_lines, gate, lines, members, session, talk, texts,
 };
+use pickle_calls::Detail;
 use pickle_further::Pickles;
 use pickle_script::Text;
-use pickle_show::Detail;
 use std::alloc::Global;
 
 /// The listing of a pickle, or where `many` holds of several that follow one another.

@@ -7,9 +7,9 @@ use Rattle.pickle_io.specs.Whole.{IsWhole}
 use Rattle.pickle_io.proofs.Devices.{Wrote-trans, Broke-after, WroteAllBut-none, WroteAllBut-stopped}
 use Rattle.pickle_io.proofs.Holding.{Broke-below, nothing-held}
 use Rattle.pickle_doc.specs.Document.{AreBytes, size_limit}
-use Rattle.pickle_show.specs.Output.{Output}
-use Rattle.pickle_show.specs.Listing.{listing}
-use Rattle.pickle_show.specs.Manner.{Manner, manner}
+use Rattle.pickle_text.specs.Output.{Output}
+use Rattle.pickle_list.specs.Listing.{listing}
+use Rattle.pickle_calls.specs.Manner.{Manner, manner}
 use Rattle.pickle_further.specs.declared.way.Pickles.{Pickles}
 use Rattle.pickle_script.specs.declared.stop.Stop.{Stop}
 use Rattle.pickle_script.specs.declared.stop.Stop.TheVariants as stop

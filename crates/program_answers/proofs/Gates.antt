@@ -5,7 +5,7 @@ use Rattle.std.proofs.lemmas.Bool.{eqb-true, eqb-false}
 use Rattle.std.proofs.lemmas.List.{length-drop, nil_from_length}
 use Rattle.std.specs.String.{string_bytes}
 use Rattle.pickle_io.specs.Device.{Told}
-use Rattle.pickle_show.specs.Output.{Output}
+use Rattle.pickle_text.specs.Output.{Output}
 use Rattle.pickle_allow.specs.declared.list.Entry.{Entry}
 use Rattle.pickle_allow.specs.declared.listing.Listing.{Listing}
 use Rattle.pickle_allow.specs.declared.listing.Listing.TheVariants as listing

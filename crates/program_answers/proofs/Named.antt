@@ -18,8 +18,8 @@ use Rattle.program_answers.specs.declared.task.Usage.{Usage}
 use Rattle.program_answers.specs.declared.task.Usage.TheVariants as usage
 use Rattle.pickle_further.specs.declared.way.Pickles.{Pickles}
 use Rattle.pickle_further.specs.declared.way.Pickles.TheVariants as pickles
-use Rattle.pickle_show.specs.declared.naming.Detail.{Detail}
-use Rattle.pickle_show.specs.declared.naming.Detail.TheVariants as detail
+use Rattle.pickle_calls.specs.declared.naming.Detail.{Detail}
+use Rattle.pickle_calls.specs.declared.naming.Detail.TheVariants as detail
 use Rattle.program_answers.specs.CommandLine.{Matches, FitsCalls, FitsMemo, GivesReading, HasCallsOptions, HasDetail, HasFormat, HasHoles, HasList, HasReading, IsMemory, IsWindow, NamesTask, more_of, most_records, program, skips_of}
 
 -- ---- a subcommand

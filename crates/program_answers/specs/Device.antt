@@ -7,9 +7,9 @@ use Rattle.pickle_io.specs.Whole.{IsWhole}
 use Rattle.pickle_io.specs.declared.buffered.Buffered.{Buffered}
 use Rattle.pickle_io.specs.declared.whole.ReadStop.{ReadStop}
 use Rattle.pickle_doc.specs.Document.{Contents, ReadsIn, ReadsAs, size_limit}
-use Rattle.pickle_show.specs.Output.{Output}
-use Rattle.pickle_show.specs.Listing.{listing}
-use Rattle.pickle_show.specs.Report.{IsReport}
+use Rattle.pickle_text.specs.Output.{Output}
+use Rattle.pickle_list.specs.Listing.{listing}
+use Rattle.object_texts.specs.Report.{IsReport}
 use Rattle.pickle_json.specs.Listing as json
 use Rattle.objects_json.specs.Objects.{IsObjects}
 use Rattle.json_script.specs.CallsLines.{IsLinesOfFile}
@@ -23,7 +23,7 @@ use Rattle.pickle_script.specs.declared.stop.Stop.TheVariants as stop
 use Rattle.pickle_script.specs.declared.texts.written.Text.{Text}
 use Rattle.pickle_script.specs.Stop.{stop_of_read}
 use Rattle.pickle_script.specs.declared.texts.written.Text.TheVariants as text
-use Rattle.pickle_show.specs.Manner.{manner, whole}
+use Rattle.pickle_calls.specs.Manner.{manner, whole}
 use Rattle.pickle_script.specs.FormText.{form_output}
 use Rattle.pickle_script.specs.ReachText.{IsReachText}
 use Rattle.pickle_script.specs.Output.{IsCallsOfFile}

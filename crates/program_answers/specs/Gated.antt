@@ -8,7 +8,7 @@ use Rattle.pickle_allow.specs.declared.listing.Listing.{Listing}
 use Rattle.pickle_allow.specs.declared.listing.Listing.TheVariants as listing
 use Rattle.pickle_allow.specs.Grammar.{IsListing}
 use Rattle.archive_gate.specs.File.{PassesFile}
-use Rattle.pickle_show.specs.Output.{Output}
+use Rattle.pickle_text.specs.Output.{Output}
 use Rattle.archive_script.specs.GateText.{IsGateText, IsNamedText, IsNoList, PassesListed}
 use Rattle.gate_json.specs.GateLine.{IsGateLine, IsNamedLine, IsNoListJson}
 use Rattle.pickle_script.specs.declared.stop.Stop.{Stop}

@@ -9,11 +9,11 @@ ghost use Rattle.program_answers.specs.CommandLine.{program, most_records, Gives
 use crate::command_line::{MOST_RECORDS, command_line};
 use clap::error::ErrorKind;
 use clap::{ArgMatches, Error};
+use pickle_calls::Detail;
 use pickle_further::Pickles;
 use pickle_io::Holes;
 use pickle_reach::Granted;
 use pickle_script::first_unfit;
-use pickle_show::Detail;
 use std::alloc::{AllocError, Global};
 
 /// What is said of options that name no pickles to tell of: other words that are no task clap refuses.

@@ -16,19 +16,18 @@ use Rattle.pickle_machine.specs.State.{start}
 use Rattle.pickle_machine.specs.Run.{run}
 use Rattle.pickle_lenient.specs.declared.taken.Frames.TheVariants as frames
 use Rattle.pickle_lenient.specs.declared.taken.Taken.{Taken}
-use Rattle.pickle_show.specs.declared.report.Closing.TheVariants as closing
-use Rattle.pickle_show.specs.declared.end.Ending.{Ending}
-use Rattle.pickle_show.specs.declared.end.Ending.TheVariants as ending
-use Rattle.pickle_show.specs.Begins.{begins_text}
-use Rattle.pickle_show.specs.Report.{closing_line}
-use Rattle.pickle_show.specs.Line.{kept_line}
-use Rattle.pickle_show.specs.Manner.{Manner, ending_in}
-use Rattle.pickle_show.specs.ObjectText.{id_text}
-use Rattle.pickle_show.specs.CallsLine.{totals_line, unsure_line, ending_status, ending_lines}
-use Rattle.pickle_show.specs.Calls.{CallsEnd, entries, calls, calls_end, calls_in}
-use Rattle.pickle_show.specs.LineLaws.{before_first, cut_lines, if_any}
-use Rattle.pickle_show.proofs.WithinLines.{then_stays, id_stays}
-use Rattle.pickle_show.proofs.TextLines.{IsLine, HasLine, line_of_body, cut_line, any_line, cut_any, cut_last, calls_text, end_text, totals_is_line, closing_has, kept_has, unsure_is_line}
+use Rattle.pickle_text.specs.declared.closing.Closing.TheVariants as closing
+use Rattle.pickle_calls.specs.declared.end.Ending.{Ending}
+use Rattle.pickle_calls.specs.declared.end.Ending.TheVariants as ending
+use Rattle.pickle_calls.specs.Begins.{begins_text}
+use Rattle.pickle_text.specs.Closing.{closing_line, kept_line}
+use Rattle.pickle_calls.specs.Manner.{Manner, ending_in}
+use Rattle.pickle_text.specs.Words.{id_text}
+use Rattle.pickle_calls.specs.CallsLine.{totals_line, unsure_line, ending_status, ending_lines}
+use Rattle.pickle_calls.specs.Calls.{CallsEnd, entries, calls, calls_end, calls_in}
+use Rattle.calls_laws.specs.LineLaws.{before_first, cut_lines, if_any}
+use Rattle.calls_laws.proofs.WithinLines.{then_stays, id_stays}
+use Rattle.calls_laws.proofs.TextLines.{IsLine, HasLine, line_of_body, cut_line, any_line, cut_any, cut_last, calls_text, end_text, totals_is_line, closing_has, kept_has, unsure_is_line}
 use Rattle.pickle_further.specs.declared.way.Pickles.{Pickles}
 use Rattle.pickle_further.specs.declared.way.Pickles.TheVariants as pickles
 use Rattle.pickle_further.specs.Going.{Tale, tale_of}

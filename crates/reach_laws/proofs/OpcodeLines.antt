@@ -11,10 +11,10 @@ use Rattle.pickle_ops.specs.Argument.{number_of, signed_of, long_of, payload, fi
 use Rattle.pickle_ops.specs.Spelling.{Operation}
 use Rattle.pickle_ops.specs.Table.{name_of, form_of}
 use Rattle.pickle_ops.specs.Text.{float_text, long_text, two_texts, form_text, is_long, arg_text}
-use Rattle.pickle_show.specs.Column.{right_aligned}
-use Rattle.pickle_show.proofs.LinesApart.{quotes_stay}
-use Rattle.pickle_show.proofs.WithinLines.{Stays, then_stays, if_stays, decimal_stays, signed_stays, hexadecimal_stays, right_stays}
-use Rattle.pickle_show.proofs.TextLines.{IsLine, line_of_body}
+use Rattle.pickle_text.specs.Column.{right_aligned}
+use Rattle.calls_laws.proofs.LinesApart.{quotes_stay}
+use Rattle.calls_laws.proofs.WithinLines.{Stays, then_stays, if_stays, decimal_stays, signed_stays, hexadecimal_stays, right_stays}
+use Rattle.calls_laws.proofs.TextLines.{IsLine, line_of_body}
 use Rattle.mixes_text.specs.MixText.{behind_name, op_text, taken_line}
 
 -- ---- arguments

@@ -8,8 +8,8 @@ use Rattle.pickle_lenient.specs.declared.taken.Frames.{Frames}
 use Rattle.pickle_lenient.specs.declared.taken.Frames.TheVariants as frames
 use Rattle.pickle_lenient.specs.declared.taken.Taken.{Taken}
 use Rattle.pickle_lenient.specs.Stream.{taken}
-use Rattle.pickle_show.specs.Manner.{Manner}
-use Rattle.pickle_show.specs.Output.{Output}
+use Rattle.pickle_calls.specs.Manner.{Manner}
+use Rattle.pickle_text.specs.Output.{Output}
 use Rattle.pickle_further.specs.declared.way.Pickles.{Pickles}
 use Rattle.pickle_further.specs.Parts.{ignoring, file_frames, of_file}
 use Rattle.pickle_further.specs.CallsText.{IsCallsText}

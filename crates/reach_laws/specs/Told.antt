@@ -4,9 +4,9 @@ use Rattle.std.specs.Prelude.{◌⊎◌, ℕ, ◌^◌, ◌<◌, Bool, List, leng
 use Rattle.pickle_io.specs.Holes.{in_file}
 use Rattle.pickle_lenient.specs.declared.taken.Frames.{Frames}
 use Rattle.pickle_lenient.specs.declared.taken.Frames.TheVariants as frames
-use Rattle.pickle_show.specs.LineLaws.{cut_lines}
-use Rattle.pickle_show.specs.Manner.{Manner}
-use Rattle.pickle_show.specs.Output.{Output}
+use Rattle.calls_laws.specs.LineLaws.{cut_lines}
+use Rattle.pickle_calls.specs.Manner.{Manner}
+use Rattle.pickle_text.specs.Output.{Output}
 use Rattle.pickle_further.specs.declared.way.Pickles.{Pickles}
 use Rattle.pickle_further.specs.Parts.{file_frames, mixed_line}
 use Rattle.pickle_loader.specs.Environment.{Value, Act, World}

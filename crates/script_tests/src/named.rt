@@ -1,11 +1,12 @@
 //! The calls that write the text of bytes or of a document, and those that no program has a use for, each once with ample memory. What
 //! they are to write is the specification's, and was not taken from here.
 
+use object_texts::write_document_report;
 use pickle_doc::{DocFault, Document};
 use pickle_io::FromRead;
+use pickle_list::write_listing;
 use pickle_script::{Stop, converse, line_of, list, list_many, objects, objects_many};
 use pickle_session::{Session, Whole};
-use pickle_show::{write_document_report, write_listing};
 use std::alloc::Global;
 use std::test::Fail;
 use test_equipment::{paper, taken};

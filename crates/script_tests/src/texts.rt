@@ -1,10 +1,10 @@
 //! What is written of bytes over sinks that fail and with requests for memory refused. It is compared with what is written of them over a
 //! good sink with ample memory, which is tried from outside.
 
+use pickle_calls::Detail;
 use pickle_further::Pickles;
 use pickle_io::Page;
 use pickle_script::{Stop, Text, write_text};
-use pickle_show::Detail;
 use std::alloc::{AllocError, Global};
 use std::test::Fail;
 use test_equipment::{Sip, insist_on_paper, page_over, paper, taken, written_out};

@@ -11,9 +11,9 @@ use Rattle.pickle_ops.specs.declared.opcode.Opcode.{Opcode}
 use Rattle.pickle_ops.specs.Table.{form_of, name_of}
 use Rattle.pickle_ops.specs.Argument.{number_of, signed_of, long_of, payload, first_text, second_text}
 use Rattle.pickle_ops.specs.Text.{float_text, long_text, two_texts, form_text, is_long, arg_text}
-use Rattle.pickle_show.specs.declared.note.Note.{Note}
-use Rattle.pickle_show.specs.Column.{left_aligned, newline}
-use Rattle.pickle_show.specs.Line.{described, note_text}
+use Rattle.pickle_list.specs.declared.note.Note.{Note}
+use Rattle.pickle_text.specs.Column.{left_aligned, newline}
+use Rattle.pickle_list.specs.Line.{described, note_text}
 use Rattle.session_laws.proofs.Lacks.{lacks, both_hold, first_holds, second_holds, lacks_decimal, lacks_signed, blank_no_digit, newline_no_digit, quote_no_digit}
 
 -- ---- the front of a text

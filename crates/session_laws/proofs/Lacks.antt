@@ -6,7 +6,7 @@ use Rattle.std.specs.List.{flat_map}
 use Rattle.hex.specs.Hex.{encode_with, lower_digits}
 use Rattle.pickle_io.specs.Text.{◌⧺◌, hexadecimal, escaped, quoted_byte, quoted_bytes, quoted}
 use Rattle.pickle_io.specs.Device.{each}
-use Rattle.pickle_show.specs.Column.{right_aligned, left_aligned}
+use Rattle.pickle_text.specs.Column.{right_aligned, left_aligned}
 
 -- no byte of a text is this one
 abbrev pub lacks : ℕ → List ℕ → Bool

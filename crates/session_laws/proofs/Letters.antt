@@ -7,12 +7,14 @@ use Rattle.pickle_ops.specs.Object.{Object}
 use Rattle.pickle_ops.specs.Spelling.{Operation}
 use Rattle.pickle_doc.specs.declared.fault.TailFault.{TailFault}
 use Rattle.pickle_machine.specs.declared.refusal.Refusal.{Refusal}
-use Rattle.pickle_show.specs.declared.note.Note.{Note}
-use Rattle.pickle_show.specs.Column.{right_aligned}
-use Rattle.pickle_show.specs.Line.{offset_column, item_line, refused_line, left_text, kept_text, protocol_words, protocol_text}
-use Rattle.pickle_show.specs.ObjectText.{id_text, object_text, object_line}
-use Rattle.pickle_show.specs.Report.{result_line, refused_item_line}
-use Rattle.pickle_show.specs.ReportLine.{fault_line}
+use Rattle.pickle_list.specs.declared.note.Note.{Note}
+use Rattle.pickle_text.specs.Column.{right_aligned}
+use Rattle.pickle_list.specs.Line.{offset_column, item_line, refused_line, left_text, protocol_words, protocol_text}
+use Rattle.pickle_text.specs.Closing.{kept_text, refused_item_line}
+use Rattle.pickle_text.specs.Words.{id_text}
+use Rattle.object_texts.specs.ObjectText.{object_text, object_line}
+use Rattle.object_texts.specs.Report.{result_line}
+use Rattle.pickle_text.specs.ReportLine.{fault_line}
 use Rattle.session_laws.specs.Lines.{begins_with_letter, LinesApart}
 use Rattle.session_laws.proofs.Says.{cells, rest_of, parts}
 

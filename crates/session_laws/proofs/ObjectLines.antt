@@ -13,8 +13,9 @@ use Rattle.pickle_ops.specs.declared.kind.Kind.TheVariants as kind
 use Rattle.pickle_ops.specs.declared.object.Change.{Change}
 use Rattle.pickle_ops.specs.declared.object.Change.TheVariants as change
 use Rattle.pickle_ops.specs.Object.{Object}
-use Rattle.pickle_show.specs.Column.{newline}
-use Rattle.pickle_show.specs.ObjectText.{id_text, kind_text, next_text, some_parts, parts_text, set_text, change_text}
+use Rattle.pickle_text.specs.Column.{newline}
+use Rattle.pickle_text.specs.Words.{id_text, kind_text}
+use Rattle.object_texts.specs.ObjectText.{next_text, some_parts, parts_text, set_text, change_text}
 use Rattle.session_laws.specs.Lines.{most, AreNumbers, IsNumbered}
 use Rattle.session_laws.proofs.Lacks.{IsNoDigit, lacks, first_holds, second_holds, lacks_decimal, blank_no_digit, newline_no_digit, no_digit_by}
 use Rattle.session_laws.proofs.Arguments.{Outside, IsCalm, Passes, Ends, front, ends, moved, is_false, cancelled, one_front, passes_on, passes_word, passes_quoted, passes_decimal, passes_signed, passes_float, passes_long}

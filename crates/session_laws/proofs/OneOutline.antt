@@ -2,7 +2,7 @@
 use Rattle.std.proofs.Common.{◌≡◌, ℕ, zero, suc, ◌+◌, ◌<◌, ◌≤◌, List, [], ◌∷◌, ◌++◌, take, drop, Some, refl, sym, ap, ap₂, subst, ◌∙◌, append-nil, inl, inr, arith}
 use Rattle.std.specs.Prelude.{slice_get}
 use Rattle.pickle_ops.specs.Object.{Object}
-use Rattle.pickle_show.specs.Show.{WalkPlace, at_depth}
+use Rattle.object_texts.specs.Show.{WalkPlace, at_depth}
 use Rattle.session_laws.specs.Reached.{under, ids_at, IsOutline}
 use Rattle.session_laws.proofs.Outlines.{IsWalk, NoDeeper, no_deeper_rest, order, at_less, at_same, at_more, at_deeper, at_there, at_none, after_one, begin}
 

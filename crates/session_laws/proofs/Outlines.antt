@@ -3,7 +3,7 @@ use Rattle.std.proofs.Common.{◌≡◌, ◌≢◌, ℕ, zero, suc, ◌+◌, ◌
 use Rattle.std.specs.Prelude.{slice_get, nat_lt, ◌⊎◌}
 use Rattle.std.proofs.Common.{inl, inr}
 use Rattle.pickle_ops.specs.Object.{Object}
-use Rattle.pickle_show.specs.Show.{WalkPlace, at_depth}
+use Rattle.object_texts.specs.Show.{WalkPlace, at_depth}
 use Rattle.session_laws.specs.Reached.{under, ids_at, IsOutline}
 
 -- ---- what a walk gives

@@ -23,16 +23,18 @@ use Rattle.pickle_doc.specs.declared.fault.TailFault.{TailFault}
 use Rattle.pickle_doc.specs.declared.fault.TailFault.TheVariants as tail
 use Rattle.pickle_machine.specs.declared.refusal.Refusal.{Refusal}
 use Rattle.pickle_machine.specs.declared.refusal.Refusal.TheVariants as refusal
-use Rattle.pickle_show.specs.declared.note.Note.{Note}
-use Rattle.pickle_show.specs.declared.note.Note.TheVariants as note
-use Rattle.pickle_show.specs.Column.{newline, blanks, left_aligned}
-use Rattle.pickle_show.specs.ListingColumn.{code_text}
+use Rattle.pickle_list.specs.declared.note.Note.{Note}
+use Rattle.pickle_list.specs.declared.note.Note.TheVariants as note
+use Rattle.pickle_text.specs.Column.{newline, blanks, left_aligned}
+use Rattle.pickle_list.specs.ListingColumn.{code_text}
 use Rattle.pickle_io.specs.declared.hole.Hole.{Hole}
 use Rattle.pickle_script.specs.Output.{hole_text, outside_words, outside_line}
-use Rattle.pickle_show.specs.Line.{offset_column, code_column, mark_text, as_text, note_text, described, named, item_line, refused_line, left_text, kept_words, kept_text, protocol_words, protocol_text}
-use Rattle.pickle_show.specs.ObjectText.{id_text, kind_text, next_text, some_parts, parts_text, set_text, change_text, object_text, object_line}
-use Rattle.pickle_show.specs.Report.{result_line, refused_item_line}
-use Rattle.pickle_show.specs.ReportLine.{refusal_words, refusal_number, refusal_text, item_text, item_refused, tail_words, fault_byte, fault_text, fault_at, fault_line}
+use Rattle.pickle_list.specs.Line.{offset_column, code_column, mark_text, as_text, note_text, described, named, item_line, refused_line, left_text, protocol_words, protocol_text}
+use Rattle.pickle_text.specs.Closing.{kept_words, kept_text, refused_item_line}
+use Rattle.pickle_text.specs.Words.{id_text, kind_text}
+use Rattle.object_texts.specs.ObjectText.{next_text, some_parts, parts_text, set_text, change_text, object_text, object_line}
+use Rattle.object_texts.specs.Report.{result_line}
+use Rattle.pickle_text.specs.ReportLine.{refusal_words, refusal_number, refusal_text, item_text, item_refused, tail_words, fault_byte, fault_text, fault_at, fault_line}
 use Rattle.pickle_script.specs.Script.{HasNoNewline}
 use Rattle.session_laws.specs.Lines.{IsOneLine, PiecesAreLines}
 use Rattle.session_laws.proofs.Lacks.{lacks, first_holds, second_holds, lacks_join, lacks_each, lacks_blanks, lacks_right, lacks_left, lacks_decimal, lacks_signed, newline_no_digit, lacks_hexadecimal, lacks_quoted}

@@ -3,7 +3,7 @@ use Rattle.std.proofs.Common.{◌≡◌, ℕ, zero, suc, ◌+◌, ◌<◌, ◌==
 use Rattle.std.specs.Prelude.{slice_get, ◌||◌, if◌then◌else◌, IsSome}
 use Rattle.std.specs.Option.{option_map_or}
 use Rattle.pickle_ops.specs.Object.{Object}
-use Rattle.pickle_show.specs.Show.{WalkPlace, at_depth, content}
+use Rattle.object_texts.specs.Show.{WalkPlace, at_depth, content}
 use Rattle.session_laws.specs.Reached.{Holds, Reaches, has_line, in_full, under, ids_at, IsOutline, IsInFull}
 use Rattle.session_laws.proofs.Outlines.{IsWalk, order, same_is, at_less, at_same, at_more, begin}
 

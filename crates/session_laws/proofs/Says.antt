@@ -12,11 +12,12 @@ use Rattle.pickle_ops.specs.Spelling.{Operation}
 use Rattle.pickle_ops.specs.Table.{code_of, name_of}
 use Rattle.pickle_ops.specs.Text.{arg_text}
 use Rattle.pickle_ops.proofs.TableLemmas.{one_code}
-use Rattle.pickle_show.specs.declared.note.Note.{Note}
-use Rattle.pickle_show.specs.Column.{blanks, left_aligned, right_aligned, newline}
-use Rattle.pickle_show.specs.ListingColumn.{code_text}
-use Rattle.pickle_show.specs.Line.{offset_column, code_column, described, named, note_text, item_line}
-use Rattle.pickle_show.specs.ObjectText.{id_text, kind_text, parts_text, change_text, object_text, object_line}
+use Rattle.pickle_list.specs.declared.note.Note.{Note}
+use Rattle.pickle_text.specs.Column.{blanks, left_aligned, right_aligned, newline}
+use Rattle.pickle_list.specs.ListingColumn.{code_text}
+use Rattle.pickle_list.specs.Line.{offset_column, code_column, described, named, note_text, item_line}
+use Rattle.pickle_text.specs.Words.{id_text, kind_text}
+use Rattle.object_texts.specs.ObjectText.{parts_text, change_text, object_text, object_line}
 use Rattle.session_laws.specs.Lines.{ItemLineSays, ObjectLineSays}
 use Rattle.session_laws.proofs.Arguments.{named_same}
 use Rattle.session_laws.proofs.ObjectLines.{about, tail_of, about_same}

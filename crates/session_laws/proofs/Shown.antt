@@ -27,17 +27,17 @@ use Rattle.pickle_session.specs.Session.{len_of, state_at}
 use Rattle.pickle_session.proofs.Edited.{frames_alike}
 use Rattle.pickle_session.proofs.Trails.{run_nothing, run_after, before_it, there_is, moved_by, some_same}
 use Rattle.pickle_session.proofs.Offsets.{size_alike}
-use Rattle.pickle_show.proofs.Moves.{MarkStep, Stays, IsSet, Goes, move_marks}
-use Rattle.pickle_show.specs.declared.naming.Naming.{Naming}
-use Rattle.pickle_show.specs.Naming.{naming_after}
-use Rattle.pickle_show.specs.Event.{before_of, event_of}
+use Rattle.pickle_list.proofs.Marks.{MarkStep, Stays, IsSet, Goes, move_marks}
+use Rattle.pickle_calls.specs.declared.naming.Naming.{Naming}
+use Rattle.pickle_calls.specs.Naming.{naming_after}
+use Rattle.pickle_calls.specs.Event.{before_of, event_of}
 use Rattle.pickle_io.specs.Holes.{in_file}
-use Rattle.pickle_show.specs.declared.naming.Detail.{Detail}
-use Rattle.pickle_show.specs.Manner.{Manner}
-use Rattle.pickle_show.specs.Telling.{for_people}
-use Rattle.pickle_show.specs.Calls.{entry_at, entry_on, naming_at, naming_on, counted_text, entry_in}
-use Rattle.pickle_show.specs.Listing.{line_at, line_on, topmost_offset}
-use Rattle.pickle_show.specs.ObjectText.{objects_text}
+use Rattle.pickle_calls.specs.declared.naming.Detail.{Detail}
+use Rattle.pickle_calls.specs.Manner.{Manner}
+use Rattle.pickle_calls.specs.Telling.{for_people}
+use Rattle.pickle_calls.specs.Calls.{entry_at, entry_on, naming_at, naming_on, counted_text, entry_in}
+use Rattle.pickle_list.specs.Listing.{line_at, line_on, topmost_offset}
+use Rattle.object_texts.specs.ObjectText.{objects_text}
 use Rattle.session_laws.specs.Edits.{ShowSame}
 use Rattle.session_laws.proofs.Numbers.{OneNumber, of_edit}
 

@@ -5,9 +5,9 @@ use Rattle.std.specs.Option.{option_map_or}
 use Rattle.std.specs.List.{flat_map}
 use Rattle.pickle_io.specs.Text.{◌⧺◌}
 use Rattle.pickle_ops.specs.Object.{Object}
-use Rattle.pickle_show.specs.LineLaws.{cut_lines}
-use Rattle.pickle_show.specs.ObjectText.{next_text, object_text}
-use Rattle.pickle_show.specs.Show.{WalkPlace, first_line, again_line}
+use Rattle.calls_laws.specs.LineLaws.{cut_lines}
+use Rattle.object_texts.specs.ObjectText.{next_text, object_text}
+use Rattle.object_texts.specs.Show.{WalkPlace, first_line, again_line}
 use Rattle.session_laws.specs.Lines.{IsOneLine}
 use Rattle.session_laws.specs.Reached.{in_full, line_text, line_texts}
 use Rattle.session_laws.proofs.Pieces.{is_line, join, number, next_within, object_within}

@@ -17,13 +17,15 @@ use Rattle.pickle_machine.specs.Move.{refusal_at}
 use Rattle.pickle_machine.specs.Run.{run}
 use Rattle.pickle_script.specs.Script.{HasNoNewline}
 use Rattle.pickle_session.proofs.Trails.{run_after, before_it, there_is}
-use Rattle.pickle_show.specs.declared.report.Closing.{Closing}
-use Rattle.pickle_show.specs.Line.{left_text, left_line, protocol_text, protocol_line, highest_protocol}
-use Rattle.pickle_show.specs.LineLaws.{is_within_line, cut_lines, if_any}
-use Rattle.pickle_show.specs.Listing.{line_on, line_at, left_by, lines, end_lines, refused_lines, reached, listing_to, listing}
-use Rattle.pickle_show.specs.ObjectText.{object_line, lines_from, objects_text}
-use Rattle.pickle_show.specs.Report.{report_text, result_line, closing_line}
-use Rattle.pickle_show.proofs.TextLines.{IsLine, HasLine, cut_line, cut_any, closing_has, kept_has, fault_is_line}
+use Rattle.pickle_text.specs.declared.closing.Closing.{Closing}
+use Rattle.pickle_list.specs.Line.{left_text, left_line, protocol_text, protocol_line, highest_protocol}
+use Rattle.calls_laws.specs.LineLaws.{is_within_line, cut_lines, if_any}
+use Rattle.pickle_list.specs.Listing.{line_on, line_at, left_by, lines, end_lines, refused_lines, listing_to, listing}
+use Rattle.pickle_text.specs.Reached.{reached}
+use Rattle.object_texts.specs.ObjectText.{object_line, lines_from, objects_text}
+use Rattle.object_texts.specs.Report.{report_text, result_line}
+use Rattle.pickle_text.specs.Closing.{closing_line}
+use Rattle.calls_laws.proofs.TextLines.{IsLine, HasLine, cut_line, cut_any, closing_has, kept_has, fault_is_line}
 use Rattle.session_laws.specs.Lines.{IsOneLine, listed_lines, protocol_lines, lines_to, listing_lines, object_lines, report_lines, TextsAreLines}
 use Rattle.session_laws.proofs.Lacks.{both_hold, differ}
 use Rattle.session_laws.proofs.Pieces.{pieces}

@@ -8,11 +8,11 @@ use Rattle.std.proofs.lemmas.Option.{slice_get_cases, slice_get_past}
 use Rattle.pickle_io.specs.Text.{◌⧺◌}
 use Rattle.pickle_io.specs.Device.{each}
 use Rattle.pickle_ops.specs.Object.{Object}
-use Rattle.pickle_show.specs.Show.{WalkPlace, at_depth, content, found, first_line, again_line, walk, show_text}
-use Rattle.pickle_show.specs.Inside.Walking.{unseen}
+use Rattle.object_texts.specs.Show.{WalkPlace, at_depth, content, found, first_line, again_line, walk, show_text}
+use Rattle.object_texts.specs.Inside.Walking.{unseen}
 use Rattle.session_laws.specs.Reached.{has_line, in_full, under, line_text, line_texts, ShowsReached}
-use Rattle.pickle_show.specs.LineLaws.{cut_lines}
-use Rattle.pickle_show.proofs.Walks.{fits}
+use Rattle.calls_laws.specs.LineLaws.{cut_lines}
+use Rattle.object_texts.proofs.Walks.{fits}
 use Rattle.session_laws.proofs.Outlines.{IsWalk, begin, order, same_is, differ_is, walk_outline}
 use Rattle.session_laws.proofs.ShownLines.{cut_shown}
 use Rattle.session_laws.proofs.OneOutline.{one_outline}

@@ -9,10 +9,10 @@ use Rattle.pickle_doc.specs.Document.{Contents}
 use Rattle.pickle_doc.specs.Place.{item_at, offset_of, frame_at}
 use Rattle.pickle_machine.specs.State.{State}
 use Rattle.pickle_session.specs.Session.{state_at}
-use Rattle.pickle_show.specs.Manner.{Manner}
-use Rattle.pickle_show.specs.Calls.{entry_at}
-use Rattle.pickle_show.specs.Listing.{line_at}
-use Rattle.pickle_show.specs.ObjectText.{objects_text}
+use Rattle.pickle_calls.specs.Manner.{Manner}
+use Rattle.pickle_calls.specs.Calls.{entry_at}
+use Rattle.pickle_list.specs.Listing.{line_at}
+use Rattle.object_texts.specs.ObjectText.{objects_text}
 
 -- the lines of the objects that the items before a place make, as they are there
 abbrev pub objects_at : Contents → ℕ → Option (List ℕ)

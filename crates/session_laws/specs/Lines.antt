@@ -17,14 +17,17 @@ use Rattle.pickle_machine.specs.State.{State, start}
 use Rattle.pickle_io.specs.declared.hole.Hole.{Hole}
 use Rattle.pickle_script.specs.Script.{IsCut}
 use Rattle.pickle_script.specs.Output.{outside_line}
-use Rattle.pickle_show.specs.declared.note.Note.{Note}
-use Rattle.pickle_show.specs.declared.report.Closing.{Closing}
-use Rattle.pickle_show.specs.Line.{item_line, refused_line, left_text, kept_text, protocol_text, protocol_line, highest_protocol}
-use Rattle.pickle_show.specs.LineLaws.{cut_lines, if_any}
-use Rattle.pickle_show.specs.Listing.{line_at, left_by, end_lines, refused_lines, reached, listing}
-use Rattle.pickle_show.specs.ObjectText.{kind_text, object_line}
-use Rattle.pickle_show.specs.Report.{IsReport, result_line, refused_item_line, closing_line}
-use Rattle.pickle_show.specs.ReportLine.{fault_line}
+use Rattle.pickle_list.specs.declared.note.Note.{Note}
+use Rattle.pickle_text.specs.declared.closing.Closing.{Closing}
+use Rattle.pickle_list.specs.Line.{item_line, refused_line, left_text, protocol_text, protocol_line, highest_protocol}
+use Rattle.pickle_text.specs.Closing.{kept_text, refused_item_line, closing_line}
+use Rattle.calls_laws.specs.LineLaws.{cut_lines, if_any}
+use Rattle.pickle_list.specs.Listing.{line_at, left_by, end_lines, refused_lines, listing}
+use Rattle.pickle_text.specs.Reached.{reached}
+use Rattle.pickle_text.specs.Words.{kind_text}
+use Rattle.object_texts.specs.ObjectText.{object_line}
+use Rattle.object_texts.specs.Report.{IsReport, result_line}
+use Rattle.pickle_text.specs.ReportLine.{fault_line}
 
 -- ---- lines
 

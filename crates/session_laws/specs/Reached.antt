@@ -4,8 +4,8 @@ use Rattle.std.specs.Prelude.{◌≡◌, ℕ, zero, suc, ◌+◌, ◌≤◌, ◌
 use Rattle.std.specs.Option.{option_map_or}
 use Rattle.std.specs.List.{flat_map}
 use Rattle.pickle_ops.specs.Object.{Object}
-use Rattle.pickle_show.specs.LineLaws.{cut_lines}
-use Rattle.pickle_show.specs.Show.{WalkPlace, content, first_line, again_line, show_text}
+use Rattle.calls_laws.specs.LineLaws.{cut_lines}
+use Rattle.object_texts.specs.Show.{WalkPlace, content, first_line, again_line, show_text}
 
 -- ---- what can be reached
 

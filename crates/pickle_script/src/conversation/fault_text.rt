@@ -7,7 +7,7 @@ ghost use Rattle.pickle_script.specs.FaultText.{end_text, op_fault_text};
 use pickle_doc::{End, TailFault};
 use pickle_io::{Failed, Page, write_all};
 use pickle_ops::OpFault;
-use pickle_show::{write_fault_at, write_fault_text};
+use pickle_text::{write_fault_at, write_fault_text};
 
 /// Writes why a document ends.
 #[tactic(auto, unfolding(crate::specs::FaultText::end_text))]

@@ -9,7 +9,7 @@ ghost use Rattle.pickle_script.specs.PlaceText.{sign_if, signs, op_text, place_c
 use pickle_io::{Failed, Page, write_all};
 use pickle_ops::{Op, write_arg_text};
 use pickle_session::{Past, Session};
-use pickle_show::write_right;
+use pickle_text::write_right;
 
 /// A sign where something holds, else a blank.
 fn sign_if(sign: u8, holds: bool) -> u8

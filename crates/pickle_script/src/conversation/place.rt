@@ -4,12 +4,13 @@ ghost use Rattle.pickle_io.specs.Device.{Writes};
 ghost use Rattle.pickle_script.specs.PlaceText.{cursor_text, offset_text, some_results, results_text, reached_text, ending_text, where_text};
 
 use crate::conversation::fault_text::write_end;
+use object_texts::write_all_next;
 use pickle_doc::End;
 use pickle_io::{Failed, Page, write_all, write_decimal};
 use pickle_machine::Machine;
 use pickle_ops::ObjId;
 use pickle_session::{Past, Session};
-use pickle_show::{write_all_next, write_id};
+use pickle_text::write_id;
 
 /// Writes a place, and how many items there are.
 #[tactic(auto, using(pickle_io::proofs::Devices::text_steps), unfolding(crate::specs::PlaceText::cursor_text))]

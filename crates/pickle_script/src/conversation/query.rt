@@ -8,10 +8,11 @@ use crate::conversation::line::{Line, Query, Syntax};
 use crate::conversation::outcome::Outcome;
 use crate::conversation::place::write_where;
 use crate::conversation::syntax::{write_no_such_object, write_syntax};
+use object_texts::{write_memo, write_objects, write_show, write_stack};
 use pickle_io::{Failed, Page};
 use pickle_ops::ObjId;
 use pickle_session::{Past, Session};
-use pickle_show::{TextStop, write_memo, write_objects, write_show, write_stack};
+use pickle_text::TextStop;
 use std::alloc::Global;
 
 /// The object of this number, where there is one.

@@ -8,7 +8,7 @@ use crate::conversation::fault_text::write_end;
 use pickle_doc::{EditFault, End};
 use pickle_io::{Failed, Page, write_all, write_decimal};
 use pickle_session::{Fault, Reply, Why};
-use pickle_show::{write_item_refusal, write_refusal};
+use pickle_text::{write_item_refusal, write_refusal};
 
 /// What the fault of an edit is called.
 #[tactic(auto, unfolding(crate::specs::ReplyText::edit_words))]

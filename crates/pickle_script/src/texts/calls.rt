@@ -4,14 +4,14 @@ ghost use Rattle.std.specs.Prelude.{◌≡◌, ◌≢◌, ◌≤◌, length, Som
 ghost use Rattle.pickle_io.specs.Device.{Writes};
 ghost use Rattle.pickle_doc.specs.Document.{size_limit};
 ghost use Rattle.pickle_io.specs.Holes.{first_outside};
-ghost use Rattle.pickle_show.specs.Manner.{manner};
+ghost use Rattle.pickle_calls.specs.Manner.{manner};
 ghost use Rattle.pickle_script.specs.Output.{hole_text, outside_words, outside_line, CompletesFile, StopsFile, AnswersCalls};
 
 use crate::stop::Stop;
+use pickle_calls::{Detail, ForPeople};
 use pickle_doc::LIMIT;
 use pickle_further::Pickles;
 use pickle_io::{Failed, Hole, Holes, Page, write_all, write_decimal};
-use pickle_show::{Detail, ForPeople};
 use std::alloc::Global;
 
 /// Writes a hole.

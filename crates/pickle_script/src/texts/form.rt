@@ -3,13 +3,13 @@
 ghost use Rattle.std.specs.Prelude.{◌≡◌, ◌≤◌, false, length, IfOk, IfErr};
 ghost use Rattle.pickle_io.specs.Device.{Writes};
 ghost use Rattle.pickle_doc.specs.Document.{size_limit};
-ghost use Rattle.pickle_show.specs.Output.{Completes};
+ghost use Rattle.pickle_text.specs.Output.{Completes};
 ghost use Rattle.pickle_script.specs.FormText.{place_text, other_words, other_line, form_text, form_status, form_output};
 ghost use Rattle.pickle_script.specs.Output.{CutsForm};
 
 use pickle_form::{Other, first_other};
 use pickle_io::{Failed, Page, write_all, write_decimal};
-use pickle_show::TextStop;
+use pickle_text::TextStop;
 use std::alloc::Global;
 
 /// Writes the place of an opcode.

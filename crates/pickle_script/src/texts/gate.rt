@@ -7,9 +7,10 @@ ghost use Rattle.pickle_script.specs.GateText.{words_of, forbidden_words, forbid
 
 use crate::given_holes::before_colon;
 use crate::texts::form::write_other;
+use pickle_calls::Ending;
 use pickle_gate::{Verdict, line_at};
 use pickle_io::{Failed, Page, write_all, write_decimal};
-use pickle_show::{Ending, write_closing};
+use pickle_text::write_closing;
 use std::alloc::{AllocError, Global};
 
 /// The words of a line of `calls`: what is behind its offset, a colon and a blank.

@@ -11,7 +11,7 @@ use crate::conversation::write_op;
 use pickle_io::{Failed, Page, write_all, write_decimal};
 use pickle_ops::Op;
 use pickle_reach::{Granted, Reach, first_reach, op_reached};
-use pickle_show::TextStop;
+use pickle_text::TextStop;
 use std::alloc::Global;
 
 /// Words of a line.

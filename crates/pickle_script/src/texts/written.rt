@@ -7,11 +7,13 @@ ghost use Rattle.pickle_script.specs.Output.{AnswersText};
 use crate::stop::Stop;
 use crate::texts::form::write_form;
 use crate::texts::reach::write_reach;
+use object_texts::report_of_bytes;
+use pickle_calls::{Detail, ForPeople};
 use pickle_doc::LIMIT;
 use pickle_further::Pickles;
 use pickle_io::{Holes, Page};
+use pickle_list::list_bytes;
 use pickle_reach::Granted;
-use pickle_show::{Detail, ForPeople, list_bytes, report_of_bytes};
 use std::alloc::Global;
 
 /// What is written of an input.

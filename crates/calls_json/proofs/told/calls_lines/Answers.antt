@@ -1,4 +1,4 @@
-use Rattle.pickle_show.specs.Manner.{manner}
+use Rattle.pickle_calls.specs.Manner.{manner}
 use Rattle.pickle_further.proofs.Tales.{err_is}
 use Rattle.calls_json.proofs.Answers.{lines_cut, status_broken, all_written}
 use Rattle.calls_json.proofs.told.calls_lines.Goals as goal

@@ -1,5 +1,5 @@
 use Rattle.std.proofs.Common.{arith}
-use Rattle.pickle_show.specs.Manner.{manner}
+use Rattle.pickle_calls.specs.Manner.{manner}
 use Rattle.json_script.proofs.Files.{file_too_large}
 use Rattle.json_script.proofs.calls.write_calls_lines.Goals as goal
 

@@ -1,5 +1,5 @@
 use Rattle.std.proofs.Common.{Some, None, refl}
-use Rattle.pickle_show.specs.declared.stop.TextStop.TheVariants as stop
+use Rattle.pickle_text.specs.declared.stop.TextStop.TheVariants as stop
 use Rattle.json_script.specs.FormLine.{form_output, IsFormLine}
 use Rattle.json_script.proofs.Stopped.{once_cut}
 use Rattle.json_script.proofs.FormLines.{form_is}

@@ -1,5 +1,5 @@
 use Rattle.std.proofs.Common.{refl}
-use Rattle.pickle_show.specs.declared.stop.TextStop.TheVariants as stop
+use Rattle.pickle_text.specs.declared.stop.TextStop.TheVariants as stop
 use Rattle.json_script.specs.ReachLine.{nothing_output, reached_output, ways_output, IsReachLine}
 use Rattle.json_script.proofs.Stopped.{once_cut}
 use Rattle.json_script.proofs.ReachLines.{nothing_is, reached_is, ways_are, shown_wrote, shown_broke}

@@ -1,4 +1,4 @@
-use Rattle.pickle_show.specs.Manner.{manner}
+use Rattle.pickle_calls.specs.Manner.{manner}
 use Rattle.pickle_further.specs.Parts.{wording}
 use Rattle.pickle_further.proofs.Tales.{err_is}
 use Rattle.mixes_text.proofs.Wholes.{lines_cut, mixes_cut, all_written}

@@ -1,5 +1,5 @@
 use Rattle.std.proofs.Common.{refl, arith}
-use Rattle.pickle_show.proofs.Sources.{bytes_give}
+use Rattle.pickle_text.proofs.Sources.{bytes_give}
 use Rattle.objects_json.proofs.objects.objects_lines.Goals as goal
 
 pub lines_of_items-requires : goal.lines_of_items-requires

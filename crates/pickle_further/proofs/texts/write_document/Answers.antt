@@ -1,5 +1,5 @@
 use Rattle.std.proofs.Common.{refl, arith}
-use Rattle.pickle_show.proofs.Sources.{bytes_give}
+use Rattle.pickle_text.proofs.Sources.{bytes_give}
 use Rattle.pickle_further.specs.Parts.{wording}
 use Rattle.pickle_further.proofs.Tales.{err_is}
 use Rattle.pickle_further.proofs.Documents.{first_cut, end_cut, deep_cut, warning_cut, parts_cut, all_written}

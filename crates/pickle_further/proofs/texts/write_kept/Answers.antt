@@ -1,6 +1,6 @@
 use Rattle.std.proofs.Common.{arith}
 use Rattle.pickle_further.specs.declared.way.Pickles.TheVariants as pickles
-use Rattle.pickle_show.specs.Manner.{manner}
+use Rattle.pickle_calls.specs.Manner.{manner}
 use Rattle.pickle_further.specs.Parts.{wording}
 use Rattle.pickle_further.proofs.Pieces.{no_text_yet}
 use Rattle.pickle_further.proofs.Tales.{err_is}

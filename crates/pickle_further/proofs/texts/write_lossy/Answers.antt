@@ -1,4 +1,4 @@
-use Rattle.pickle_show.specs.Manner.{manner}
+use Rattle.pickle_calls.specs.Manner.{manner}
 use Rattle.pickle_further.specs.Parts.{wording}
 use Rattle.pickle_further.proofs.Pieces.{stopped}
 use Rattle.pickle_further.proofs.Mixing.{lossy_cut, lossy_first, lossy_broken, lossy_done}

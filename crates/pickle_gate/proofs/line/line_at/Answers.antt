@@ -5,7 +5,7 @@ use Rattle.pickle_doc.specs.Unread.{Unread}
 use Rattle.pickle_doc.specs.DocUnit.{is_stop}
 use Rattle.pickle_machine.specs.Move.{move}
 use Rattle.pickle_machine.specs.Reading.{Reading}
-use Rattle.pickle_show.proofs.Moves.{move_heap}
+use Rattle.pickle_text.proofs.Moves.{move_heap}
 use Rattle.pickle_gate.proofs.Lines.{Read, stands_at_first, stands_next, at_tail, at_refused, at_item, behind_stop, past_bytes, taken_off}
 use Rattle.pickle_gate.specs.Line.{line_at}
 use Rattle.pickle_gate.proofs.line.line_at.Goals as goal

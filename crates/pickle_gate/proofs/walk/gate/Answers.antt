@@ -8,7 +8,7 @@ use Rattle.pickle_doc.specs.Fitting.{left_behind}
 use Rattle.pickle_doc.specs.Unread.{IsNextItem, Unread}
 use Rattle.pickle_doc.proofs.Existence.{some_document}
 use Rattle.pickle_machine.specs.Move.{move}
-use Rattle.pickle_show.specs.Event.{before_of, event_of}
+use Rattle.pickle_calls.specs.Event.{before_of, event_of}
 use Rattle.pickle_form.specs.Form.{reason_of}
 use Rattle.pickle_gate.specs.declared.judge.Made.TheVariants as made
 use Rattle.pickle_gate.specs.Kept.{judged_event, kept_behind}

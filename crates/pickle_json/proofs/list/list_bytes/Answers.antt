@@ -1,5 +1,5 @@
 use Rattle.std.proofs.Common.{refl, arith}
-use Rattle.pickle_show.proofs.Sources.{bytes_give}
+use Rattle.pickle_text.proofs.Sources.{bytes_give}
 use Rattle.pickle_json.proofs.list.list_bytes.Goals as goal
 
 pub list_items-requires : goal.list_items-requires

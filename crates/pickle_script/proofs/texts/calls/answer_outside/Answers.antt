@@ -1,4 +1,4 @@
-use Rattle.pickle_show.specs.Manner.{manner}
+use Rattle.pickle_calls.specs.Manner.{manner}
 use Rattle.pickle_script.proofs.Outputs.{stopped_so, outside_broke, outside_wrote}
 use Rattle.pickle_script.proofs.texts.calls.answer_outside.Goals as goal
 

@@ -1,5 +1,5 @@
 use Rattle.std.proofs.Common.{arith}
-use Rattle.pickle_show.specs.Manner.{manner}
+use Rattle.pickle_calls.specs.Manner.{manner}
 use Rattle.pickle_script.proofs.Outputs.{file_too_large}
 use Rattle.pickle_script.proofs.texts.calls.calls_of_file.Goals as goal
 

@@ -1,5 +1,5 @@
 use Rattle.std.proofs.Common.{refl}
-use Rattle.pickle_show.specs.declared.stop.TextStop.TheVariants as stop
+use Rattle.pickle_text.specs.declared.stop.TextStop.TheVariants as stop
 use Rattle.pickle_script.proofs.FormTexts.{form_whole, form_broken, form_cut}
 use Rattle.pickle_script.proofs.texts.form.write_form.Goals as goal
 

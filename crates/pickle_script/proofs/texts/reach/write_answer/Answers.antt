@@ -1,5 +1,5 @@
 use Rattle.std.proofs.Common.{◌∙◌}
-use Rattle.pickle_show.specs.declared.stop.TextStop.TheVariants as stop
+use Rattle.pickle_text.specs.declared.stop.TextStop.TheVariants as stop
 use Rattle.pickle_script.proofs.ReachTexts.{nothing_wrote, nothing_broke, reached_wrote, reached_broke, ways_wrote, ways_broke, reach_cut}
 use Rattle.pickle_script.proofs.texts.reach.write_answer.Goals as goal
 

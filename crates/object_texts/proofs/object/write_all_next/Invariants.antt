@@ -1,0 +1,8 @@
+-- What the loop over the numbers keeps.
+use Rattle.std.proofs.Common.{take}
+use Rattle.pickle_io.specs.Device.{Wrote, each}
+use Rattle.object_texts.specs.ObjectText.{next_text}
+use Rattle.object_texts.proofs.object.write_all_next.Given as goal
+
+abbrev pub invariant-loop-id : goal.invariant-loop-id
+invariant-loop-id g l = Wrote (g.S.Sink.told l.initial.page) (g.S.Sink.told l.page) (each next_text (take l.id-index l.ids))

@@ -1,0 +1,6 @@
+-- The definitions that contracts cite.
+pub mod ListingColumn
+pub mod Line
+pub mod Listing
+pub mod Written
+pub mod Inside

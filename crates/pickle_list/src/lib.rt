@@ -1,0 +1,14 @@
+//! Listings: the lines of a pickle's opcodes, one for each, and the closing lines, which say why it ended. Nothing is imported or called.
+//!
+//! A line has the form of `pickletools.dis`. What is said of refused opcodes, of faults and of what is left is this project's own.
+#![tactic(auto)]
+
+mod column;
+mod highest;
+mod line;
+mod list;
+mod note;
+mod offset;
+mod put;
+
+pub use list::{list_bytes, list_items, write_listing};

@@ -1,6 +1,0 @@
-use Rattle.std.proofs.Common.{refl}
-use Rattle.pickle_show.proofs.Stepping.{stepped_none}
-use Rattle.pickle_show.proofs.report.walk_items.Goals as goal
-
-pub parts-init : goal.parts-init
-parts-init g c = rw (c.requires.document.first, c.requires.start) (refl, stepped_none _ _ c.requires.document.document c.requires.document.small, c.requires.document.small, c.unread_len-total.ensures)

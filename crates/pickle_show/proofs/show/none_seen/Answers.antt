@@ -1,8 +1,0 @@
--- The marks are made.
-use Rattle.std.proofs.Common.{sym, ◌∙◌}
-use Rattle.pickle_show.proofs.Walks.{filled}
-use Rattle.pickle_show.proofs.show.none_seen.Goals as goal
-
-pub returns-clause-ok : goal.returns-clause-ok
-returns-clause-ok c =
-    filled c.resize.result _ _ _ _ (sym c.is_err.ensures.value ∙ c.if-is_err.false) c.new-seen.ensures.items c.new-seen.ensures.len c.resize.ensures.items
