@@ -111,7 +111,7 @@ static uint8_t ask_session(const char *task, memory given, memory out, pickleste
         next = at + length + 1;
         if (length == 4 && !memcmp(line, "quit", 4))
             break;
-        found = picklestep_ask(&session, line, length, left ? out.bytes + size : none, left, written);
+        found = (strstr(task, " --json") ? picklestep_ask_json : picklestep_ask)(&session, line, length, left ? out.bytes + size : none, left, written);
         if (found == PICKLESTEP_NO_ROOM) { // (the text waits; all further ones are only counted)
             picklestep_written again;
             if (left && picklestep_again(&session, out.bytes + size, left, &again) != PICKLESTEP_NO_ROOM)

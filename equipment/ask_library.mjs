@@ -73,7 +73,8 @@ function askSession(task, content, script) {
     for (const line of script.toString('latin1').replace(/\n$/, '').split('\n')) {
         if (line === 'quit') break;
         const said = put(Buffer.from(line, 'latin1'));
-        texts.push(text(library.picklestep_ask(session, said, BigInt(line.length), ...place()), () => library.picklestep_again(session, ...place())));
+        const asks = library[words.includes('--json') ? 'picklestep_ask_json' : 'picklestep_ask'];
+        texts.push(text(asks(session, said, BigInt(line.length), ...place()), () => library.picklestep_again(session, ...place())));
         library.give(said);
     }
     if (task.startsWith('saved')) {

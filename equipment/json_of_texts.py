@@ -16,6 +16,8 @@ Nested = Dict[str, Any]
 QUOTED = r"'(?:[^'\\]|\\.)*'"
 # (the names of opcodes are in capitals; behind the argument stands what the opcode says besides)
 OPCODE = re.compile(rf" *(\d+): (\S+) +([A-Z][A-Z0-9_]*)(?: +({QUOTED}(?: {QUOTED})?|-?\d+|le:[0-9a-f]*|f8:[0-9a-f]{{16}}))?(?: +\((MARK at|as) (\d+)\))?")
+# (the debugger's line of an opcode: the cursor, a breakpoint, its place, its offset)
+OPCODE_OF_ITEM = re.compile(rf"([> ])([* ]) *(\d+) +(\d+): ([A-Z][A-Z0-9_]*)(?: ({QUOTED}(?: {QUOTED})?|-?\d+|le:[0-9a-f]*|f8:[0-9a-f]{{16}}))?")
 COLUMNS = re.compile(r" *\d+: .{4} ( *)")
 LEFT = re.compile(r"left: (\d+) objects, (\d+) marks")
 FAULT = re.compile(r"fault: (F\d+) (.*?)(?: 0x([0-9a-f]{2}))? at (\d+)")

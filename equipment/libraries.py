@@ -280,7 +280,9 @@ def of_sessions(libraries: Libraries, way: str) -> "str | Noted":
     for run, wanted, found in zip(runs, saved, libraries.asked(command, [replace(run, words=("saved", *run.words[1:])) for run in runs]), strict=True):
         if found != wanted:
             return f"the bytes of {run.file.name} {' '.join(run.words)}"
-    return libraries.compare_answers(talks, libraries.asked(command, runs))
+    lines = [replace(talk, words=("debug", "--json", *talk.words[1:])) for talk in talks]
+    asked = [replace(run, words=("session", "--json", *run.words[1:])) for run in runs]
+    return libraries.compare_answers([*talks, *lines], libraries.asked(command, [*runs, *asked]))
 
 
 def no_tasks(libraries: Libraries, way: str) -> str:

@@ -13,6 +13,7 @@ from typing import Any
 
 import calls_of_json
 import conversations
+import json_of_answers
 import json_of_texts
 
 from .listings import start_of
@@ -127,6 +128,35 @@ def fault_of_forms(room: Room, page: Path) -> str:
     return "" if len(names) > 30 else f"there are {len(names)} reasons"
 
 
+# No item has this offset: the refusal of it marks where the answer to a line ends.
+MARK, MARKED = "goto @18446744073709551614", "refused: V2 no item at offset 18446744073709551614\n"
+LOOKS = ("stack", "memo", "objects")
+
+
+def fault_of_answers(room: Room, page: Path) -> str:
+    """Of each line of each conversation: its line of JSON says what its text says, and so does what is shown after it."""
+    folder = room.folder / "answers"
+    folder.mkdir(parents=True, exist_ok=True)
+    file, printed = folder / "a.pickle", b""
+    for block in conversations.blocks_of(page.read_text()):
+        if not block.script:
+            continue
+        file.write_bytes(block.pickle)
+        lines = [each for line in block.script for each in (line, *LOOKS)]
+        script = "".join(f"{line}\n" for line in lines)
+        text = run([room.program, "debug", *block.options, file], folder, "".join(f"{line}\n{MARK}\n" for line in lines).encode())
+        found = run([room.program, "debug", "--json", *block.options, file], folder, script.encode())
+        texts = text.output.decode().split(MARKED)[: len(lines)]
+        looks = [dict(zip(LOOKS, texts[at - at % 4 + 1 :])) for at in range(len(texts))]
+        wanted = [json_of_answers.of_answer(*each) for each in zip(lines, texts, looks)]
+        refused = any(each["kind"] == "refused" for each in wanted)
+        why = found.fault_of_status(int(refused)) or fault_of_lines(found.output, wanted)
+        if why or found.errors:
+            return f"{block.name}: {why or beginning(found.errors)}"
+        printed += found.output
+    return "" if of_node(room, printed) == of_python(printed) else "Node reads other values than Python"
+
+
 def opcode(offset: int, name: str, rest: str = "") -> str:
     return f'{{"kind":"opcode","offset":{offset},"opcode":"{name}",{rest}"marks":0}}\n'
 
@@ -153,6 +183,7 @@ def trials(room: Room) -> list[Trial]:
     named = {f"{part[0].stem} to {part[-1].stem}": part for part in parts}
     return [
         *trials_of(ROWS, room),
+        Trial("JSON of conversations", functools.partial(fault_of_answers, room, room.equipment / "conversations.txt")),
         Trial("JSON of forms", functools.partial(fault_of_forms, room, room.equipment / "conversations.txt")),
         *(Trial(f"JSON of {name}", functools.partial(fault_of, room, part)) for name, part in named.items()),
         *(Trial(f"JSON of the calls of {name}", functools.partial(fault_of_calls, room, [*itertools.product(part, CALLS_MODES)])) for name, part in named.items()),

@@ -150,6 +150,7 @@ OPTIONS = {
         ("    --unframed", UNFRAMED_HELP),
         ("    --window <N>", "keep the records of the latest N steps; to go back further, run from the start again"),
         ("    --save <OUT>", "write the pickle to OUT after the last line"),
+        JSON_HELP,
     ),
 }
 NO_MORE_HELP = ("-h, --help", "Print help")

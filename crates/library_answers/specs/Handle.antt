@@ -6,7 +6,7 @@ use Rattle.pickle_session.specs.Opening.{IsOpenedIn}
 use Rattle.library_answers.specs.declared.fill.Written.{Written}
 use Rattle.library_answers.specs.Asked.{is_many, is_loose, are_modes}
 use Rattle.library_answers.specs.Answer.{Puts, Fills}
-use Rattle.library_answers.specs.Talk.{Talk, Says, Loses}
+use Rattle.library_answers.specs.Talk.{Talk, Says, Loses, SaysJson, LosesJson}
 use Rattle.library_answers.specs.Kept.{limit_of}
 
 -- ---- to open
@@ -43,8 +43,8 @@ Opens options window bytes old new answer = MatchBool (may_open options window o
 -- ---- to ask
 
 -- the line was obeyed, and its text was put there (0) or has no room there (3)
-pub record IsSaid (line : List ℕ) (t u : Talk) (old new : List ℕ) (written : Written) (answer : ℕ) : Type 0 where
-  pub says : Says line t u
+pub record IsSaid (SaysIt : Talk → Talk → Type 0) (t u : Talk) (old new : List ℕ) (written : Written) (answer : ℕ) : Type 0 where
+  pub says : SaysIt t u
   pub puts : Puts u.text u.status old new written answer
 
 -- memory ran out, and the line was not obeyed
@@ -54,13 +54,20 @@ pub record IsUnasked (t u : Talk) (old new : List ℕ) (answer : ℕ) : Type 0 w
   pub untouched : new ≡ old
 
 -- the line was obeyed, and memory ran out for its text
-pub record IsLost (line : List ℕ) (t u : Talk) (old new : List ℕ) (answer : ℕ) : Type 0 where
+pub record IsLost (LosesIt : Talk → Talk → Type 0) (t u : Talk) (old new : List ℕ) (answer : ℕ) : Type 0 where
   pub answer_is : answer ≡ 5
-  pub loses : Loses line t u
+  pub loses : LosesIt t u
   pub untouched : new ≡ old
 
+abbrev pub AsksBy : (Talk → Talk → Type 0) → (Talk → Talk → Type 0) → Talk → Talk → List ℕ → List ℕ → Written → ℕ → Type 0
+AsksBy SaysIt LosesIt t u old new written answer = IsSaid SaysIt t u old new written answer ⊎ (IsUnasked t u old new answer ⊎ IsLost LosesIt t u old new answer)
+
 abbrev pub AsksOpen : List ℕ → Talk → Talk → List ℕ → List ℕ → Written → ℕ → Type 0
-AsksOpen line t u old new written answer = IsSaid line t u old new written answer ⊎ (IsUnasked t u old new answer ⊎ IsLost line t u old new answer)
+AsksOpen line t u old new written answer = AsksBy (Says line) (Loses line) t u old new written answer
+
+-- the same with the line of JSON in the place of the text
+abbrev pub AsksOpenJson : List ℕ → Talk → Talk → List ℕ → List ℕ → Written → ℕ → Type 0
+AsksOpenJson line t u old new written answer = AsksBy (SaysJson line) (LosesJson line) t u old new written answer
 
 -- where a session is open something becomes of it, and else nothing was put there
 abbrev pub OfOpen : (Talk → Talk → Type 0) → Option Talk → Option Talk → List ℕ → List ℕ → ℕ → Type 0
@@ -69,6 +76,9 @@ OfOpen Becomes None handle' old new answer = (handle' ≡ None) × (answer ≡ 4
 
 abbrev pub Asks : List ℕ → Option Talk → Option Talk → List ℕ → List ℕ → Written → ℕ → Type 0
 Asks line handle handle' old new written answer = OfOpen (λ t u. AsksOpen line t u old new written answer) handle handle' old new answer
+
+abbrev pub AsksJson : List ℕ → Option Talk → Option Talk → List ℕ → List ℕ → Written → ℕ → Type 0
+AsksJson line handle handle' old new written answer = OfOpen (λ t u. AsksOpenJson line t u old new written answer) handle handle' old new answer
 
 -- the text of the latest line was put there once more
 abbrev pub AsksAgain : Option Talk → Option Talk → List ℕ → List ℕ → Written → ℕ → Type 0

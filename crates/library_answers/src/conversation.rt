@@ -5,11 +5,15 @@ ghost use Rattle.pickle_doc.specs.Document.{size_limit, document_bytes};
 ghost use Rattle.pickle_session.specs.Opening.{IsOpenedIn};
 ghost use Rattle.pickle_script.specs.Conversation.{AnswersLine};
 ghost use Rattle.pickle_script.specs.Transcript.{Prints};
+ghost use Rattle.debug_json.specs.Answered.{AnswersJsonLine};
+ghost use Rattle.debug_json.specs.Answer.{Answer};
+ghost use Rattle.debug_json.specs.Says as in_json;
 ghost use Rattle.pickle_script.specs.declared.stop.Stop.TheVariants as stops;
 ghost use Rattle.library_answers.specs.Answer.{took};
 ghost use Rattle.library_answers.specs.Kept.{state_of, limit_of};
 
 use crate::fill::ROOM;
+use debug_json::answer_json_line;
 use pickle_doc::LIMIT;
 use pickle_io::{Buffered, Failed, Sink, ToWrite};
 use pickle_script::{Stop, answer_line, document_bytes};
@@ -62,6 +66,22 @@ fn answer_of<P: Past>(
     Ok((page.into_inner().into_inner(), refused))
 }
 
+/// The line of JSON that a line is answered with in a session, and whether it is a refusal.
+fn json_of<P: Past>(
+    alloc: Global,
+    session: &mut Session<P>,
+    line: &[u8],
+) -> Result<(Vec<u8>, bool), Lack>
+    ensures answers { IfOk result (λ r. AnswersJsonLine line.now session.old session.new (took []) (took r.0.items) (Ok r.1)) }
+    ensures room { result ≡ Err Lack.Room → session.new ≡ session.old }
+    ensures lost { result ≡ Err Lack.Text → (answer : Answer) × in_json.Says session.old line.now answer session.new }
+{
+    let mut page = Buffered::with_room(alloc, ToWrite::new(Vec::new(alloc)), ROOM)?;
+    let refused = answer_json_line(alloc, session, line, &mut page)?;
+    page.flush()?;
+    Ok((page.into_inner().into_inner(), refused))
+}
+
 /// A session, with the records that it keeps.
 #[derive(Drop)]
 enum Kept {
@@ -80,6 +100,18 @@ fn answer_in(alloc: Global, kept: &mut Kept, line: &[u8]) -> Result<(Vec<u8>, bo
     match kept {
         Kept::Whole(session) => answer_of(alloc, session, line),
         Kept::Window(session) => answer_of(alloc, session, line),
+    }
+}
+
+/// The line of JSON that a line is answered with in it, and whether it is a refusal.
+fn json_in(alloc: Global, kept: &mut Kept, line: &[u8]) -> Result<(Vec<u8>, bool), Lack>
+    ensures answers { IfOk result (λ r. AnswersJsonLine line.now (state_of kept.old) (state_of kept.new) (took []) (took r.0.items) (Ok r.1)) }
+    ensures room { result ≡ Err Lack.Room → state_of kept.new ≡ state_of kept.old }
+    ensures lost { result ≡ Err Lack.Text → (answer : Answer) × in_json.Says (state_of kept.old) line.now answer (state_of kept.new) }
+{
+    match kept {
+        Kept::Whole(session) => json_of(alloc, session, line),
+        Kept::Window(session) => json_of(alloc, session, line),
     }
 }
 
@@ -143,7 +175,7 @@ impl Conversation {
     ghost use Rattle.pickle_session.specs.Opening.{IsOpenedIn};
     ghost use Rattle.pickle_script.specs.declared.stop.Stop.TheVariants as stops;
     ghost use Rattle.library_answers.specs.Kept.{limit_of};
-    ghost use Rattle.library_answers.specs.Talk.{Says, Loses};
+    ghost use Rattle.library_answers.specs.Talk.{Says, Loses, SaysJson, LosesJson};
 
     /// A session of an input, of which no line was asked. It remembers so many steps, or all where no count is given.
     pub fn open(
@@ -174,6 +206,27 @@ impl Conversation {
         ensures lost { result ≡ Err Lack.Text → Loses line.now self.old self.new }
     {
         match answer_in(alloc, &mut self.kept, line) {
+            Ok((text, refused)) => {
+                self.text = text;
+                self.status = u8::from(refused);
+                Ok(())
+            }
+            Err(Lack::Room) => Err(Lack::Room),
+            Err(Lack::Text) => {
+                self.text.clear();
+                self.status = 0;
+                Err(Lack::Text)
+            }
+        }
+    }
+
+    /// Obeys a line, given without its newline, and keeps the line of JSON that answers it until the next one is obeyed.
+    pub fn ask_json(&mut self, alloc: Global, line: &[u8]) -> Result<(), Lack>
+        ensures says { IfOk result (λ _. SaysJson line.now self.old self.new) }
+        ensures room { result ≡ Err Lack.Room → self.new ≡ self.old }
+        ensures lost { result ≡ Err Lack.Text → LosesJson line.now self.old self.new }
+    {
+        match json_in(alloc, &mut self.kept, line) {
             Ok((text, refused)) => {
                 self.text = text;
                 self.status = u8::from(refused);

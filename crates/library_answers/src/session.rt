@@ -4,7 +4,7 @@ ghost use Rattle.std.specs.Prelude.{◌≡◌, ◌≤◌, ◌<◌, ◌↔◌, �
 ghost use Rattle.pickle_doc.specs.Document.{size_limit};
 ghost use Rattle.pickle_script.specs.declared.stop.Stop.TheVariants as stops;
 ghost use Rattle.library_answers.specs.Asked.{are_modes};
-ghost use Rattle.library_answers.specs.Handle.{IsNew, OpensNew, Opens, AsksOpen, Asks, AsksAgain, AreBytes, AsksBytes, most_steps};
+ghost use Rattle.library_answers.specs.Handle.{IsNew, OpensNew, Opens, AsksOpen, AsksOpenJson, Asks, AsksJson, AsksAgain, AreBytes, AsksBytes, most_steps};
 ghost use Rattle.library_answers.specs.Answer.{Puts, Fills};
 
 use crate::asked;
@@ -104,6 +104,43 @@ pub fn ask(
     match take(alloc, handle) {
         Some(mut talk) => {
             let answer = ask_open(alloc, &mut talk, line, out, written);
+            put_in(handle, talk);
+            answer
+        }
+        None => NO_TASK,
+    }
+}
+
+/// Asks a session a line, and puts the line of JSON that answers it at the start of `out`.
+fn ask_open_json(
+    alloc: Global,
+    talk: &mut Conversation,
+    line: &[u8],
+    out: &mut [u8],
+    written: &mut Written,
+) -> u8
+    ensures { AsksOpenJson line.now talk.old talk.new out.old out.new written.new result }
+{
+    match talk.ask_json(alloc, line) {
+        Ok(()) => put(talk.text(), talk.status(), out, written),
+        Err(Lack::Room) => OUT_OF_MEMORY,
+        Err(Lack::Text) => LOST,
+    }
+}
+
+/// Asks the session of a handle a line, and puts the line of JSON that answers it at the start of `out`.
+pub fn ask_json(
+    alloc: Global,
+    handle: &mut Handle,
+    line: &[u8],
+    out: &mut [u8],
+    written: &mut Written,
+) -> u8
+    ensures { AsksJson line.now handle.old.talk handle.new.talk out.old out.new written.new result }
+{
+    match take(alloc, handle) {
+        Some(mut talk) => {
+            let answer = ask_open_json(alloc, &mut talk, line, out, written);
             put_in(handle, talk);
             answer
         }

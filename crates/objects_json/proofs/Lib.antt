@@ -2,5 +2,5 @@
 pub mod Changes
 mod Heaps
 mod Answered
-mod Readable
+pub mod Readable
 mod Agreeing

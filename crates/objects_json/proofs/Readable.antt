@@ -25,9 +25,9 @@ use Rattle.objects_json.specs.Readable.{ObjectLinesReadBack}
 -- ---- fields that hold arrays
 
 -- such fields can be read back
-record Nested (fs : List Field) : Type 0 where
-  texts : MembersHaveTexts (members_of fs)
-  shallow : members_depth (members_of fs) ≤ 2
+pub record Nested (fs : List Field) : Type 0 where
+  pub texts : MembersHaveTexts (members_of fs)
+  pub shallow : members_depth (members_of fs) ≤ 2
 
 of_plain : (fs : List Field) → ArePlain fs → Nested fs
 of_plain fs p = record { texts = plain_texts fs p; shallow = omega (arith, plain_depth fs p) }
@@ -93,19 +93,19 @@ head id k =
 
 -- ---- parts
 
-number_texts : (n : ℕ) → HasTexts (whole n)
+pub number_texts : (n : ℕ) → HasTexts (whole n)
 unfolding field
 number_texts n = (number (codes "n") n refl).0.value
 
-number_flat : (n : ℕ) → depth (whole n) ≡ 0
+pub number_flat : (n : ℕ) → depth (whole n) ≡ 0
 unfolding field
 number_flat n = (number (codes "n") n refl).0.flat
 
-numbers_texts : (ns : List ℕ) → ItemsHaveTexts (items_of (map whole ns))
+pub numbers_texts : (ns : List ℕ) → ItemsHaveTexts (items_of (map whole ns))
 numbers_texts [] = tt
 numbers_texts (n ∷ ns) = (number_texts n, numbers_texts ns)
 
-numbers_depth : (ns : List ℕ) → items_depth (items_of (map whole ns)) ≡ 0
+pub numbers_depth : (ns : List ℕ) → items_depth (items_of (map whole ns)) ≡ 0
 numbers_depth [] = refl
 numbers_depth (n ∷ ns) = omega (arith, number_flat n, numbers_depth ns)
 
@@ -168,10 +168,10 @@ rest : (ids : List ℕ) (cs : List Change) → Nested (rest_fields ids cs)
 unfolding rest_fields
 rest ids cs = joined (parts_fields ids) (changes_fields cs) (parts ids) (changes cs)
 
-object : (id : ℕ) (o : Object) → Nested (object_fields id o)
+pub object : (id : ℕ) (o : Object) → Nested (object_fields id o)
 object id o = joined _ _ (of_plain _ (fields_are_plain.joined _ _ (head id o.kind) (given o.kind))) (rest o.parts o.changes)
 
-item_refused : (place : ℕ) (r : Refusal) → ArePlain (item_refused_fields place r)
+pub item_refused : (place : ℕ) (r : Refusal) → ArePlain (item_refused_fields place r)
 item_refused place r = fields_are_plain.joined _ _ (refused r None) (number (codes "item") place refl)
 
 pub object_lines_read_back : LinesReadBack → ObjectLinesReadBack

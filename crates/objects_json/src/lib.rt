@@ -8,4 +8,5 @@ mod object;
 mod objects;
 
 pub use laws::{object_lines_read_back, words_are_those_of_texts};
+pub use object::{write_object, write_object_fields};
 pub use objects::objects_lines;

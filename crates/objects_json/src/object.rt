@@ -40,9 +40,9 @@ fn write_rest<P: Page>(parts: &[ObjId], changes: &[Change], page: &mut P) -> Res
     write_changes(changes, page)
 }
 
-/// Writes the fields of an object.
+/// Writes the fields of an object. `Failed` where the sink fails; a beginning of the fields was written then.
 #[tactic(auto, using(json_lines::proofs::Lines::fields_steps))]
-fn write_fields<P: Page>(id: u64, object: &Object, page: &mut P) -> Result<(), Failed>
+pub fn write_object_fields<P: Page>(id: u64, object: &Object, page: &mut P) -> Result<(), Failed>
     ensures { Writes (P.told page.old) (P.told page.new) result (fields_text (object_fields id object.now)) }
 {
     write_head(id, object.kind(), page)?;
@@ -50,12 +50,12 @@ fn write_fields<P: Page>(id: u64, object: &Object, page: &mut P) -> Result<(), F
     write_rest(object.parts(), object.changes(), page)
 }
 
-/// Writes the line of an object.
+/// Writes the line of an object. `Failed` where the sink fails; a beginning of the line was written then.
 #[tactic(auto, using(json_lines::proofs::Lines::line_steps), unfolding(crate::specs::ObjectFields::object_line))]
 pub fn write_object<P: Page>(id: u64, object: &Object, page: &mut P) -> Result<(), Failed>
     ensures { Writes (P.told page.old) (P.told page.new) result (object_line id object.now) }
 {
     begin_line("object", page)?;
-    write_fields(id, object, page)?;
+    write_object_fields(id, object, page)?;
     end_line(page)
 }

@@ -18,7 +18,7 @@ ghost use Rattle.json_script.specs.declared.lines.Lines.TheVariants as asked_lin
 ghost use Rattle.std.specs.Prelude.{◌≡◌, false, None};
 ghost use Rattle.library_answers.specs.Asked.{is_many, is_loose, pickles_left, detail_of, granted_of, holes_of};
 ghost use Rattle.library_answers.specs.Answer.{IsTextOf, IsLinesOf, IsCallsOf, IsCallsLinesOf, IsGateOf, IsGateLineOf, IsMembersOf, IsAssemblyOf, IsTalkOf, Fills, FillsIn, FillsOf};
-ghost use Rattle.library_answers.specs.Handle.{Opens, Asks, AsksAgain, AsksBytes};
+ghost use Rattle.library_answers.specs.Handle.{Opens, Asks, AsksJson, AsksAgain, AsksBytes};
 
 use json_script::Lines;
 use library_answers::{
@@ -362,6 +362,21 @@ pub extern "C" fn picklestep_ask(
     ensures { Asks line.now handle.old.talk handle.new.talk out.old out.new written.new result }
 {
     session::ask(alloc, handle, line, out, written)
+}
+
+/// Obeys a line, given without its newline, and puts the line of JSON that answers it there, which tells what its text tells. The session keeps
+/// it, for `picklestep_again`, until the next line is obeyed.
+#[unsafe(no_mangle)]
+pub extern "C" fn picklestep_ask_json(
+    alloc: Global,
+    handle: &mut Handle,
+    line: &[u8],
+    out: &mut [u8],
+    written: &mut Written,
+) -> u8
+    ensures { AsksJson line.now handle.old.talk handle.new.talk out.old out.new written.new result }
+{
+    session::ask_json(alloc, handle, line, out, written)
 }
 
 /// The text of the latest line once more: for a caller whose room was too small.

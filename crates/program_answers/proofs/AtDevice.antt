@@ -32,8 +32,11 @@ use Rattle.gate_json.proofs.Passing.{line_passes, named_line_passes}
 use Rattle.archive_script.specs.MembersText.{IsMembersText, AnswersMembers}
 use Rattle.assembler_script.specs.AssemblyText.{IsAssemblyText, AnswersAssembly}
 use Rattle.pickle_session.specs.Allowed.{SessionState}
-use Rattle.pickle_script.specs.Conversation.{AppendsBeyond, BrokeBeyond, BrokeSince, StopsReading, StopsWriting}
-use Rattle.program_answers.specs.Talk.{StopsAtDevice, Cuts, IsUnopened}
+use Rattle.pickle_script.specs.Conversation.{AppendsBeyond, BrokeBeyond, BrokeSince, StopsWriting}
+use Rattle.debug_json.specs.Lines.{answer_line}
+use Rattle.json_conversation.specs.Transcript.{lines_text}
+use Rattle.json_conversation.specs.Conversation as json_talk
+use Rattle.program_answers.specs.Talk.{StopsReadingIn, StopsWritingIn, StopsAtDevice, Cuts, IsUnopened}
 use Rattle.program_answers.specs.declared.task.CallsOptions.{CallsOptions}
 use Rattle.program_answers.specs.declared.task.Format.{Format}
 use Rattle.program_answers.specs.declared.task.Format.TheVariants as format
@@ -460,7 +463,7 @@ since_below s given d e held w = record {
   broke = Broke-below w.between e held w.since w.asked.handed w.broke;
 }
 
-fails_below : (s after : SessionState) (a b : Option (List ℕ)) (d e : Told) (held : List ℕ) → d.held ≡ 0 → StopsWriting s after a b d (holding e held) → StopsAtDevice s after a b d e
+fails_below : (s after : SessionState) (a b : Option (List ℕ)) (d e : Told) (held : List ℕ) → d.held ≡ 0 → StopsWriting s after a b d (holding e held) → StopsAtDevice format.Text s after a b d e
 fails_below s after a b d e held none w = record {
   given = w.given;
   gave = w.gave;
@@ -477,27 +480,64 @@ fails_below s after a b d e held none w = record {
   fails = (Broke-below d e held (concat w.texts ++ w.text) none (broke_whole d (holding e held) (concat w.texts) w.text w.fails.0), since_below s w.given d e held w.fails.1);
 }
 
-pub stops_below : (s after : SessionState) (a b : Option (List ℕ)) (d e : Told) (first held : List ℕ) → (holding d first).held ≡ 0 → StopsWriting s after a b (holding d first) (holding e held)
-    → StopsAtDevice s after a b d e
-stops_below s after a b d e first held none w =
-    fails_below s after a b d e held (none_below d first none) (subst (λ (t : Told). StopsWriting s after a b t (holding e held)) (nothing-held d first none) w)
+-- the same of lines for programs
+since_lines : (s : SessionState) (given : List ℕ) (d e : Told) (held : List ℕ) → json_talk.BrokeSince s given d (holding e held) → json_talk.BrokeSince s given d e
+since_lines s given d e held w = record {
+  earlier = w.earlier;
+  latest = w.latest;
+  parts = w.parts;
+  few = w.few;
+  between = w.between;
+  asked = w.asked;
+  since = w.since;
+  broke = Broke-below w.between e held w.since w.asked.handed w.broke;
+}
+
+fails_in_lines : (s after : SessionState) (a b : Option (List ℕ)) (d e : Told) (held : List ℕ) → d.held ≡ 0 → json_talk.StopsWriting s after a b d (holding e held) → StopsAtDevice format.Json s after a b d e
+fails_in_lines s after a b d e held none w = record {
+  given = w.given;
+  gave = w.gave;
+  cut = w.cut;
+  is_cut = w.is_cut;
+  before = w.before;
+  last = w.last;
+  later = w.later;
+  are_given = w.are_given;
+  answers = w.answers;
+  answer = w.answer;
+  runs = w.runs;
+  no_quit = w.no_quit;
+  fails = (
+    Broke-below d e held (lines_text w.answers ++ answer_line w.answer) none (broke_whole d (holding e held) (lines_text w.answers) (answer_line w.answer) w.fails.0),
+    since_lines s w.given d e held w.fails.1,
+  );
+}
+
+fails_in : (f : Format) (s after : SessionState) (a b : Option (List ℕ)) (d e : Told) (held : List ℕ) → d.held ≡ 0 → StopsWritingIn f s after a b d (holding e held) → StopsAtDevice f s after a b d e
+fails_in format.Text s after a b d e held none w = fails_below s after a b d e held none w
+fails_in format.Json s after a b d e held none w = fails_in_lines s after a b d e held none w
+
+pub stops_below : (f : Format) (s after : SessionState) (a b : Option (List ℕ)) (d e : Told) (first held : List ℕ) → (holding d first).held ≡ 0
+    → StopsWritingIn f s after a b (holding d first) (holding e held) → StopsAtDevice f s after a b d e
+stops_below f s after a b d e first held none w =
+    fails_in f s after a b d e held (none_below d first none) (subst (λ (t : Told). StopsWritingIn f s after a b t (holding e held)) (nothing-held d first none) w)
 
 -- what a stop of a conversation leaves, by what is promised of it
-pub cuts_below : (s after : SessionState) (a b : Gives) (d e : Told) (first held : List ℕ) (x : Stop) (r : Result ℕ Stop) → r ≡ Err x → (holding d first).held ≡ 0
+pub cuts_below : (f : Format) (s after : SessionState) (a b : Gives) (d e : Told) (first held : List ℕ) (x : Stop) (r : Result ℕ Stop) → r ≡ Err x → (holding d first).held ≡ 0
     → (r ≢ Err stop.Write → (holding e held).held ≡ 0)
-    → (r ≡ Err stop.Read → StopsReading s after a.remaining b.remaining (holding d first) (holding e held))
+    → (r ≡ Err stop.Read → StopsReadingIn f s after a.remaining b.remaining (holding d first) (holding e held))
     → (r ≡ Err stop.Read → HasFailed a.failures b.failures) → (r ≢ Err stop.Read → b.failures ≡ a.failures)
-    → (r ≡ Err stop.Write → StopsWriting s after a.remaining b.remaining (holding d first) (holding e held))
+    → (r ≡ Err stop.Write → StopsWritingIn f s after a.remaining b.remaining (holding d first) (holding e held))
     → (r ≡ Err stop.Memory → (after ≡ s) × (b ≡ a) × (e ≡ d))
-    → r ≢ Err stop.TooLarge → Cuts s after a b d e x
-cuts_below s after a b d e first held stop.Read r is none all reading failed calm writing memory no_other =
+    → r ≢ Err stop.TooLarge → Cuts f s after a b d e x
+cuts_below f s after a b d e first held stop.Read r is none all reading failed calm writing memory no_other =
     let n : r ≢ Err stop.Write = λ w. let c : err stop.Read ≡ err stop.Write = sym is ∙ w in absurd cc in
-    (same_below (StopsReading s after a.remaining b.remaining) d e first held none (all n) (reading is), failed is)
-cuts_below s after a b d e first held stop.Write r is none all reading failed calm writing memory no_other =
+    (same_below (StopsReadingIn f s after a.remaining b.remaining) d e first held none (all n) (reading is), failed is)
+cuts_below f s after a b d e first held stop.Write r is none all reading failed calm writing memory no_other =
     let n : r ≢ Err stop.Read = λ w. let c : err stop.Write ≡ err stop.Read = sym is ∙ w in absurd cc in
-    (stops_below s after a.remaining b.remaining d e first held none (writing is), calm n)
-cuts_below s after a b d e first held stop.TooLarge r is none all reading failed calm writing memory no_other = absurd (no_other is)
-cuts_below s after a b d e first held stop.Memory r is none all reading failed calm writing memory no_other = memory is
+    (stops_below f s after a.remaining b.remaining d e first held none (writing is), calm n)
+cuts_below f s after a b d e first held stop.TooLarge r is none all reading failed calm writing memory no_other = absurd (no_other is)
+cuts_below f s after a b d e first held stop.Memory r is none all reading failed calm writing memory no_other = memory is
 
 -- the error of a `?` is passed on as it is
 pub unsaved_so : {A : Type 0} (P : Stop → Type 0) (x : Stop) (r : Result A Stop) → IsErrAnd r (λ y. y ≡ x) → P x → IfErr r P

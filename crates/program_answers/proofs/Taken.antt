@@ -404,7 +404,7 @@ ours name = (
       (
         (λ t called. record {
           command = inr (inr (inr (inl refl)));
-          suits = (file_suits, (many_suits, (unframed_suits, (window_suits, (save_suits, (help_suits, tt))))));
+          suits = (file_suits, (many_suits, (unframed_suits, (window_suits, (save_suits, (json_suits, (help_suits, tt)))))));
           file = λ rows e. (both _ _ e).0;
           list = no_gate (codes "debug") refl;
         }),

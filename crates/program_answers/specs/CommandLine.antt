@@ -94,7 +94,7 @@ abbrev pub calls_app : App
 calls_app = with_rule detailed_app json_rule
 
 abbrev pub debug_app : App
-debug_app = with_rule (with_rule (frames_app (codes "debug")) window_rule) save_rule
+debug_app = with_rule (with_rule (with_rule (frames_app (codes "debug")) window_rule) save_rule) json_rule
 
 abbrev pub form_app : App
 form_app = with_rule (on_file (codes "form")) json_rule
@@ -231,6 +231,7 @@ pub record HasGranted (rows : List Row) (granted : Granted) : Type 0 where
 pub record HasOptions (rows : List Row) (options : Options) : Type 0 where
   pub save_is : first_of (codes "save") rows ≡ option_map string_bytes options.save
   pub window_is : IsWindow (one_of (codes "window") rows) options.window
+  pub format_is : HasFormat rows options.format
 
 abbrev pub IsNamed : Matches → Task → Type 0
 IsNamed matches (task.List input f) = (u : IsUsed (codes "list") matches input) × HasFormat u.rows f

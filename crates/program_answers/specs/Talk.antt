@@ -8,10 +8,15 @@ use Rattle.pickle_io.specs.Device.{Told, HasFailed, Wrote, Broke}
 use Rattle.pickle_doc.specs.Document.{document_bytes}
 use Rattle.pickle_session.specs.Allowed.{SessionState}
 use Rattle.pickle_session.specs.Opening.{IsOpenedIn}
-use Rattle.pickle_script.specs.Conversation.{Finishes, StopsReading, StopsInLine, BrokeSince}
+use Rattle.pickle_script.specs.Conversation.{Finishes, StopsReading, StopsWriting, StopsInLine, BrokeSince}
+use Rattle.debug_json.specs.Lines.{answer_line}
+use Rattle.json_conversation.specs.Transcript.{lines_text}
+use Rattle.json_conversation.specs.Conversation as json
 use Rattle.pickle_script.specs.declared.stop.Stop.{Stop}
 use Rattle.pickle_script.specs.declared.stop.Stop.TheVariants as stop
 use Rattle.program_answers.specs.declared.task.GivenFile.{GivenFile}
+use Rattle.program_answers.specs.declared.task.Format.{Format}
+use Rattle.program_answers.specs.declared.task.Format.TheVariants as format
 use Rattle.program_answers.specs.declared.task.Options.{Options}
 use Rattle.program_answers.specs.declared.task.Task.{Task}
 use Rattle.program_answers.specs.declared.task.Task.TheVariants as task
@@ -32,38 +37,53 @@ Saves took (Some path) files files' bytes = Wrote (took files path) (took files'
 
 -- ---- a conversation with a session
 
+-- what a conversation leaves, with texts for people or with lines for programs
+abbrev pub FinishesIn : Format → SessionState → SessionState → ℕ → Option (List ℕ) → Option (List ℕ) → Told → Told → Type 0
+FinishesIn format.Text s after status input input' old new = Finishes s after status input input' old new
+FinishesIn format.Json s after status input input' old new = json.Finishes s after status input input' old new
+
+abbrev pub StopsReadingIn : Format → SessionState → SessionState → Option (List ℕ) → Option (List ℕ) → Told → Told → Type 0
+StopsReadingIn format.Text s after input input' old new = StopsReading s after input input' old new
+StopsReadingIn format.Json s after input input' old new = json.StopsReading s after input input' old new
+
+abbrev pub StopsWritingIn : Format → SessionState → SessionState → Option (List ℕ) → Option (List ℕ) → Told → Told → Type 0
+StopsWritingIn format.Text s after input input' old new = StopsWriting s after input input' old new
+StopsWritingIn format.Json s after input input' old new = json.StopsWriting s after input input' old new
+
 -- the device failed in the text of some line: what it took is a beginning of the texts up to that, with whole ones of the lines that were
 -- whole when more was read the last time
-abbrev pub StopsAtDevice : SessionState → SessionState → Option (List ℕ) → Option (List ℕ) → Told → Told → Type 0
-StopsAtDevice s after input input' old new =
+abbrev pub StopsAtDevice : Format → SessionState → SessionState → Option (List ℕ) → Option (List ℕ) → Told → Told → Type 0
+StopsAtDevice format.Text s after input input' old new =
     StopsInLine (λ given texts text. Broke old new (concat texts ++ text) × BrokeSince s given old new) s after input input'
+StopsAtDevice format.Json s after input input' old new =
+    json.StopsInLine (λ given answers answer. Broke old new (lines_text answers ++ answer_line answer) × json.BrokeSince s given old new) s after input input'
 
 -- what a stop leaves of it: the source failed just where that is the stop, and the device where it is Write
-abbrev pub Cuts : SessionState → SessionState → Gives → Gives → Told → Told → Stop → Type 0
-Cuts s after input input' old new stop.Read = StopsReading s after input.remaining input'.remaining old new × HasFailed input.failures input'.failures
-Cuts s after input input' old new stop.Write = StopsAtDevice s after input.remaining input'.remaining old new × (input'.failures ≡ input.failures)
-Cuts s after input input' old new stop.TooLarge = ⊥
-Cuts s after input input' old new stop.Memory = (after ≡ s) × (input' ≡ input) × (new ≡ old)
+abbrev pub Cuts : Format → SessionState → SessionState → Gives → Gives → Told → Told → Stop → Type 0
+Cuts f s after input input' old new stop.Read = StopsReadingIn f s after input.remaining input'.remaining old new × HasFailed input.failures input'.failures
+Cuts f s after input input' old new stop.Write = StopsAtDevice f s after input.remaining input'.remaining old new × (input'.failures ≡ input.failures)
+Cuts f s after input input' old new stop.TooLarge = ⊥
+Cuts f s after input input' old new stop.Memory = (after ≡ s) × (input' ≡ input) × (new ≡ old)
 
 -- it was held to its end, and no read failed
-pub record IsHeld (s after : SessionState) (status : ℕ) (input input' : Gives) (old new : Told) : Type 0 where
-  pub finishes : Finishes s after status input.remaining input'.remaining old new
+pub record IsHeld (f : Format) (s after : SessionState) (status : ℕ) (input input' : Gives) (old new : Told) : Type 0 where
+  pub finishes : FinishesIn f s after status input.remaining input'.remaining old new
   pub calm : input'.failures ≡ input.failures
 
 -- it was held to its end, and then saving the document to the file of that name failed so; no other file took anything
-pub record IsLost (s after : SessionState) (save : Option (List ℕ)) {F O : Type 0} (r : Reports F O)
+pub record IsLost (f : Format) (s after : SessionState) (save : Option (List ℕ)) {F O : Type 0} (r : Reports F O)
     (files files' : F) (input input' : Gives) (old new : Told) (e : Stop) : Type 0 where
   pub path : List ℕ
   pub asked : save ≡ Some path
   pub lost : IsTrue (r.loses files path e)
   pub others : (name : List ℕ) → name ≢ path → r.took files' name ≡ r.took files name
   pub status : ℕ
-  pub held : IsHeld s after status input input' old new
+  pub held : IsHeld f s after status input input' old new
 
 -- nothing was saved of it, since it stopped, or the file did
-abbrev pub IsUnsaved : SessionState → SessionState → Option (List ℕ) → {F O : Type 0} → Reports F O → F → F → Gives → Gives → Told → Told → Stop → Type 0
-IsUnsaved s after save r files files' input input' old new e = ((files' ≡ files) × Cuts s after input input' old new e)
-    ⊎ IsLost s after save r files files' input input' old new e
+abbrev pub IsUnsaved : Format → SessionState → SessionState → Option (List ℕ) → {F O : Type 0} → Reports F O → F → F → Gives → Gives → Told → Told → Stop → Type 0
+IsUnsaved f s after save r files files' input input' old new e = ((files' ≡ files) × Cuts f s after input input' old new e)
+    ⊎ IsLost f s after save r files files' input input' old new e
 
 -- ---- a conversation about bytes
 
@@ -81,7 +101,7 @@ pub record Talked (many loose : Bool) (bytes : List ℕ) (options : Options) {F 
   pub start : SessionState
   pub after : SessionState
   pub opens : Opens many loose bytes options start
-  pub held : IsHeld start after status input input' old new
+  pub held : IsHeld options.format start after status input input' old new
   pub saves : Saves r.took (path_of options) files files' (document_bytes after.session.document)
 
 -- there was a session of the bytes, but nothing was saved
@@ -90,7 +110,7 @@ pub record Fell (many loose : Bool) (bytes : List ℕ) (options : Options) {F O 
   pub start : SessionState
   pub after : SessionState
   pub opens : Opens many loose bytes options start
-  pub unsaved : IsUnsaved start after (path_of options) r files files' input input' old new e
+  pub unsaved : IsUnsaved options.format start after (path_of options) r files files' input input' old new e
 
 -- nothing was read, written or saved
 pub record Untouched {F : Type 0} (files files' : F) (input input' : Gives) (old new : Told) : Type 0 where

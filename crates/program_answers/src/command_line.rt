@@ -253,7 +253,8 @@ fn debug_command<'a>(alloc: Global) -> Result<Command<'a>, AllocError>
         "Runs the commands of standard input on FILE: steps forwards and back, shows, edits",
     )?
     .arg(window_argument(alloc))?
-    .arg(save_argument(alloc))
+    .arg(save_argument(alloc))?
+    .arg(json_argument(alloc))
 }
 
 /// The command that says whether a file is in the form that picklers write.

@@ -96,6 +96,8 @@ pub struct Options {
     pub save: Option<String>,
     /// How many step records are kept, from 1 to 1,000,000; all where there is no number.
     pub window: Option<usize>,
+    /// Whether each line is answered by a text for people or by a line for programs.
+    pub format: Format,
 }
 
 /// Why the words are no task.
@@ -221,8 +223,13 @@ fn options_of(alloc: Global, found: &ArgMatches<'_>) -> Result<Option<Options>, 
     ensures none { result ≡ Ok None → (window : Option ℕ) → IsWindow (one_of (codes "window") (rows_of (found_of found.now))) window → ⊥ }
 {
     let save = owned(alloc, found.get_str("save"))?;
+    let format = format_of(found);
     match window_of(found) {
-        Some(window) => Ok(Some(Options { save, window })),
+        Some(window) => Ok(Some(Options {
+            save,
+            window,
+            format,
+        })),
         None => Ok(None),
     }
 }

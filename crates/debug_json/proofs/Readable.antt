@@ -1,0 +1,431 @@
+-- The fields of each line can be read back, and so the line is.
+use Rattle.std.proofs.Common.{◌≡◌, ◌∙◌, ℕ, zero, suc, ◌<◌, ◌≤◌, Bool, true, false, List, [], ◌∷◌, length, Option, None, Some, Result, Ok, Err, refl, sym, ap, subst, inl, inr, arith}
+use Rattle.std.specs.Prelude.{codes, map, nat_lt, slice_get, if◌then◌else◌, MatchOption, ⊤}
+use Rattle.std.specs.Option.{option_map_or}
+use Rattle.std.specs.List.{list_all}
+use Rattle.std.specs.Str.{IsUtf8}
+use Rattle.std.proofs.lemmas.Bool.{ltb-true}
+use Rattle.json.specs.Json.{Json, document}
+use Rattle.json.specs.Tree.{depth, items_depth, members_depth}
+use Rattle.json.specs.Value.{items_of}
+use Rattle.json_lines.specs.Json.{is_plain}
+use Rattle.json_lines.specs.Line.{Field, field, ◌⊕◌, members_of, whole, numbers_json, line_object, line}
+use Rattle.json_lines.specs.Readable.{HasTexts, ItemsHaveTexts, MembersHaveTexts, ArePlain, LinesReadBack}
+use Rattle.json_lines.proofs.Fields.{fields_are_plain, plain_texts, plain_depth}
+use Rattle.pickle_doc.specs.declared.edit.EditFault.{EditFault}
+use Rattle.pickle_doc.specs.declared.edit.EditFault.TheVariants as edit
+use Rattle.pickle_doc.specs.declared.fault.End.{End}
+use Rattle.pickle_doc.specs.declared.fault.End.TheVariants as end
+use Rattle.pickle_doc.specs.Place.{ops_of, offset_of, end_of}
+use Rattle.pickle_ops.specs.declared.fault.FrontFault.TheVariants as at_front
+use Rattle.pickle_ops.specs.declared.fault.OpFault.{OpFault}
+use Rattle.pickle_ops.specs.declared.fault.OpFault.TheVariants as op_fault
+use Rattle.pickle_ops.specs.Object.{Object}
+use Rattle.pickle_ops.specs.Spelling.{Operation}
+use Rattle.pickle_machine.specs.declared.refusal.Refusal.{Refusal}
+use Rattle.pickle_machine.specs.State.{State, stack_of, marks_of}
+use Rattle.pickle_session.specs.declared.reply.Fault.{Fault}
+use Rattle.pickle_session.specs.declared.reply.Fault.TheVariants as fault
+use Rattle.pickle_session.specs.declared.reply.Why.{Why}
+use Rattle.pickle_session.specs.declared.reply.Why.TheVariants as why
+use Rattle.pickle_session.specs.declared.reply.Reply.{Reply}
+use Rattle.pickle_session.specs.declared.reply.Reply.TheVariants as reply
+use Rattle.pickle_session.specs.Session.{Session, state_at, has_break, len_of}
+use Rattle.pickle_session.specs.Allowed.{SessionState}
+use Rattle.pickle_script.specs.declared.conversation.line.Line.{Line}
+use Rattle.pickle_script.specs.declared.conversation.line.Line.TheVariants as line_says
+use Rattle.pickle_script.specs.declared.conversation.line.Place.TheVariants as place
+use Rattle.pickle_script.specs.declared.conversation.line.Query.{Query}
+use Rattle.pickle_script.specs.declared.conversation.line.Query.TheVariants as query
+use Rattle.pickle_script.specs.declared.conversation.line.Syntax.{Syntax}
+use Rattle.pickle_script.specs.declared.conversation.line.Syntax.TheVariants as syntax
+use Rattle.pickle_script.specs.Grammar.{command_at}
+use Rattle.pickle_json.specs.EndFields as ends
+use Rattle.pickle_json.specs.EndFields.{coded_fields}
+use Rattle.pickle_json.proofs.Readable.{word, ended, refused, truth, head, argument}
+use Rattle.pickle_json.proofs.Readable.{fault as fault_told}
+use Rattle.objects_json.specs.ObjectFields.{object_line}
+use Rattle.objects_json.specs.Objects.{item_refused_fields}
+use Rattle.objects_json.proofs.Readable.{Nested, object, item_refused, numbers_texts, numbers_depth, number_texts, number_flat, object_lines_read_back}
+use Rattle.debug_json.specs.declared.said.Said.{Said}
+use Rattle.debug_json.specs.declared.said.Said.TheVariants as said
+use Rattle.debug_json.specs.Array.{object_json, numbered, array_json}
+use Rattle.debug_json.specs.RefusedFields.{end_fields, end_field, item_field, place_field, edit_code, edit_words, fault_code, fault_words, fault_rest, fault_fields, op_code, op_words, syntax_code, syntax_words, syntax_rest, syntax_fields, no_object_words, no_object_fields, no_item_words, no_item_fields, refused_command, refused_syntax, no_object_line, no_item_line}
+use Rattle.debug_json.specs.ReplyFields.{why_fields, ran_fields, ran_line, placed_line, reply_line}
+use Rattle.debug_json.specs.WhereFields.{cursor_fields, count_fields, reached_fields, where_fields, where_line}
+use Rattle.debug_json.specs.ShownFields.{id_json, mark_fields, mark_json, ids_field, marks_field, stack_fields, stack_line, entry_fields, entry_value, entry_json, memo_fields, memo_line, heap_json, heap_fields, heap_line, show_line}
+use Rattle.debug_json.specs.ItemsFields.{sign_fields, item_fields, item_json, items_fields, items_line}
+use Rattle.debug_json.specs.Lines.{nothing_line, quit_line, shown_line, said_line}
+use Rattle.debug_json.specs.Answer.{Answer}
+use Rattle.debug_json.specs.Says.{SaysOnly, SaysReply, SaysBy, Says, shown, IsShown}
+use Rattle.debug_json.specs.Readable.{ReadsBack, AnswersReadBack}
+use Rattle.debug_json.proofs.Printed.{same_state}
+
+-- ---- values and fields of a depth
+
+record Fits (n : ℕ) (v : Json) : Type 0 where
+  texts : HasTexts v
+  shallow : depth v ≤ n
+
+record Deep (n : ℕ) (fs : List Field) : Type 0 where
+  texts : MembersHaveTexts (members_of fs)
+  shallow : members_depth (members_of fs) ≤ n
+
+of_plain : (n : ℕ) (fs : List Field) → ArePlain fs → Deep n fs
+of_plain n fs p = record { texts = plain_texts fs p; shallow = omega (arith, plain_depth fs p) }
+
+texts_joined : (xs ys : List Field) → MembersHaveTexts (members_of xs) → MembersHaveTexts (members_of ys) → MembersHaveTexts (members_of (xs ⊕ ys))
+unfolding ◌⊕◌
+texts_joined [] ys p q = q
+texts_joined (x ∷ xs) ys p q = (p.0, (p.1.0, texts_joined xs ys p.1.1 q))
+
+depth_joined : (n : ℕ) (xs ys : List Field) → members_depth (members_of xs) ≤ n → members_depth (members_of ys) ≤ n → members_depth (members_of (xs ⊕ ys)) ≤ n
+unfolding ◌⊕◌
+depth_joined n [] ys p q = q
+depth_joined n (x ∷ xs) ys p q =
+    let rest : members_depth (members_of xs) ≤ n = omega (arith, p) in
+    omega (arith, p, depth_joined n xs ys rest q)
+
+joined : (n : ℕ) (xs ys : List Field) → Deep n xs → Deep n ys → Deep n (xs ⊕ ys)
+joined n xs ys p q = record { texts = texts_joined xs ys p.texts q.texts; shallow = depth_joined n xs ys p.shallow q.shallow }
+
+alone : (n : ℕ) (name : List ℕ) (v : Json) → list_all is_plain name ≡ true → Fits n v → Deep n (field name v)
+unfolding field
+alone n name v h f = record { texts = (word name h, (f.texts, tt)); shallow = omega (arith, f.shallow) }
+
+value : (n : ℕ) (kind : List ℕ) (fs : List Field) → list_all is_plain kind ≡ true → Deep n fs → Fits (suc n) (object_json kind fs)
+unfolding object_json field ◌⊕◌
+value n kind fs h d = record { texts = (word (codes "kind") refl, (word kind h, d.texts)); shallow = omega (arith, d.shallow) }
+
+module _ {X : Type 0} where
+  values_texts : (n : ℕ) (json : ℕ → X → Json) (xs : List X) → ((i : ℕ) (x : X) → Fits n (json i x)) → ItemsHaveTexts (items_of (numbered json xs))
+  values_texts n json [] f = tt
+  values_texts n json (x ∷ xs) f = ((f 0 x).texts, values_texts n (λ i. json (suc i)) xs (λ i y. f (suc i) y))
+
+  values_depth : (n : ℕ) (json : ℕ → X → Json) (xs : List X) → ((i : ℕ) (x : X) → Fits n (json i x)) → items_depth (items_of (numbered json xs)) ≤ n
+  values_depth n json [] f = omega arith
+  values_depth n json (x ∷ xs) f = omega (arith, (f 0 x).shallow, values_depth n (λ i. json (suc i)) xs (λ i y. f (suc i) y))
+
+  values : (n : ℕ) (json : ℕ → X → Json) (xs : List X) → ((i : ℕ) (x : X) → Fits n (json i x)) → Fits (suc n) (array_json json xs)
+  unfolding array_json
+  values n json xs f = record { texts = values_texts n json xs f; shallow = omega (arith, values_depth n json xs f) }
+
+number : (name : List ℕ) (n : ℕ) → list_all is_plain name ≡ true → ArePlain (field name (whole n))
+number name n h = fields_are_plain.wholes name n (word name h)
+
+text : (name words : List ℕ) → list_all is_plain name ≡ true → list_all is_plain words ≡ true → ArePlain (field name (Rattle.json.specs.Json.string words))
+text name words h k = fields_are_plain.texts name words (word name h) (word words k)
+
+both : (xs ys : List Field) → ArePlain xs → ArePlain ys → ArePlain (xs ⊕ ys)
+both xs ys p q = fields_are_plain.joined xs ys p q
+
+coded : (code words : List ℕ) → list_all is_plain code ≡ true → list_all is_plain words ≡ true → ArePlain (coded_fields code words)
+unfolding coded_fields
+coded code words c w = both _ _ (text (codes "code") code refl c) (text (codes "words") words refl w)
+
+-- a line of such fields is read back
+reads : LinesReadBack → (kind : List ℕ) (fs : List Field) → list_all is_plain kind ≡ true → Deep 8 fs → ReadsBack (line kind fs)
+unfolding field ◌⊕◌
+reads law kind fs h d = record { kind = kind; fields = fs; is_line = refl; is_read = law kind fs (word kind h) d.texts (omega (arith, d.shallow)) }
+
+-- ---- how a document ends, and which item is refused
+
+ending : (e : End) → ArePlain (end_fields e)
+ending end.Stopped = ended (codes "stopped") refl
+ending (end.Fault f offset) = fault_told f offset None
+
+end_deep : (e : End) → Deep 8 (end_field e)
+unfolding end_field
+end_deep e = widened (alone 1 (codes "end") _ refl (value 0 (codes "end") (end_fields e) refl (of_plain 0 _ (ending e))))
+  where
+    widened : {fs : List Field} → Deep 1 fs → Deep 8 fs
+    widened d = record { texts = d.texts; shallow = omega (arith, d.shallow) }
+
+item_deep : (k : ℕ) (r : Refusal) → Deep 8 (item_field k r)
+unfolding item_field
+item_deep k r = widened (alone 1 (codes "end") _ refl (value 0 (codes "end") (item_refused_fields k r) refl (of_plain 0 _ (item_refused k r))))
+  where
+    widened : {fs : List Field} → Deep 1 fs → Deep 8 fs
+    widened d = record { texts = d.texts; shallow = omega (arith, d.shallow) }
+
+placed : (k : ℕ) → ArePlain (place_field k)
+unfolding place_field
+placed k = number (codes "place") k refl
+
+-- ---- refusals
+
+edit_code_plain : (f : EditFault) → list_all is_plain (edit_code f) ≡ true
+unfolding edit_code
+edit_code_plain edit.NoSuchItem = refl
+edit_code_plain _ = refl
+
+edit_words_plain : (f : EditFault) → list_all is_plain (edit_words f) ≡ true
+unfolding edit_words
+edit_words_plain edit.NoSuchItem = refl
+edit_words_plain _ = refl
+
+fault_code_plain : (f : Fault) → list_all is_plain (fault_code f) ≡ true
+unfolding fault_code
+fault_code_plain fault.AtStart = refl
+fault_code_plain _ = refl
+
+fault_words_plain : (f : Fault) → list_all is_plain (fault_words f) ≡ true
+unfolding fault_words
+fault_words_plain fault.AtStart = refl
+fault_words_plain (fault.AtEnd e) = refl
+fault_words_plain (fault.Item k r) = refl
+fault_words_plain fault.NoSuchPlace = refl
+fault_words_plain fault.BehindCursor = refl
+fault_words_plain fault.NothingToUndo = refl
+fault_words_plain fault.NothingToRedo = refl
+fault_words_plain (fault.EditBehindCursor k) = refl
+fault_words_plain (fault.Edit f) = edit_words_plain f
+fault_words_plain fault.Memory = refl
+
+fault_about : (f : Fault) → Deep 8 (fault_rest f)
+unfolding fault_rest
+fault_about fault.AtStart = of_plain 8 [] tt
+fault_about (fault.AtEnd e) = end_deep e
+fault_about (fault.Item k r) = item_deep k r
+fault_about fault.NoSuchPlace = of_plain 8 [] tt
+fault_about fault.BehindCursor = of_plain 8 [] tt
+fault_about fault.NothingToUndo = of_plain 8 [] tt
+fault_about fault.NothingToRedo = of_plain 8 [] tt
+fault_about (fault.EditBehindCursor k) = of_plain 8 _ (placed k)
+fault_about (fault.Edit f) = of_plain 8 _ (text (codes "edit") (edit_code f) refl (edit_code_plain f))
+fault_about fault.Memory = of_plain 8 [] tt
+
+faulty : (f : Fault) → Deep 8 (fault_fields f)
+faulty f = joined 8 _ _ (of_plain 8 _ (coded (fault_code f) (fault_words f) (fault_code_plain f) (fault_words_plain f))) (fault_about f)
+
+op_code_plain : (f : OpFault) → list_all is_plain (op_code f) ≡ true
+unfolding op_code ends.fault_code
+op_code_plain (op_fault.Front at_front.Ended) = refl
+op_code_plain (op_fault.Front (at_front.UnknownOpcode byte)) = refl
+op_code_plain (op_fault.Front at_front.Truncated) = refl
+op_code_plain (op_fault.Front at_front.NegativeLength) = refl
+op_code_plain (op_fault.Front at_front.BadArgument) = refl
+op_code_plain op_fault.TooLong = refl
+op_code_plain op_fault.Memory = refl
+
+op_words_plain : (f : OpFault) → list_all is_plain (op_words f) ≡ true
+unfolding op_words ends.fault_words
+op_words_plain (op_fault.Front at_front.Ended) = refl
+op_words_plain (op_fault.Front (at_front.UnknownOpcode byte)) = refl
+op_words_plain (op_fault.Front at_front.Truncated) = refl
+op_words_plain (op_fault.Front at_front.NegativeLength) = refl
+op_words_plain (op_fault.Front at_front.BadArgument) = refl
+op_words_plain op_fault.TooLong = refl
+op_words_plain op_fault.Memory = refl
+
+syntax_code_plain : (f : Syntax) → list_all is_plain (syntax_code f) ≡ true
+unfolding syntax_code
+syntax_code_plain syntax.UnknownWord = refl
+syntax_code_plain _ = refl
+
+syntax_words_plain : (f : Syntax) → list_all is_plain (syntax_words f) ≡ true
+unfolding syntax_words
+syntax_words_plain syntax.UnknownWord = refl
+syntax_words_plain syntax.MissingWord = refl
+syntax_words_plain syntax.BadNumber = refl
+syntax_words_plain syntax.UnknownOpcodeName = refl
+syntax_words_plain syntax.BadHex = refl
+syntax_words_plain syntax.ExtraWord = refl
+syntax_words_plain syntax.LineTooLong = refl
+syntax_words_plain (syntax.BadOp f) = op_words_plain f
+syntax_words_plain syntax.Memory = refl
+
+syntax_about : (f : Syntax) → ArePlain (syntax_rest f)
+unfolding syntax_rest
+syntax_about syntax.UnknownWord = tt
+syntax_about syntax.MissingWord = tt
+syntax_about syntax.BadNumber = tt
+syntax_about syntax.UnknownOpcodeName = tt
+syntax_about syntax.BadHex = tt
+syntax_about syntax.ExtraWord = tt
+syntax_about syntax.LineTooLong = tt
+syntax_about (syntax.BadOp f) = text (codes "fault") (op_code f) refl (op_code_plain f)
+syntax_about syntax.Memory = tt
+
+no_words : (f : Syntax) → ArePlain (syntax_fields f)
+no_words f = both _ _ (coded (syntax_code f) (syntax_words f) (syntax_code_plain f) (syntax_words_plain f)) (syntax_about f)
+
+no_object : (n : ℕ) → ArePlain (no_object_fields n)
+unfolding no_object_fields no_object_words
+no_object n = both _ _ (coded (codes "V1") _ refl refl) (number (codes "object") n refl)
+
+no_item : (offset : ℕ) → ArePlain (no_item_fields offset)
+unfolding no_item_fields no_item_words
+no_item offset = both _ _ (coded (codes "V2") _ refl refl) (number (codes "offset") offset refl)
+
+-- ---- replies
+
+stopped_why : (e : End) (w : Why) → ArePlain (why_fields e w)
+stopped_why e why.End = ending e
+stopped_why e why.Breakpoint = ended (codes "breakpoint") refl
+stopped_why e (why.Refused r) = refused r None
+
+replies : LinesReadBack → (e : End) (r : Reply) → ReadsBack (reply_line e r)
+unfolding reply_line ran_line placed_line refused_command
+replies law e (reply.At k) = reads law (codes "at") (place_field k) refl (of_plain 8 _ (placed k))
+replies law e (reply.Ran k w) = reads law (codes "ran") (ran_fields e k w) refl (of_plain 8 _ (both _ _ (placed k) (stopped_why e w)))
+replies law e (reply.Broke k) = reads law (codes "broke") (place_field k) refl (of_plain 8 _ (placed k))
+replies law e (reply.Cleared k) = reads law (codes "cleared") (place_field k) refl (of_plain 8 _ (placed k))
+replies law e (reply.Edited k) = reads law (codes "edited") (place_field k) refl (of_plain 8 _ (placed k))
+replies law e (reply.Undone k) = reads law (codes "undone") (place_field k) refl (of_plain 8 _ (placed k))
+replies law e (reply.Redone k) = reads law (codes "redone") (place_field k) refl (of_plain 8 _ (placed k))
+replies law e (reply.Refused f) = reads law (codes "refused") (fault_fields f) refl (faulty f)
+
+-- ---- where a session is
+
+at_cursor : (k n offset : ℕ) → ArePlain (cursor_fields k n offset)
+unfolding cursor_fields
+at_cursor k n offset = both _ _ (both _ _ (placed k) (number (codes "length") n refl)) (number (codes "offset") offset refl)
+
+counts : (t : State) → ArePlain (count_fields t)
+unfolding count_fields
+counts t =
+    both _ _ (both _ _ (both _ _ (number (codes "objects") _ refl) (number (codes "stack_size") _ refl)) (number (codes "marks") _ refl)) (number (codes "memo_size") _ refl)
+
+results : (ids : List ℕ) → Fits 8 (numbers_json ids)
+unfolding numbers_json
+results ids = record { texts = numbers_texts ids; shallow = omega (arith, numbers_depth ids) }
+
+reached : (t : State) → Deep 8 (reached_fields t)
+unfolding reached_fields
+reached t = joined 8 _ _ (of_plain 8 _ (number (codes "buffers") t.buffers refl)) (alone 8 (codes "results") (numbers_json t.results) refl (results t.results))
+
+where_is : LinesReadBack → (s : Session) (t : State) → ReadsBack (where_line s t)
+unfolding where_line
+where_is law s t =
+    reads law (codes "where") (where_fields s t) refl
+    (joined 8 _ _ (joined 8 _ _ (joined 8 _ _ (of_plain 8 _ (at_cursor _ _ _)) (of_plain 8 _ (counts t))) (reached t)) (end_deep (end_of s.document)))
+
+-- ---- what is shown of a machine
+
+id_fits : (i id : ℕ) → Fits 0 (id_json i id)
+unfolding id_json
+id_fits i id = record { texts = number_texts id; shallow = omega (arith, number_flat id) }
+
+mark_fits : (i : ℕ) (m : ℕ × ℕ) → Fits 1 (mark_json i m)
+unfolding mark_json mark_fields
+mark_fits i m = value 0 (codes "mark") _ refl (of_plain 0 _ (both _ _ (number (codes "item") m.0 refl) (number (codes "below") m.1 refl)))
+
+entry_fits : (i : ℕ) (e : ℕ × ℕ) → Fits 1 (entry_json i e)
+unfolding entry_value entry_fields
+entry_fits i e = value 0 (codes "entry") _ refl (of_plain 0 _ (both _ _ (number (codes "memo") e.0 refl) (number (codes "object") e.1 refl)))
+
+heap_fits : (id : ℕ) (o : Object) → Fits 3 (heap_json id o)
+unfolding heap_json
+heap_fits id o = value 2 (codes "object") _ refl (record { texts = (object id o).texts; shallow = (object id o).shallow })
+
+wide : (n : ℕ) (fs : List Field) → n ≤ 8 → Deep n fs → Deep 8 fs
+wide n fs h d = record { texts = d.texts; shallow = omega (arith, h, d.shallow) }
+
+stack_is : LinesReadBack → (t : State) → ReadsBack (stack_line t)
+unfolding stack_line ids_field marks_field
+stack_is law t =
+    reads law (codes "stack") (stack_fields t) refl
+    (joined 8 _ _ (wide 1 _ (omega arith) (alone 1 (codes "stack") _ refl (values 0 id_json (stack_of t) id_fits)))
+    (wide 2 _ (omega arith) (alone 2 (codes "marks") _ refl (values 1 mark_json (marks_of t.marked) mark_fits))))
+
+memo_is : LinesReadBack → (entries : List (ℕ × ℕ)) → ReadsBack (memo_line entries)
+unfolding memo_line memo_fields
+memo_is law entries =
+    reads law (codes "memo") _ refl (wide 2 _ (omega arith) (alone 2 (codes "entries") _ refl (values 1 entry_json entries entry_fits)))
+
+heap_is : LinesReadBack → (heap : List Object) → ReadsBack (heap_line heap)
+unfolding heap_line heap_fields
+heap_is law heap =
+    reads law (codes "objects") _ refl (wide 4 _ (omega arith) (alone 4 (codes "objects") _ refl (values 3 heap_json heap heap_fits)))
+
+one_line : LinesReadBack → (id : ℕ) (o : Object) → ReadsBack (object_line id o)
+unfolding object_line
+one_line law id o = reads law (codes "object") _ refl (record { texts = (object id o).texts; shallow = omega (arith, (object id o).shallow) })
+
+there : (heap : List Object) (n : ℕ) → n < length heap → (o : Object) × (slice_get heap n ≡ Some o)
+there [] n h = absurd (omega (arith, h))
+there (o ∷ heap) zero h = (o, refl)
+there (o ∷ heap) (suc n) h = there heap n (omega (arith, h))
+
+show_is : LinesReadBack → (heap : List Object) (n : ℕ) → n < length heap → ReadsBack (show_line heap n)
+unfolding show_line
+show_is law heap n h = let x = there heap n h in rw x.1 (one_line law n x.0)
+
+-- ---- items
+
+signs : (at breaks : Bool) → ArePlain (sign_fields at breaks)
+unfolding sign_fields
+signs at breaks = both _ _ (truth (codes "cursor") at refl) (truth (codes "breakpoint") breaks refl)
+
+item_fits : (s : Session) (k : ℕ) (o : Operation) → Fits 1 (item_json s k o)
+unfolding item_json
+item_fits s k o =
+    value 0 (codes "opcode") (item_fields s k o) refl
+    (of_plain 0 _ (both _ _ (both _ _ (both _ _ (placed k) (head o (offset_of s.document k))) (argument o)) (signs _ _)))
+
+items_is : LinesReadBack → (s : Session) → ReadsBack (items_line s)
+unfolding items_line items_fields
+items_is law s =
+    reads law (codes "items") _ refl (wide 2 _ (omega arith) (alone 2 (codes "items") _ refl (values 1 (item_json s) (ops_of s.document) (item_fits s))))
+
+-- ---- answers
+
+-- an object that is shown is there
+abbrev IsThere : Said → State → Type 0
+IsThere (said.Shown (query.Show n)) t = n < length t.heap
+IsThere _ t = ⊤
+
+bare : LinesReadBack → (kind : List ℕ) → list_all is_plain kind ≡ true → ReadsBack (line kind [])
+bare law kind h = reads law kind [] h (of_plain 8 [] tt)
+
+said_reads : LinesReadBack → (what : Said) (s : Session) (t : State) → IsThere what t → ReadsBack (said_line what s t)
+unfolding nothing_line quit_line refused_syntax no_object_line no_item_line
+said_reads law said.Nothing s t h = bare law (codes "nothing") refl
+said_reads law said.Quit s t h = bare law (codes "quit") refl
+said_reads law (said.Replied r) s t h = replies law (end_of s.document) r
+said_reads law (said.NoItem offset) s t h = reads law (codes "refused") _ refl (of_plain 8 _ (no_item offset))
+said_reads law (said.NoObject n) s t h = reads law (codes "refused") _ refl (of_plain 8 _ (no_object n))
+said_reads law (said.Bad f) s t h = reads law (codes "refused") _ refl (of_plain 8 _ (no_words f))
+said_reads law (said.Shown query.Items) s t h = items_is law s
+said_reads law (said.Shown query.Objects) s t h = heap_is law t.heap
+said_reads law (said.Shown query.Stack) s t h = stack_is law t
+said_reads law (said.Shown query.Memo) s t h = memo_is law t.memo
+said_reads law (said.Shown (query.Show n)) s t h = show_is law t.heap n h
+said_reads law (said.Shown query.Where) s t h = where_is law s t
+
+by_number : (b : Bool) (n : ℕ) (t : State) → nat_lt n (length t.heap) ≡ b → IsThere (if b then said.Shown (query.Show n) else said.NoObject n) t
+by_number true n t e = ltb-true n (length t.heap) e
+by_number false n t e = tt
+
+shown_there : (asked : Query) (t : State) → IsThere (shown asked t) t
+shown_there query.Items t = tt
+shown_there query.Objects t = tt
+shown_there query.Stack t = tt
+shown_there query.Memo t = tt
+shown_there (query.Show n) t = by_number (nat_lt n (length t.heap)) n t refl
+shown_there query.Where t = tt
+
+is_there : (is what : Said) (t : State) → what ≡ is → IsThere is t → IsThere what t
+is_there is what t e h = rw e h
+
+asked_there : (asked : Query) (t : State) (what : Said) → IsShown asked t what → IsThere what t
+asked_there asked t what (inl e) = is_there (shown asked t) what t e (shown_there asked t)
+asked_there asked t what (inr e) = is_there (said.Bad syntax.Memory) what t e.1 tt
+
+there_by : (says : Result Line Syntax) (p q : SessionState) (t : State) (what : Said) → state_at q.session.document q.session.cursor ≡ Some t
+    → SaysBy says p what q → IsThere what t
+there_by (Ok line_says.Nothing) p q t what r w = is_there said.Nothing what t w.said_is tt
+there_by (Ok (line_says.Command c)) p q t what r w = is_there (said.Replied w.answer) what t w.said_is tt
+there_by (Ok (line_says.At (place.Number k) a)) p q t what r w = is_there (said.Replied w.answer) what t w.said_is tt
+there_by (Ok (line_says.At (place.Offset offset) a)) p q t what r w = go w.found w.says
+  where
+    go : (found : Option ℕ) → MatchOption found (SaysOnly p (said.NoItem offset) what q) (λ k. SaysReply (command_at a k) p what q) → IsThere what t
+    go None x = is_there (said.NoItem offset) what t x.said_is tt
+    go (Some k) x = is_there (said.Replied x.answer) what t x.said_is tt
+there_by (Ok (line_says.Query asked)) p q t what r w = asked_there asked t what (rw (same_state asked p q t what r w) at w.is_shown)
+there_by (Ok line_says.Quit) p q t what r w = is_there said.Quit what t w.said_is tt
+there_by (Err f) p q t what r w = is_there (said.Bad f) what t w.said_is tt
+
+pub answers_read_back : LinesReadBack → AnswersReadBack
+answers_read_back law p q bytes a w = said_reads law a.said a.session a.state (there_by w.says p q a.state a.said w.reached w.said_by)

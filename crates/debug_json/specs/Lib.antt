@@ -1,0 +1,14 @@
+-- The definitions that contracts cite.
+pub mod Says
+pub mod Answer
+pub mod Array
+pub mod RefusedFields
+pub mod ReplyFields
+pub mod WhereFields
+pub mod ShownFields
+pub mod ItemsFields
+pub mod Lines
+pub mod Answered
+pub mod Agreeing
+pub mod Readable
+pub mod Inside

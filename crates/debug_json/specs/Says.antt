@@ -1,0 +1,96 @@
+-- What the lines of a script may be answered: as in a transcript for people, but for what is said in the place of its text.
+-- Source: own. It is a relation, since a line may also be answered by running out of memory.
+use Rattle.std.specs.Prelude.{◌≡◌, ◌≢◌, ℕ, List, length, nat_lt, true, false, if◌then◌else◌, ◌⊎◌, MatchOption, Option, Some, Result, Ok, Err}
+use Rattle.pickle_doc.specs.Place.{IsPlaceAt}
+use Rattle.pickle_machine.specs.State.{State}
+use Rattle.pickle_session.specs.declared.command.Command.{Command}
+use Rattle.pickle_session.specs.declared.command.Command.TheVariants as command
+use Rattle.pickle_session.specs.declared.reply.Fault.TheVariants as fault
+use Rattle.pickle_session.specs.declared.reply.Reply.{Reply}
+use Rattle.pickle_session.specs.declared.reply.Reply.TheVariants as reply
+use Rattle.pickle_session.specs.Session.{state_at}
+use Rattle.pickle_session.specs.Allowed.{SessionState, Answers, Goes, Stays, IsFree, IsFreeAgain, goes_beyond, is_at_place}
+use Rattle.pickle_script.specs.declared.conversation.line.Line.{Line}
+use Rattle.pickle_script.specs.declared.conversation.line.Line.TheVariants as line
+use Rattle.pickle_script.specs.declared.conversation.line.Query.{Query}
+use Rattle.pickle_script.specs.declared.conversation.line.Query.TheVariants as query
+use Rattle.pickle_script.specs.declared.conversation.line.Place.{Place}
+use Rattle.pickle_script.specs.declared.conversation.line.Place.TheVariants as place
+use Rattle.pickle_script.specs.declared.conversation.line.Action.{Action}
+use Rattle.pickle_script.specs.declared.conversation.line.Syntax.{Syntax}
+use Rattle.pickle_script.specs.declared.conversation.line.Syntax.TheVariants as syntax
+use Rattle.pickle_script.specs.Grammar.{command_at}
+use Rattle.pickle_script.specs.Query.{asks_memory}
+use Rattle.pickle_script.specs.Transcript.{IsRead, Prints}
+use Rattle.debug_json.specs.declared.said.Said.{Said}
+use Rattle.debug_json.specs.declared.said.Said.TheVariants as said
+use Rattle.debug_json.specs.Answer.{Answer, answer_text, refuses}
+
+-- this is said, and the session stays as it is
+pub record SaysOnly (p : SessionState) (is what : Said) (q : SessionState) : Type 0 where
+  pub said_is : what ≡ is
+  pub unchanged : q ≡ p
+
+-- an answer that is allowed to the command is replied; where the cursor stays the machine stays, and a refused command leaves the
+-- records; a step that is free finds memory; after a way back that a record led, a step over a light opcode is free, unless a further
+-- pickle begins with it
+pub record SaysReply (c : Command) (p : SessionState) (what : Said) (q : SessionState) : Type 0 where
+  pub answer : Reply
+  pub answers : Answers c p answer q.session
+  pub goes : Goes c p answer q
+  pub stays : Stays p answer q
+  pub free : c ≡ command.Step → IsFree p → answer ≢ reply.Refused fault.Memory
+  pub again : c ≡ command.Back → goes_beyond command.Back p ≡ false → is_at_place answer ≡ true → IsFreeAgain q
+  pub said_is : what ≡ said.Replied answer
+
+-- the same of the command at the place that has this offset; or, where none has it, that there is none
+pub record SaysAt (offset : ℕ) (a : Action) (p : SessionState) (what : Said) (q : SessionState) : Type 0 where
+  pub found : Option ℕ
+  pub is_found : IsPlaceAt p.session.document offset found
+  pub says : MatchOption found (SaysOnly p (said.NoItem offset) what q) (λ k. SaysReply (command_at a k) p what q)
+
+abbrev pub SaysPlaced : Place → Action → SessionState → Said → SessionState → Type 0
+SaysPlaced (place.Number k) a p what q = SaysReply (command_at a k) p what q
+SaysPlaced (place.Offset offset) a p what q = SaysAt offset a p what q
+
+-- what is shown with ample memory; a number may be no object's
+abbrev pub shown : Query → State → Said
+shown query.Items t = said.Shown query.Items
+shown query.Objects t = said.Shown query.Objects
+shown query.Stack t = said.Shown query.Stack
+shown query.Memo t = said.Shown query.Memo
+shown (query.Show n) t = if nat_lt n (length t.heap) then said.Shown (query.Show n) else said.NoObject n
+shown query.Where t = said.Shown query.Where
+
+-- that, or that memory runs out
+abbrev pub IsShown : Query → State → Said → Type 0
+IsShown query t what = (what ≡ shown query t) ⊎ ((asks_memory query t ≡ true) × (what ≡ said.Bad syntax.Memory))
+
+-- what is shown of the session and of the state that running the items before the cursor on an empty machine gives
+pub record SaysShown (query : Query) (p : SessionState) (what : Said) (q : SessionState) : Type 0 where
+  pub state : State
+  pub reached : state_at p.session.document p.session.cursor ≡ Some state
+  pub is_shown : IsShown query state what
+  pub unchanged : q ≡ p
+
+abbrev pub SaysBy : Result Line Syntax → SessionState → Said → SessionState → Type 0
+SaysBy (Ok line.Nothing) p what q = SaysOnly p said.Nothing what q
+SaysBy (Ok (line.Command c)) p what q = SaysReply c p what q
+SaysBy (Ok (line.At place a)) p what q = SaysPlaced place a p what q
+SaysBy (Ok (line.Query query)) p what q = SaysShown query p what q
+SaysBy (Ok line.Quit) p what q = SaysOnly p said.Quit what q
+SaysBy (Err f) p what q = SaysOnly p (said.Bad f) what q
+
+-- what a line says is obeyed, and answered of the session after it
+pub record Says (p : SessionState) (bytes : List ℕ) (a : Answer) (q : SessionState) : Type 0 where
+  pub says : Result Line Syntax
+  pub is_read : IsRead bytes says
+  pub said_by : SaysBy says p a.said q
+  pub session : a.session ≡ q.session
+  pub reached : state_at q.session.document q.session.cursor ≡ Some a.state
+
+-- ---- laws
+
+-- what is said in JSON is what the text of a transcript tells
+abbrev pub SaidIsPrinted : Type 0
+SaidIsPrinted = (p q : SessionState) (bytes : List ℕ) (a : Answer) → Says p bytes a q → Prints p bytes (answer_text a) q

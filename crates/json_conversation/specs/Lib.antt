@@ -1,0 +1,4 @@
+-- The definitions that contracts cite.
+pub mod Transcript
+pub mod Conversation
+pub mod Inside
