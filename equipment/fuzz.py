@@ -13,6 +13,7 @@ The laws:
 - the bytes that are saved after no line are those that were opened;
 - the listing of a beginning of the bytes begins the listing of the bytes, as far as opcodes are listed, and its fault is
   where the beginning ends or where the whole has one;
+- the whole listing is assembled to the bytes of the opcodes that are listed;
 - the report of the objects is what a conversation shows at the end, or before the opcode that is refused;
 - what `calls` says is made are the objects of the report that come from elsewhere or from a call, and it counts its lines;
 - what is shown at a place (items, stack, memo, objects and where it is) is the same on the way forwards, on the way back, and
@@ -65,6 +66,8 @@ HEADING = re.compile(r"^a loader .*may go on:$", re.M)
 UNSURE_LINE = re.compile(r"^unsure: U[12] .*\n", re.M)
 MIXED_LINE = re.compile(r"^unsure: U3 (?s:.*)\Z", re.M)
 WARNING_LINE = re.compile(r"^warning: #\d+ .*\n", re.M)
+# (what a listing says where it does not show all bytes)
+GAP = re.compile(rb"^(?:kept|fault|refused): .*\n", re.M)
 CALL_LINE = re.compile(r"^ *\d+: (?:inst|call|new|state|append|set|add) ", re.M)
 WHERE = re.compile(r"at (\d+) of (\d+), offset (\d+), buffers (\d+), result (none|#\d+(?: #\d+)*), end (.*)")
 VIEW = "where\nitems\nstack\nmemo\nobjects\n"
@@ -449,7 +452,18 @@ class Case:
         if fault and f"{fault[0]}\n" not in text and not (fault[1] in ("F1", "F3", "F7") and int(fault[2]) <= size):
             raise Broken(f"a beginning of {size} bytes ends in {fault[0]}")
         self.check_json(text)
+        self.check_whole(text)
         return text
+
+    def check_whole(self, listing: str) -> None:
+        whole = subprocess.run([self.program, "list", "--whole", str(self.file), *self.options], capture_output=True, timeout=600)
+        opcodes = GAP.sub(b"", whole.stdout)
+        made = subprocess.run([self.program, "assemble", "/dev/stdin"], input=opcodes, capture_output=True, timeout=600)
+        kept, fault = re.search(r"^kept: (\d+)", listing, re.M), re.search(r"^fault: .* at (\d+)$", listing, re.M)
+        most = len(self.pickled) - int(kept[1]) if kept else int(fault[1]) if fault else len(self.pickled)
+        is_refused = "\nrefused: " in f"\n{listing}"
+        if made.returncode or not (self.pickled[:most].startswith(made.stdout) if is_refused else made.stdout == self.pickled[:most]):
+            raise Broken("the whole listing is assembled to other bytes")
 
     def check_json(self, listing: str) -> None:
         lines, status = self.answers(["list", "--json", str(self.file)])

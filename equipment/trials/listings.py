@@ -170,12 +170,14 @@ def spelled(data: bytes, read: Read) -> bytes:
 
 
 def fault_assembled(room: Room, file: Path) -> str:
-    """The listing of a pickle, assembled, is the bytes of the opcodes that are listed. With a line that bytes are not shown it is refused."""
+    """The listing of a pickle, assembled, is the bytes of the opcodes that are listed: the whole one as they are, and the other as it spells them. With a line that bytes are not shown it is refused."""
     listing, data = room.observe(start_of(room, file), "list", file).output, file.read_bytes()
-    items = len(re.findall(rb"^ *\d+: ", listing, re.MULTILINE))
-    found = room.observe(room.start, "assemble", "/dev/stdin", given=GAP.sub(b"", listing))
-    if found.output != b"".join(spelled(data, read) for read in lenient(data)[0][:items]) or found.status or found.errors:
-        return f"status {found.status}, {len(found.output)} bytes: {beginning(found.output)}"
+    whole = room.observe(start_of(room, file), "list", "--whole", file).output
+    listed = lenient(data)[0][: len(re.findall(rb"^ *\d+: ", listing, re.MULTILINE))]
+    for text, wanted in (listing, b"".join(spelled(data, read) for read in listed)), (whole, b"".join(data[read.start : read.end] for read in listed)):
+        found = room.observe(room.start, "assemble", "/dev/stdin", given=GAP.sub(b"", text))
+        if found.output != wanted or found.status or found.errors:
+            return f"status {found.status}, {len(found.output)} bytes: {beginning(found.output)}"
     gap = GAP.search(listing)
     if gap is None:
         return ""

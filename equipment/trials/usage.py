@@ -114,6 +114,7 @@ CALLS = (
 FILE_HELP = "Arguments:\n  <FILE>  the pickle\n"
 MANY_HELP = "read FILE as pickles that follow one another: go on after each STOP"
 UNFRAMED_HELP = "take FRAME for an opcode like others, as a pickle needs that was cut off"
+WHOLE_HELP = "print arguments so that `assemble` makes the same bytes again; with --json this changes nothing"
 JSON_HELP = ("    --json", "print JSON Lines, for programs: an object in each line")
 WHAT_EACH_DOES = (
     ("list", "Lists the opcodes of FILE with their offsets and arguments"),
@@ -128,7 +129,7 @@ MEMBERS_DOES = ("members", "Prints the members of FILE, if it is a zip archive i
 ASSEMBLE_DOES = ("assemble", "Writes the pickle whose opcodes stand in FILE as `list` prints them, else says which line is none")
 GATE_FILES = (("<LIST>", "the list of names, and of what may be done with each"), ("<FILE>...", "a pickle or a zip archive, or several"))
 OPTIONS = {
-    "list": (("    --many", MANY_HELP), ("    --unframed", UNFRAMED_HELP), JSON_HELP),
+    "list": (("    --many", MANY_HELP), ("    --unframed", UNFRAMED_HELP), JSON_HELP, ("    --whole", WHOLE_HELP)),
     "objects": (("    --many", MANY_HELP), ("    --unframed", UNFRAMED_HELP), JSON_HELP),
     "form": (("    --many", "changes nothing: FILE is to be one pickle"), JSON_HELP),
     "reach": (

@@ -26,7 +26,7 @@ use Rattle.opcode_assembler.specs.Quotes.{Read, unquoted, unprefixed, text_first
 use Rattle.opcode_assembler.specs.Numbers.{width_of, most_of, fixed_bytes, fixed_first, line_first, signed_word}
 use Rattle.opcode_assembler.specs.Arguments.{and_then, with_rest, counted, lined, second_line, signed_first, long_first, form_first, is_numeral, has_text, numeral_first, spelled_first, argument_first}
 use Rattle.opcode_assembler.proofs.Scanned.{quoted_is, unquoted_read}
-use Rattle.assembler_laws.specs.Whole.{HasPlainDigits, IsShortest, IsCanonical}
+use Rattle.assembler_laws.proofs.Canonical.{HasPlainDigits, IsShortest, IsCanonical}
 use Rattle.assembler_laws.proofs.Spans.{Spans, word_is, after_is, gap_before}
 use Rattle.assembler_laws.proofs.Decimals.{some_digits, all_digits, digits_letters, decimal_read}
 use Rattle.assembler_laws.proofs.Littles.{back, back_first, below, drop_bytes, take_bytes}

@@ -5,7 +5,6 @@ use Rattle.std.specs.List.{list_all}
 use Rattle.std.specs.Option.{option_map_or}
 use Rattle.std.proofs.lemmas.Bool.{eq-eqb, or_from, ltb-true}
 use Rattle.std.proofs.lemmas.List.{get_or_at, nil_from_length, same_from_push}
-use Rattle.hex.specs.Hex.{IsBytes}
 use Rattle.pickle_io.specs.Text.{◌⧺◌}
 use Rattle.pickle_ops.specs.declared.form.Form.{Form}
 use Rattle.pickle_ops.specs.declared.form.Form.TheVariants as form
@@ -20,17 +19,17 @@ use Rattle.pickle_ops.proofs.TableLemmas.{name_found}
 use Rattle.pickle_list.specs.declared.note.Note.{Note}
 use Rattle.pickle_text.specs.Column.{blanks, left_aligned, right_aligned}
 use Rattle.pickle_list.specs.ListingColumn.{code_text}
-use Rattle.pickle_list.specs.Line.{offset_column, code_column, described, named, note_text, item_line}
+use Rattle.pickle_list.specs.ArgTexts.{ArgTexts}
+use Rattle.pickle_list.specs.Line.{offset_column, code_column, described, named_in, note_text, item_line_in}
 use Rattle.opcode_assembler.specs.declared.fault.Reason.TheVariants as why
 use Rattle.opcode_assembler.specs.Words.{is_blank, is_letter, trimmed, word, after_word, behind, is_over, is_end, after_note, uncoloned, is_place, unnumbered}
 use Rattle.opcode_assembler.specs.Numbers.{hex_first}
 use Rattle.opcode_assembler.specs.Arguments.{long_first, counted, and_then, is_numeral, has_text, numeral_first, form_first, spelled_first, argument_first}
 use Rattle.opcode_assembler.specs.Assembly.{Nothing, OneOpcode, Raw, alone, operation, opcode_says, uncoded, unplaced, is_remark, is_gap, bytes_say, text_says, line_says}
-use Rattle.assembler_laws.specs.Whole.{IsCanonical}
 use Rattle.assembler_laws.proofs.Spans.{Spans, trimmed_is, word_is, after_is, gap_before, all_append, all_blanks}
 use Rattle.assembler_laws.proofs.Decimals.{some_digits, all_digits, digits_letters, decimal_read}
 use Rattle.assembler_laws.proofs.Fronts.{no_front, digits_apart}
-use Rattle.assembler_laws.proofs.Arguments.{Ends, AreBlanks, IsRead, argument_read}
+use Rattle.assembler_laws.proofs.Arguments.{Ends, AreBlanks}
 use Rattle.assembler_laws.proofs.Notes.{over_note, note_first, code_letters, code_some, code_starts, code_nameless, name_letters, name_some}
 
 -- ---- an opcode without an argument
@@ -132,26 +131,30 @@ noted_is name text note =
     joined ((left_aligned 10 name ⧺ codes " ") ⧺ text) note ∙ ap (λ (t : List ℕ). t ++ (32 ∷ note)) (filled_is name text)
     ∙ append_assoc name (filling name ++ text) (32 ∷ note) ∙ ap (λ (t : List ℕ). name ++ t) (append_assoc (filling name) text (32 ∷ note))
 
+-- a text of an argument that is read back, whatever stands before it and behind it
+abbrev pub IsReadAt : Opcode → List ℕ → List ℕ → Type 0
+IsReadAt o arg t = (gap rest : List ℕ) → AreBlanks gap → Ends rest → argument_first o (gap ++ (t ++ rest)) ≡ Ok (arg, rest)
+
 -- an argument without a note
-with_text : (o : Opcode) (arg t : List ℕ) → IsRead (argument_first o) arg t → IsNamed o arg ((left_aligned 10 (name_of o) ⧺ codes " ") ⧺ t)
+with_text : (o : Opcode) (arg t : List ℕ) → IsReadAt o arg t → IsNamed o arg ((left_aligned 10 (name_of o) ⧺ codes " ") ⧺ t)
 with_text o arg t r =
     let name = name_of o in
     record {
       tail = filling name ++ (t ++ []);
       is = filled_is name t ∙ ap (λ (x : List ℕ). name ++ (filling name ++ x)) (sym (append-nil t));
       ends = filling_ends name (t ++ []);
-      whole = record { rest = []; read = r.back (filling name) [] (filling_blank name) refl; over = refl };
+      whole = record { rest = []; read = r (filling name) [] (filling_blank name) refl; over = refl };
     }
 
 -- an argument and a note
-with_both : (o : Opcode) (arg t : List ℕ) (n : Note) → IsRead (argument_first o) arg t → IsNamed o arg ((((left_aligned 10 (name_of o) ⧺ codes " ") ⧺ t) ⧺ codes " ") ⧺ note_text n)
+with_both : (o : Opcode) (arg t : List ℕ) (n : Note) → IsReadAt o arg t → IsNamed o arg ((((left_aligned 10 (name_of o) ⧺ codes " ") ⧺ t) ⧺ codes " ") ⧺ note_text n)
 with_both o arg t n r =
     let name = name_of o in
     record {
       tail = filling name ++ (t ++ (32 ∷ note_text n));
       is = noted_is name t (note_text n);
       ends = filling_ends name (t ++ (32 ∷ note_text n));
-      whole = record { rest = 32 ∷ note_text n; read = r.back (filling name) (32 ∷ note_text n) (filling_blank name) refl; over = over_note (32 ∷ []) n refl };
+      whole = record { rest = 32 ∷ note_text n; read = r (filling name) (32 ∷ note_text n) (filling_blank name) refl; over = over_note (32 ∷ []) n refl };
     }
 
 -- a note alone
@@ -178,12 +181,23 @@ with_nothing o arg h e = record {
   whole = record { rest = []; read = nothing_read o arg [] h refl ∙ ap (λ (x : List ℕ). Ok (x, [])) (sym e); over = refl };
 }
 
-named_by : (o : Opcode) (arg : List ℕ) (x : Option (List ℕ)) (n : Option Note) → arg_text (record { opcode = o; arg = arg }) ≡ x
-    → IsSpelled (record { opcode = o; arg = arg }) → IsBytes arg → IsCanonical (record { opcode = o; arg = arg }) → IsNamed o arg (described (name_of o) x n)
-named_by o arg None None e s h c = let k = has_none o arg e in with_nothing o arg k (no_bytes o arg k s)
-named_by o arg (Some t) None e s h c = with_text o arg t (argument_read o arg t s h c e)
-named_by o arg None (Some n) e s h c = let k = has_none o arg e in with_note o arg n k (no_bytes o arg k s)
-named_by o arg (Some t) (Some n) e s h c = with_both o arg t n (argument_read o arg t s h c e)
+-- the texts of an argument are read back
+abbrev pub IsReadIn : ArgTexts → Operation → Type 0
+IsReadIn args op = (t : List ℕ) → args.text op ≡ Some t → IsReadAt op.opcode op.arg t
+
+no_text : (x : Option (List ℕ)) → is_some x ≡ false → x ≡ None
+no_text None e = refl
+no_text (Some t) e = absurd cc
+
+none_too : (args : ArgTexts) (op : Operation) → args.text op ≡ None → arg_text op ≡ None
+none_too args op e = no_text (arg_text op) (sym (args.there op) ∙ ap (λ (x : Option (List ℕ)). is_some x) e)
+
+named_by : (args : ArgTexts) (o : Opcode) (arg : List ℕ) (x : Option (List ℕ)) (n : Option Note) → args.text (record { opcode = o; arg = arg }) ≡ x
+    → IsSpelled (record { opcode = o; arg = arg }) → IsReadIn args (record { opcode = o; arg = arg }) → IsNamed o arg (described (name_of o) x n)
+named_by args o arg None None e s r = let k = has_none o arg (none_too args (record { opcode = o; arg = arg }) e) in with_nothing o arg k (no_bytes o arg k s)
+named_by args o arg (Some t) None e s r = with_text o arg t (r t e)
+named_by args o arg None (Some n) e s r = let k = has_none o arg (none_too args (record { opcode = o; arg = arg }) e) in with_note o arg n k (no_bytes o arg k s)
+named_by args o arg (Some t) (Some n) e s r = with_both o arg t n (r t e)
 
 -- ---- the name
 
@@ -203,18 +217,18 @@ opcode_there o arg gap text g h =
 -- ---- the offset and the code
 
 -- the line of an item without its newline
-unfoldable pub body : Operation → ℕ → ℕ → Option Note → List ℕ
-body o offset marks n = blanks (5 - length (decimal offset)) ++ ((decimal offset ++ 58 ∷ []) ++ (32 ∷ (code_text (code_of o.opcode) ++ ((blanks (4 - length (code_text (code_of o.opcode))) ++ (32 ∷ blanks (4 * marks))) ++ named o n))))
+unfoldable pub body : ArgTexts → Operation → ℕ → ℕ → Option Note → List ℕ
+body args o offset marks n = blanks (5 - length (decimal offset)) ++ ((decimal offset ++ 58 ∷ []) ++ (32 ∷ (code_text (code_of o.opcode) ++ ((blanks (4 - length (code_text (code_of o.opcode))) ++ (32 ∷ blanks (4 * marks))) ++ named_in args o n))))
 
-pub parts : (o : Operation) (offset marks : ℕ) (n : Option Note) → item_line o offset marks n ≡ body o offset marks n ++ 10 ∷ []
-unfolding item_line offset_column right_aligned code_column left_aligned ◌⧺◌ body
-parts o offset marks n =
+pub parts : (args : ArgTexts) (o : Operation) (offset marks : ℕ) (n : Option Note) → item_line_in args o offset marks n ≡ body args o offset marks n ++ 10 ∷ []
+unfolding item_line_in offset_column right_aligned code_column left_aligned ◌⧺◌ body
+parts args o offset marks n =
     let a = blanks (5 - length (decimal offset)) in
     let d = decimal offset in
     let c = code_text (code_of o.opcode) in
     let p = blanks (4 - length c) in
     let b = blanks (4 * marks) in
-    let t = named o n in
+    let t = named_in args o n in
     simp append_assoc
 
 -- the word of an offset, with its colon
@@ -304,19 +318,19 @@ indent_ends o marks text = go (4 - length (code_text (code_of o)))
     go zero = refl
     go (suc n) = refl
 
-body_says : (op : Operation) (offset marks : ℕ) (n : Option Note) → IsSpelled op → IsBytes op.arg → IsCanonical op → offset < 2 ^ 64 → line_says (body op offset marks n) ≡ Ok (OneOpcode op)
-unfolding body named indent colon_word
-body_says op offset marks n s h c k =
-    let text = described (name_of op.opcode) (arg_text op) n in
+body_says : (args : ArgTexts) (op : Operation) (offset marks : ℕ) (n : Option Note) → IsSpelled op → IsReadIn args op → offset < 2 ^ 64 → line_says (body args op offset marks n) ≡ Ok (OneOpcode op)
+unfolding body named_in indent colon_word
+body_says args op offset marks n s r k =
+    let text = described (name_of op.opcode) (args.text op) n in
     let gaps = gap_before (blanks (5 - length (decimal offset))) (colon_word offset) (32 ∷ (code_text (code_of op.opcode) ++ (indent op.opcode marks ++ text))) (all_blanks (5 - length (decimal offset)))
     (colon_letters offset k) (colon_some offset) in
-    says (body op offset marks n)
+    says (body args op offset marks n)
     ∙ ap text_says (trimmed_is (blanks (5 - length (decimal offset))) (colon_word offset ++ (32 ∷ (code_text (code_of op.opcode) ++ (indent op.opcode marks ++ text)))) gaps)
     ∙ placed_says op.opcode op.arg (indent op.opcode marks) text offset k (indent_blank op.opcode marks) (indent_ends op.opcode marks text)
-    (named_by op.opcode op.arg (arg_text op) n refl s h c)
+    (named_by args op.opcode op.arg (args.text op) n refl s r)
 
-pub item_says : (op : Operation) (offset marks : ℕ) (n : Option Note) (line : List ℕ) → IsSpelled op → IsBytes op.arg → IsCanonical op → offset < 2 ^ 64
-    → item_line op offset marks n ≡ line ++ 10 ∷ [] → line_says line ≡ Ok (OneOpcode op)
-item_says op offset marks n line s h c k e =
-    let same = same_from_push line (body op offset marks n) 10 10 (sym e ∙ parts op offset marks n) in
-    ap line_says same.0 ∙ body_says op offset marks n s h c k
+pub item_says : (args : ArgTexts) (op : Operation) (offset marks : ℕ) (n : Option Note) (line : List ℕ) → IsSpelled op → IsReadIn args op → offset < 2 ^ 64
+    → item_line_in args op offset marks n ≡ line ++ 10 ∷ [] → line_says line ≡ Ok (OneOpcode op)
+item_says args op offset marks n line s r k e =
+    let same = same_from_push line (body args op offset marks n) 10 10 (sym e ∙ parts args op offset marks n) in
+    ap line_says same.0 ∙ body_says args op offset marks n s r k

@@ -1,5 +1,6 @@
 -- Lemmas of the laws.
 pub mod Spans
+pub mod Canonical
 pub mod Decimals
 pub mod Littles
 pub mod Fronts
@@ -9,6 +10,7 @@ pub mod Longs
 pub mod Arguments
 pub mod Notes
 pub mod ItemLines
+pub mod Wholes
 pub mod Stays
 pub mod Texts
 pub mod Items

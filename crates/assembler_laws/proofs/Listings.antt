@@ -15,22 +15,28 @@ use Rattle.pickle_machine.specs.Move.{fresh, refusal_at, outcome, next}
 use Rattle.pickle_machine.specs.declared.refusal.Refusal.{Refusal}
 use Rattle.pickle_machine.specs.Run.{after, run}
 use Rattle.pickle_list.specs.declared.note.Note.{Note}
-use Rattle.pickle_list.specs.Line.{item_line, left_line, protocol_line, highest_protocol}
+use Rattle.pickle_list.specs.ArgTexts.{ArgTexts, short_args}
+use Rattle.pickle_list.specs.Line.{item_line_in, left_line, protocol_line, highest_protocol}
 use Rattle.pickle_text.specs.Closing.{kept_text, kept_line}
-use Rattle.pickle_list.specs.Listing.{line_on, line_at, left_by, lines, end_lines, end_status, refused_lines, listing_to, listing}
+use Rattle.pickle_list.specs.Listing.{line_on_in, line_at_in, left_by, lines_in, end_lines, end_status, refused_lines, listing_to_in, listing_in}
 use Rattle.pickle_text.specs.Reached.{reached}
 use Rattle.pickle_text.proofs.Places.{within, is_reached}
 use Rattle.pickle_text.proofs.Runs.{run_after}
 use Rattle.opcode_assembler.specs.declared.fault.Reason.TheVariants as why
 use Rattle.opcode_assembler.specs.Assembly.{Assembles, IsRefused}
-use Rattle.assembler_laws.specs.ReadBack.{AllCanonical, ItemLineReadBack, ListingReadBack, GapsAreRefused}
+use Rattle.whole_listing.specs.WholeArgs.{whole_args}
+use Rattle.assembler_laws.specs.ReadBack.{IsDocumentOf, AllCanonical, IsReadBack, IsRefusedAtGap, ItemLineReadBack, WholeLineReadBack, ListingReadBack, GapsAreRefused, WholeListingReadBack, WholeGapsAreRefused}
 use Rattle.assembler_laws.proofs.Items.{IsKnown, known, bytes_next, all_taken}
-use Rattle.assembler_laws.proofs.ItemLines.{body, parts, item_says}
-use Rattle.assembler_laws.proofs.Stays.{body_stays}
+use Rattle.assembler_laws.proofs.ItemLines.{IsReadIn, body, parts, item_says}
+use Rattle.assembler_laws.proofs.Stays.{AnyStays, arg_stays, body_stays}
+use Rattle.assembler_laws.proofs.Wholes.{short_read, whole_read, whole_stays}
 use Rattle.assembler_laws.proofs.Texts.{Gives, Gap, gives_opcode, gives_nothing, gives_join, same_bytes, left_line_gives, protocol_line_gives, kept_gap, fault_gap, refused_gap, assembled, gap_behind}
 
 pub item_line_read_back : ItemLineReadBack
-item_line_read_back op offset marks n line s h c l e = item_says op offset marks n line s h c l e
+item_line_read_back op offset marks n s h c l line e = item_says short_args op offset marks n line s (short_read op s h c) l e
+
+pub whole_line_read_back : WholeLineReadBack
+whole_line_read_back op offset marks n s h l line e = item_says whole_args op offset marks n line s (whole_read op s h) l e
 
 -- ---- what a run has come by
 
@@ -75,21 +81,29 @@ run_next_is : (from : State) (ops : List Operation) (k : ℕ) (o : Operation) (s
 unfolding run
 run_next_is from ops k o s e g = rw (e, g) refl
 
-module _ (d : Contents) (f : IsKnown d) (c : AllCanonical d) where
-  item_gives : (k : ℕ) (o : Operation) (marks : ℕ) (n : Option Note) → item_at d k ≡ Some o → Gives (item_line o (offset_of d k) marks n) (spelling o)
+-- the text of each argument has no newline
+abbrev AllStay : ArgTexts → Type 0
+AllStay args = (o : Operation) → AnyStays (args.text o)
+
+-- and is read back
+abbrev AllRead : ArgTexts → Contents → Type 0
+AllRead args d = (k : ℕ) (o : Operation) → item_at d k ≡ Some o → IsReadIn args o
+
+module _ (args : ArgTexts) (stays : AllStay args) (d : Contents) (f : IsKnown d) (reads : AllRead args d) where
+  item_gives : (k : ℕ) (o : Operation) (marks : ℕ) (n : Option Note) → item_at d k ≡ Some o → Gives (item_line_in args o (offset_of d k) marks n) (spelling o)
   item_gives k o marks n at =
-      let line = body o (offset_of d k) marks n in
-      let p = parts o (offset_of d k) marks n in
+      let line = body args o (offset_of d k) marks n in
+      let p = parts args o (offset_of d k) marks n in
       subst (λ (t : List ℕ). Gives t (spelling o)) (sym p)
-      (gives_opcode line o (body_stays o (offset_of d k) marks n) (item_says o (offset_of d k) marks n line (f.spelled k o at) (f.bytes k o at) (c k o at) (f.offset k) p) (f.spelled k o at))
+      (gives_opcode line o (body_stays args o (offset_of d k) marks n (stays o)) (item_says args o (offset_of d k) marks n line (f.spelled k o at) (reads k o at) (f.offset k) p) (f.spelled k o at))
 
-  line_gives : (k : ℕ) (x : Option Operation) (y : Option State) (o : Operation) (s : State) → item_at d k ≡ Some o → x ≡ Some o → y ≡ Some s → Gives (line_on d k x y) (spelling o)
+  line_gives : (k : ℕ) (x : Option Operation) (y : Option State) (o : Operation) (s : State) → item_at d k ≡ Some o → x ≡ Some o → y ≡ Some s → Gives (line_on_in args d k x y) (spelling o)
   line_gives k x y o s at e g =
-      subst (λ (z : Option Operation). Gives (line_on d k z y) (spelling o)) (sym e)
-      (subst (λ (z : Option State). Gives (line_on d k (Some o) z) (spelling o)) (sym g) (item_gives k o (length (fresh s).marked) _ at))
+      subst (λ (z : Option Operation). Gives (line_on_in args d k z y) (spelling o)) (sym e)
+      (subst (λ (z : Option State). Gives (line_on_in args d k (Some o) z) (spelling o)) (sym g) (item_gives k o (length (fresh s).marked) _ at))
 
-  line_there : (k : ℕ) (o : Operation) (s : State) → item_at d k ≡ Some o → ran d k ≡ Some s → Gives (line_at d k) (spelling o)
-  unfolding line_at
+  line_there : (k : ℕ) (o : Operation) (s : State) → item_at d k ≡ Some o → ran d k ≡ Some s → Gives (line_at_in args d k) (spelling o)
+  unfolding line_at_in
   line_there k o s e g = line_gives k (item_at d k) (ran d k) o s e e g
 
   left_gives : (x : Option Operation) (y : Option State) → Gives (left_by x y) []
@@ -102,21 +116,21 @@ module _ (d : Contents) (f : IsKnown d) (c : AllCanonical d) where
       go false = gives_nothing
 
   -- item k behind those before it
-  one_more : (k : ℕ) (o : Operation) (s : State) → item_at d k ≡ Some o → ran d k ≡ Some s → Gives (lines d k) (bytes_of (take k (ops_of d)))
-      → Gives (lines d (suc k)) (bytes_of (take (suc k) (ops_of d)))
-  unfolding lines
+  one_more : (k : ℕ) (o : Operation) (s : State) → item_at d k ≡ Some o → ran d k ≡ Some s → Gives (lines_in args d k) (bytes_of (take k (ops_of d)))
+      → Gives (lines_in args d (suc k)) (bytes_of (take (suc k) (ops_of d)))
+  unfolding lines_in
   one_more k o s e g p =
       let left = left_by (item_at d k) (ran d (suc k)) in
-      let all = gives_join (lines d k ⧺ line_at d k) left (bytes_of (take k (ops_of d)) ++ spelling o) []
-      (gives_join (lines d k) (line_at d k) (bytes_of (take k (ops_of d))) (spelling o) p (line_there k o s e g)) (left_gives (item_at d k) (ran d (suc k))) in
-      same_bytes (lines d k ⧺ line_at d k ⧺ left) ((bytes_of (take k (ops_of d)) ++ spelling o) ++ []) (bytes_of (take (suc k) (ops_of d)))
+      let all = gives_join (lines_in args d k ⧺ line_at_in args d k) left (bytes_of (take k (ops_of d)) ++ spelling o) []
+      (gives_join (lines_in args d k) (line_at_in args d k) (bytes_of (take k (ops_of d))) (spelling o) p (line_there k o s e g)) (left_gives (item_at d k) (ran d (suc k))) in
+      same_bytes (lines_in args d k ⧺ line_at_in args d k ⧺ left) ((bytes_of (take k (ops_of d)) ++ spelling o) ++ []) (bytes_of (take (suc k) (ops_of d)))
       (append-nil (bytes_of (take k (ops_of d)) ++ spelling o) ∙ sym (bytes_next (ops_of d) k o e)) all
 
-  no_lines : Gives (lines d 0) []
-  unfolding lines
+  no_lines : Gives (lines_in args d 0) []
+  unfolding lines_in
   no_lines = gives_nothing
 
-  lines_give : (n : ℕ) (s : State) → ran d n ≡ Some s → Gives (lines d n) (bytes_of (take n (ops_of d)))
+  lines_give : (n : ℕ) (s : State) → ran d n ≡ Some s → Gives (lines_in args d n) (bytes_of (take n (ops_of d)))
   lines_give zero s e = no_lines
   lines_give (suc k) s e =
       let g = run_after (start d.many) (ops_of d) k s e in
@@ -135,23 +149,23 @@ module _ (d : Contents) (f : IsKnown d) (c : AllCanonical d) where
   end_gives (finish.Fault g) e t = absurd (omega (arith, e))
 
   -- the text of a listing that ends behind its last item
-  read_by : (k : ℕ) (x : Option Operation) (s : State) → item_at d k ≡ x → ran d k ≡ Some s → (listing_to d k x (Some s)).status ≡ 0 → d.tail ≡ [] → Assembles (listing_to d k x (Some s)).text (document_bytes d)
+  read_by : (k : ℕ) (x : Option Operation) (s : State) → item_at d k ≡ x → ran d k ≡ Some s → (listing_to_in args d k x (Some s)).status ≡ 0 → d.tail ≡ [] → Assembles (listing_to_in args d k x (Some s)).text (document_bytes d)
   read_by k (Some o) s e g z t = absurd (omega (arith, z))
   read_by k None s e g z t =
       let p = highest_protocol (take k (ops_of d)) in
-      let all = gives_join (lines d k) (end_lines d (finish_of d) ⧺ protocol_line p) (bytes_of (take k (ops_of d))) []
+      let all = gives_join (lines_in args d k) (end_lines d (finish_of d) ⧺ protocol_line p) (bytes_of (take k (ops_of d))) []
       (lines_give k s g) (gives_join (end_lines d (finish_of d)) (protocol_line p) [] [] (end_gives (finish_of d) z t) (protocol_line_gives p)) in
-      assembled (lines d k ⧺ (end_lines d (finish_of d) ⧺ protocol_line p)) (document_bytes d)
-      (same_bytes (lines d k ⧺ (end_lines d (finish_of d) ⧺ protocol_line p)) (bytes_of (take k (ops_of d)) ++ []) (document_bytes d)
+      assembled (lines_in args d k ⧺ (end_lines d (finish_of d) ⧺ protocol_line p)) (document_bytes d)
+      (same_bytes (lines_in args d k ⧺ (end_lines d (finish_of d) ⧺ protocol_line p)) (bytes_of (take k (ops_of d)) ++ []) (document_bytes d)
       (append-nil (bytes_of (take k (ops_of d))) ∙ whole_bytes k e t) all)
 
-  whole : (listing d).status ≡ 0 → d.tail ≡ [] → Assembles (listing d).text (document_bytes d)
-  unfolding listing
+  whole : (listing_in args d).status ≡ 0 → d.tail ≡ [] → Assembles (listing_in args d).text (document_bytes d)
+  unfolding listing_in
   whole =
       let n = length (ops_of d) in
       let far = is_reached (start d.many) (ops_of d) n in
       let k = reached (start d.many) (ops_of d) n in
-      subst (λ (y : Option State). (listing_to d k (item_at d k) y).status ≡ 0 → d.tail ≡ [] → Assembles (listing_to d k (item_at d k) y).text (document_bytes d)) (sym far.is)
+      subst (λ (y : Option State). (listing_to_in args d k (item_at d k) y).status ≡ 0 → d.tail ≡ [] → Assembles (listing_to_in args d k (item_at d k) y).text (document_bytes d)) (sym far.is)
       (read_by k (item_at d k) far.state refl far.is)
 
   -- ---- there is more
@@ -164,27 +178,51 @@ module _ (d : Contents) (f : IsKnown d) (c : AllCanonical d) where
   ]
 
   gap_by : (k : ℕ) (x : Option Operation) (s : State) → item_at d k ≡ x → ran d k ≡ Some s → ((o : Operation) → x ≡ Some o → ran d (suc k) ≡ None)
-      → ((listing_to d k x (Some s)).status ≢ 0) ⊎ (d.tail ≢ []) → (m : ℕ) × IsRefused (listing_to d k x (Some s)).text m why.LeftOut
+      → ((listing_to_in args d k x (Some s)).status ≢ 0) ⊎ (d.tail ≢ []) → (m : ℕ) × IsRefused (listing_to_in args d k x (Some s)).text m why.LeftOut
   gap_by k None s e g last h =
-      gap_behind (lines d k) (end_lines d (finish_of d)) (protocol_line (highest_protocol (take k (ops_of d)))) (bytes_of (take k (ops_of d))) (lines_give k s g) (end_gap (finish_of d) h)
+      gap_behind (lines_in args d k) (end_lines d (finish_of d)) (protocol_line (highest_protocol (take k (ops_of d)))) (bytes_of (take k (ops_of d))) (lines_give k s g) (end_gap (finish_of d) h)
   gap_by k (Some o) s e g last h =
       let none : after (Some o) k (Some s) ≡ None = sym (run_next_is (start d.many) (ops_of d) k o s e g) ∙ last o refl in
-      gap_behind (lines d (suc k)) (refused_lines (refusal_at o s)) (protocol_line (highest_protocol (take (suc k) (ops_of d)))) (bytes_of (take (suc k) (ops_of d)))
+      gap_behind (lines_in args d (suc k)) (refused_lines (refusal_at o s)) (protocol_line (highest_protocol (take (suc k) (ops_of d)))) (bytes_of (take (suc k) (ops_of d)))
       (one_more k o s e g (lines_give k s g)) (refused_by o k s (refusal_at o s) none)
 
-  gap : ((listing d).status ≢ 0) ⊎ (d.tail ≢ []) → (m : ℕ) × IsRefused (listing d).text m why.LeftOut
-  unfolding listing
+  gap : ((listing_in args d).status ≢ 0) ⊎ (d.tail ≢ []) → (m : ℕ) × IsRefused (listing_in args d).text m why.LeftOut
+  unfolding listing_in
   gap =
       let n = length (ops_of d) in
       let far = is_reached (start d.many) (ops_of d) n in
       let k = reached (start d.many) (ops_of d) n in
-      subst (λ (y : Option State). ((listing_to d k (item_at d k) y).status ≢ 0) ⊎ (d.tail ≢ []) → (m : ℕ) × IsRefused (listing_to d k (item_at d k) y).text m why.LeftOut) (sym far.is)
+      subst (λ (y : Option State). ((listing_to_in args d k (item_at d k) y).status ≢ 0) ⊎ (d.tail ≢ []) → (m : ℕ) × IsRefused (listing_to_in args d k (item_at d k) y).text m why.LeftOut) (sym far.is)
       (gap_by k (item_at d k) far.state refl far.is (λ o e. past (start d.many) (ops_of d) n k far.most (omega (arith, within (ops_of d) k o e)) (ran d (suc k)) refl))
 
-pub listing_read_back : ListingReadBack
-listing_read_back bytes d h z t =
+-- of a document that bytes read as
+whole_of : (args : ArgTexts) → AllStay args → (bytes : List ℕ) (d : Contents) → IsDocumentOf bytes d → AllRead args d → IsReadBack bytes d (listing_in args d)
+whole_of args stays bytes d h reads z t =
+    subst (λ (bs : List ℕ). Assembles (listing_in args d).text bs) h.reads.whole (whole args stays d (known h.many h.loose bytes d h.good h.small h.reads) reads z t)
+
+gap_of : (args : ArgTexts) → AllStay args → (bytes : List ℕ) (d : Contents) → IsDocumentOf bytes d → AllRead args d → IsRefusedAtGap d (listing_in args d)
+gap_of args stays bytes d h reads more = gap args stays d (known h.many h.loose bytes d h.good h.small h.reads) reads more
+
+-- by their own texts
+short_all : (bytes : List ℕ) (d : Contents) → IsDocumentOf bytes d → AllCanonical d → AllRead short_args d
+short_all bytes d h c k o at =
     let f = known h.many h.loose bytes d h.good h.small h.reads in
-    subst (λ (bs : List ℕ). Assembles (listing d).text bs) h.reads.whole (whole d f h.canonical z t)
+    short_read o (f.spelled k o at) (f.bytes k o at) (c k o at)
+
+pub listing_read_back : ListingReadBack
+listing_read_back bytes d h c = whole_of short_args arg_stays bytes d h (short_all bytes d h c)
 
 pub gaps_are_refused : GapsAreRefused
-gaps_are_refused bytes d h more = gap d (known h.many h.loose bytes d h.good h.small h.reads) h.canonical more
+gaps_are_refused bytes d h c = gap_of short_args arg_stays bytes d h (short_all bytes d h c)
+
+-- or whole
+whole_all : (bytes : List ℕ) (d : Contents) → IsDocumentOf bytes d → AllRead whole_args d
+whole_all bytes d h k o at =
+    let f = known h.many h.loose bytes d h.good h.small h.reads in
+    whole_read o (f.spelled k o at) (f.bytes k o at)
+
+pub whole_listing_read_back : WholeListingReadBack
+whole_listing_read_back bytes d h = whole_of whole_args whole_stays bytes d h (whole_all bytes d h)
+
+pub whole_gaps_are_refused : WholeGapsAreRefused
+whole_gaps_are_refused bytes d h = gap_of whole_args whole_stays bytes d h (whole_all bytes d h)

@@ -16,7 +16,7 @@ use Rattle.pickle_ops.specs.Text.{long_text}
 use Rattle.opcode_assembler.specs.Words.{is_blank, is_letter, word, after_word, behind}
 use Rattle.opcode_assembler.specs.Numbers.{hex_first, signed_word, says_no_more, least_len, shortest}
 use Rattle.opcode_assembler.specs.Arguments.{shortened, long_first}
-use Rattle.assembler_laws.specs.Whole.{has_shortest, IsShortest}
+use Rattle.assembler_laws.proofs.Canonical.{has_shortest, IsShortest}
 use Rattle.assembler_laws.proofs.Spans.{Spans, word_is, after_is, gap_before}
 use Rattle.assembler_laws.proofs.Decimals.{some_digits, all_digits, digits_letters}
 use Rattle.assembler_laws.proofs.Littles.{number, number_is, back, below}

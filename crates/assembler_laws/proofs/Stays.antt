@@ -21,7 +21,8 @@ use Rattle.pickle_list.specs.declared.note.Note.{Note}
 use Rattle.pickle_list.specs.declared.note.Note.TheVariants as note
 use Rattle.pickle_text.specs.Column.{blanks, left_aligned}
 use Rattle.pickle_list.specs.ListingColumn.{code_text}
-use Rattle.pickle_list.specs.Line.{mark_text, as_text, note_text, described, named}
+use Rattle.pickle_list.specs.ArgTexts.{ArgTexts}
+use Rattle.pickle_list.specs.Line.{mark_text, as_text, note_text, described, named_in}
 use Rattle.pickle_text.specs.ReportLine.{refusal_words, refusal_number, refusal_text, tail_words, fault_byte, fault_text, fault_at}
 use Rattle.calls_laws.proofs.LinesApart.{joined, quotes_stay}
 use Rattle.calls_laws.proofs.WithinLines.{Stays, then_stays, if_stays, decimal_stays, signed_stays, hexadecimal_stays}
@@ -34,7 +35,7 @@ blanks_stay (suc n) = blanks_stay n
 -- ---- arguments
 
 -- a text, if there is one
-abbrev AnyStays : Option (List ℕ) → Type 0
+abbrev pub AnyStays : Option (List ℕ) → Type 0
 AnyStays None = Unit {0}
 AnyStays (Some t) = Stays t
 
@@ -67,7 +68,7 @@ form_stays form.Bytes4 arg = quotes_stay (payload form.Bytes4 arg)
 form_stays form.Bytes8 arg = quotes_stay (payload form.Bytes8 arg)
 form_stays form.String4 arg = quotes_stay (payload form.String4 arg)
 
-arg_stays : (o : Operation) → AnyStays (arg_text o)
+pub arg_stays : (o : Operation) → AnyStays (arg_text o)
 unfolding arg_text
 arg_stays o = go (is_long o.opcode)
   where
@@ -103,19 +104,20 @@ described_stays name (Some t) (Some n) p q =
     then_stays ((left_aligned 10 name ⧺ codes " " ⧺ t) ⧺ codes " ") (note_text n)
     (then_stays (left_aligned 10 name ⧺ codes " " ⧺ t) (codes " ") (then_stays (left_aligned 10 name ⧺ codes " ") t (left_stays name p) q) refl) (note_stays n)
 
-named_stays : (o : Operation) (n : Option Note) → Stays (named o n)
-unfolding named
-named_stays o n = described_stays (name_of o.opcode) (arg_text o) n (name_stays o.opcode) (arg_stays o)
+named_stays : (args : ArgTexts) (o : Operation) (n : Option Note) → AnyStays (args.text o) → Stays (named_in args o n)
+unfolding named_in
+named_stays args o n a = described_stays (name_of o.opcode) (args.text o) n (name_stays o.opcode) a
 
-pub body_stays : (o : Operation) (offset marks : ℕ) (n : Option Note) → Stays (body o offset marks n)
+pub body_stays : (args : ArgTexts) (o : Operation) (offset marks : ℕ) (n : Option Note) → AnyStays (args.text o) → Stays (body args o offset marks n)
 unfolding body
-body_stays o offset marks n =
+body_stays args o offset marks n a =
     let c = code_text (code_of o.opcode) in
+    let t = named_in args o n in
     let gap : List ℕ = blanks (4 - length c) ++ (32 ∷ blanks (4 * marks)) in
     let filled : Stays gap = joined (blanks (4 - length c)) (32 ∷ blanks (4 * marks)) (blanks_stay (4 - length c)) (blanks_stay (4 * marks)) in
-    let rest : Stays (c ++ (gap ++ named o n)) = joined c (gap ++ named o n) (code_stays o.opcode) (joined gap (named o n) filled (named_stays o n)) in
-    joined (blanks (5 - length (decimal offset))) ((decimal offset ++ 58 ∷ []) ++ (32 ∷ (c ++ (gap ++ named o n)))) (blanks_stay (5 - length (decimal offset)))
-    (joined (decimal offset ++ 58 ∷ []) (32 ∷ (c ++ (gap ++ named o n))) (joined (decimal offset) (58 ∷ []) (decimal_stays offset) refl) rest)
+    let rest : Stays (c ++ (gap ++ t)) = joined c (gap ++ t) (code_stays o.opcode) (joined gap t filled (named_stays args o n a)) in
+    joined (blanks (5 - length (decimal offset))) ((decimal offset ++ 58 ∷ []) ++ (32 ∷ (c ++ (gap ++ t)))) (blanks_stay (5 - length (decimal offset)))
+    (joined (decimal offset ++ 58 ∷ []) (32 ∷ (c ++ (gap ++ t))) (joined (decimal offset) (58 ∷ []) (decimal_stays offset) refl) rest)
 
 -- ---- the closing lines
 

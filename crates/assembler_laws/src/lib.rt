@@ -3,4 +3,7 @@
 
 mod laws;
 
-pub use laws::{gaps_are_refused, item_line_read_back, listing_read_back};
+pub use laws::{
+    gaps_are_refused, item_line_read_back, listing_read_back, whole_gaps_are_refused,
+    whole_line_read_back, whole_listing_read_back,
+};

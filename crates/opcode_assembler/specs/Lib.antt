@@ -4,4 +4,5 @@ pub mod Numbers
 pub mod Arguments
 pub mod Reading
 pub mod Assembly
+pub mod Canonical
 pub mod Cut

@@ -4,6 +4,7 @@
 mod argument;
 mod assembly;
 mod buffer;
+mod canonical;
 mod digits;
 mod fault;
 mod line;
@@ -14,4 +15,5 @@ mod text;
 mod words;
 
 pub use assembly::assemble;
+pub use canonical::is_canonical;
 pub use fault::{Reason, Refusal};

@@ -93,7 +93,7 @@ pub(crate) fn signed_first(alloc: Global, text: &[u8]) -> Result<(Vec<u8>, &[u8]
 }
 
 /// Whether byte n says no more than the bytes before it.
-fn says_no_more(bytes: &[u8], n: usize) -> bool
+pub(crate) fn says_no_more(bytes: &[u8], n: usize) -> bool
     requires { n < length bytes.now }
     ensures { result ≡ says_no_more bytes.now n }
 {

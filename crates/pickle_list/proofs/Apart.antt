@@ -12,7 +12,8 @@ use Rattle.pickle_doc.specs.Place.{ops_of, item_at}
 use Rattle.pickle_machine.specs.State.{State, Marked, start}
 use Rattle.pickle_machine.specs.Move.{fresh}
 use Rattle.pickle_machine.specs.Run.{run}
-use Rattle.pickle_list.specs.Listing.{topmost_offset, line_on, line_at, left_by, lines, end_lines, listing_to, listing_with, listing}
+use Rattle.pickle_list.specs.ArgTexts.{short_args}
+use Rattle.pickle_list.specs.Listing.{topmost_offset, line_on, line_at, line_at_in, left_by, lines, lines_in, end_lines, listing_to, listing_with_in, listing, listing_in}
 use Rattle.pickle_text.specs.Reached.{reached}
 
 -- ---- the operations
@@ -80,12 +81,12 @@ item_same : (d e : Contents) (k : ℕ) → ops_of d ≡ ops_of e → item_at d k
 item_same d e k h = ap (λ (ops : List Operation). slice_get ops k) h
 
 line_at_same : (d e : Contents) (k : ℕ) → d.many ≡ e.many → ops_of d ≡ ops_of e → line_at d k ≡ line_at e k
-unfolding line_at
+unfolding line_at_in
 line_at_same d e k m h =
     line_same d e k (item_at d k) (run (start d.many) (ops_of d) k) h ∙ ap₂ (λ (o : Option Operation) (s : Option State). line_on e k o s) (item_same d e k h) (state_same d e k m h)
 
 lines_same : (d e : Contents) (k : ℕ) → d.many ≡ e.many → ops_of d ≡ ops_of e → lines d k ≡ lines e k
-unfolding lines
+unfolding lines_in
 lines_same d e zero m h = refl
 lines_same d e (suc k) m h =
     ap₂ (λ (a b : List ℕ). a ⧺ b ⧺ left_by (item_at d k) (run (start d.many) (ops_of d) (suc k))) (lines_same d e k m h) (line_at_same d e k m h)
@@ -101,14 +102,14 @@ to_same d e k (Some o) (Some s) m h t f = rw (lines_same d e (suc k) m h, h) ref
 to_same d e k None None m h t f = refl
 to_same d e k (Some o) None m h t f = refl
 
-with_same : (d e : Contents) (j k : ℕ) → d.many ≡ e.many → ops_of d ≡ ops_of e → d.tail ≡ e.tail → finish_of d ≡ finish_of e → j ≡ k → listing_with d j ≡ listing_with e k
+with_same : (d e : Contents) (j k : ℕ) → d.many ≡ e.many → ops_of d ≡ ops_of e → d.tail ≡ e.tail → finish_of d ≡ finish_of e → j ≡ k → listing_with_in short_args d j ≡ listing_with_in short_args e k
 with_same d e j k m h t f n =
     to_same d e j (item_at d j) (run (start d.many) (ops_of d) j) m h t f
     ∙ ap₂ (λ (o : Option Operation) (s : Option State). listing_to e j o s) (item_same d e j h) (state_same d e j m h)
-    ∙ ap (λ (i : ℕ). listing_with e i) n
+    ∙ ap (λ (i : ℕ). listing_with_in short_args e i) n
 
 pub same_listing : (d e : Contents) → SameApart d e → listing d ≡ listing e
-unfolding listing
+unfolding listing_in
 same_listing d e a =
     let h = same_operations d e a in
     with_same d e _ _ a.many h a.tail a.finish (ap₂ (λ (b : Bool) (ops : List Operation). reached (start b) ops (length ops)) a.many h)

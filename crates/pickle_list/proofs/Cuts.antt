@@ -5,19 +5,20 @@ use Rattle.pickle_io.specs.Device.{Told}
 use Rattle.pickle_doc.specs.Document.{Contents, document_bytes, ReadsIn, IsReadAgain}
 use Rattle.pickle_text.specs.declared.stop.TextStop.{TextStop}
 use Rattle.pickle_text.specs.declared.stop.TextStop.TheVariants as stop
+use Rattle.pickle_list.specs.ArgTexts.{ArgTexts}
 use Rattle.pickle_list.specs.Listing.{listing}
-use Rattle.pickle_list.specs.Written.{WroteListing, CutListing, IsListed, BreaksListing, BeginsListing, CutsListing}
+use Rattle.pickle_list.specs.Written.{WroteListing, CutListing, IsListed, BreaksListingIn, BeginsListingIn, CutsListing, CutsListingIn}
 use Rattle.pickle_list.proofs.Apart.{same_listing}
 
 -- the sink has failed
-pub cut_failed : {A : Type 0} {many loose : Bool} (bytes : List ℕ) (a b : Told) (r : Result A TextStop) → IsErrAnd r (λ e. e ≡ stop.Failed) → BreaksListing many loose bytes a b → IfErr r (CutsListing many loose bytes a b)
-cut_failed bytes a b (Ok x) h w = absurd h
-cut_failed bytes a b (Err e) h w = rw h w
+pub cut_failed : {A : Type 0} {many loose : Bool} (args : ArgTexts) (bytes : List ℕ) (a b : Told) (r : Result A TextStop) → IsErrAnd r (λ e. e ≡ stop.Failed) → BreaksListingIn args many loose bytes a b → IfErr r (CutsListingIn args many loose bytes a b)
+cut_failed args bytes a b (Ok x) h w = absurd h
+cut_failed args bytes a b (Err e) h w = rw h w
 
 -- there was no memory
-pub cut_memory : {A : Type 0} {many loose : Bool} (bytes : List ℕ) (a b : Told) (r : Result A TextStop) → IsErrAnd r (λ e. e ≡ stop.Memory) → BeginsListing many loose bytes a b → IfErr r (CutsListing many loose bytes a b)
-cut_memory bytes a b (Ok x) h w = absurd h
-cut_memory bytes a b (Err e) h w = rw h w
+pub cut_memory : {A : Type 0} {many loose : Bool} (args : ArgTexts) (bytes : List ℕ) (a b : Told) (r : Result A TextStop) → IsErrAnd r (λ e. e ≡ stop.Memory) → BeginsListingIn args many loose bytes a b → IfErr r (CutsListingIn args many loose bytes a b)
+cut_memory args bytes a b (Ok x) h w = absurd h
+cut_memory args bytes a b (Err e) h w = rw h w
 
 -- ---- the bytes of a document read as one that has the same listing
 

@@ -12,7 +12,8 @@ use Rattle.pickle_ops.specs.Spelling.{Operation}
 use Rattle.pickle_io.specs.Text.{◌⧺◌}
 use Rattle.pickle_list.specs.declared.note.Note.{Note}
 use Rattle.pickle_text.specs.Column.{blanks, left_aligned, right_aligned, newline}
-use Rattle.pickle_list.specs.Line.{offset_column, code_column, item_line, named}
+use Rattle.pickle_list.specs.ArgTexts.{ArgTexts}
+use Rattle.pickle_list.specs.Line.{offset_column, code_column, item_line_in, named_in}
 
 -- the head of a line: where the item stands, and its code
 pub head_there : (o : Opcode) (block : List ℕ) (offset : ℕ) → take 7 block ≡ code_column o → right_aligned 5 (decimal offset) ⧺ take 7 block ≡ offset_column offset ⧺ code_column o
@@ -48,13 +49,13 @@ filled_there a b name h w = subst (Wrote a b) (ap (λ (l : List ℕ). l ++ 32 �
 abbrev head : Opcode → ℕ → ℕ → List ℕ
 head o offset marks = offset_column offset ⧺ code_column o ⧺ blanks (4 * marks)
 
-pub joined : (o : Operation) (offset marks : ℕ) (n : Option Note) → head o.opcode offset marks ⧺ (named o n ⧺ newline) ≡ item_line o offset marks n
-unfolding item_line ◌⧺◌
-joined o offset marks n = sym (append_assoc ((offset_column offset ++ code_column o.opcode) ++ blanks (4 * marks)) (named o n) newline)
+pub joined : (args : ArgTexts) (o : Operation) (offset marks : ℕ) (n : Option Note) → head o.opcode offset marks ⧺ (named_in args o n ⧺ newline) ≡ item_line_in args o offset marks n
+unfolding item_line_in ◌⧺◌
+joined args o offset marks n = sym (append_assoc ((offset_column offset ++ code_column o.opcode) ++ blanks (4 * marks)) (named_in args o n) newline)
 
-pub line_behind : {A E : Type 0} (a b c : Told) (x : Result A E) (o : Operation) (offset marks : ℕ) (n : Option Note)
-    → Writes b c x (named o n ⧺ newline) → Wrote a b (head o.opcode offset marks) → Writes a c x (item_line o offset marks n)
-line_behind a b c x o offset marks n w v = subst (λ (t : List ℕ). Writes a c x t) (joined o offset marks n) (Writes-next a b c x (head o.opcode offset marks) (named o n ⧺ newline) w v)
+pub line_behind : {A E : Type 0} (args : ArgTexts) (a b c : Told) (x : Result A E) (o : Operation) (offset marks : ℕ) (n : Option Note)
+    → Writes b c x (named_in args o n ⧺ newline) → Wrote a b (head o.opcode offset marks) → Writes a c x (item_line_in args o offset marks n)
+line_behind args a b c x o offset marks n w v = subst (λ (t : List ℕ). Writes a c x t) (joined args o offset marks n) (Writes-next a b c x (head o.opcode offset marks) (named_in args o n ⧺ newline) w v)
 
-pub line_broken : (a b : Told) (o : Operation) (offset marks : ℕ) (n : Option Note) → Broke a b (head o.opcode offset marks) → Broke a b (item_line o offset marks n)
-line_broken a b o offset marks n w = subst (λ (t : List ℕ). Broke a b t) (joined o offset marks n) (Broke-longer a b (head o.opcode offset marks) (named o n ⧺ newline) w)
+pub line_broken : (args : ArgTexts) (a b : Told) (o : Operation) (offset marks : ℕ) (n : Option Note) → Broke a b (head o.opcode offset marks) → Broke a b (item_line_in args o offset marks n)
+line_broken args a b o offset marks n w = subst (λ (t : List ℕ). Broke a b t) (joined args o offset marks n) (Broke-longer a b (head o.opcode offset marks) (named_in args o n ⧺ newline) w)

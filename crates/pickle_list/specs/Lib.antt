@@ -1,4 +1,5 @@
 -- The definitions that contracts cite.
+pub mod ArgTexts
 pub mod ListingColumn
 pub mod Line
 pub mod Listing

@@ -5,12 +5,12 @@ use Rattle.pickle_ops.specs.declared.opcode.Opcode.{Opcode}
 use Rattle.pickle_ops.specs.Spelling.{Operation}
 use Rattle.pickle_ops.specs.Table.{code_of, name_of, protocol_of}
 use Rattle.pickle_io.specs.Text.{◌⧺◌}
-use Rattle.pickle_ops.specs.Text.{arg_text}
 use Rattle.pickle_machine.specs.declared.refusal.Refusal.{Refusal}
 use Rattle.pickle_text.specs.Column.{blanks, left_aligned, right_aligned, newline}
 use Rattle.pickle_text.specs.ReportLine.{refusal_text}
 use Rattle.pickle_list.specs.declared.note.Note.{Note}
 use Rattle.pickle_list.specs.declared.note.Note.TheVariants as note
+use Rattle.pickle_list.specs.ArgTexts.{ArgTexts, short_args}
 use Rattle.pickle_list.specs.ListingColumn.{code_text}
 
 -- ---- the line of an item
@@ -42,12 +42,19 @@ described name (Some arg) None = left_aligned 10 name ⧺ codes " " ⧺ arg
 described name None (Some n) = left_aligned 10 name ⧺ codes " " ⧺ note_text n
 described name (Some arg) (Some n) = left_aligned 10 name ⧺ codes " " ⧺ arg ⧺ codes " " ⧺ note_text n
 
-unfoldable pub named : Operation → Option Note → List ℕ
-named o n = described (name_of o.opcode) (arg_text o) n
+unfoldable pub named_in : ArgTexts → Operation → Option Note → List ℕ
+named_in args o n = described (name_of o.opcode) (args.text o) n
 
 -- the line of an item at this offset, with four blanks for each open mark
-unfoldable pub item_line : Operation → ℕ → ℕ → Option Note → List ℕ
-item_line o offset marks n = offset_column offset ⧺ code_column o.opcode ⧺ blanks (4 * marks) ⧺ named o n ⧺ newline
+unfoldable pub item_line_in : ArgTexts → Operation → ℕ → ℕ → Option Note → List ℕ
+item_line_in args o offset marks n = offset_column offset ⧺ code_column o.opcode ⧺ blanks (4 * marks) ⧺ named_in args o n ⧺ newline
+
+-- with the argument's own text
+abbrev pub named : Operation → Option Note → List ℕ
+named o n = named_in short_args o n
+
+abbrev pub item_line : Operation → ℕ → ℕ → Option Note → List ℕ
+item_line o offset marks n = item_line_in short_args o offset marks n
 
 -- ---- the closing lines
 

@@ -21,7 +21,8 @@ use Rattle.pickle_list.specs.declared.note.Note.{Note}
 use Rattle.pickle_list.specs.declared.note.Note.TheVariants as note
 use Rattle.pickle_text.specs.ReportLine.{fault_line}
 use Rattle.pickle_text.specs.Output.{Output}
-use Rattle.pickle_list.specs.Line.{item_line, refused_line, left_line, protocol_line, highest_protocol}
+use Rattle.pickle_list.specs.ArgTexts.{ArgTexts, short_args}
+use Rattle.pickle_list.specs.Line.{item_line_in, refused_line, left_line, protocol_line, highest_protocol}
 use Rattle.pickle_text.specs.Closing.{kept_line}
 use Rattle.pickle_text.specs.Reached.{reached}
 
@@ -47,18 +48,18 @@ note_unless None n = n
 note_unless (Some r) n = None
 
 -- the line of an item on the state on which its move is taken
-abbrev pub line_within : Contents → ℕ → Operation → State → List ℕ
-line_within d k o s = item_line o (offset_of d k) (length s.marked) (note_unless (refusal_of (row_of o) s) (note_with o s (topmost_offset d s.marked)))
+abbrev pub line_within_in : ArgTexts → Contents → ℕ → Operation → State → List ℕ
+line_within_in args d k o s = item_line_in args o (offset_of d k) (length s.marked) (note_unless (refusal_of (row_of o) s) (note_with o s (topmost_offset d s.marked)))
 
 -- where several pickles are listed, an item after STOP begins the next one: no mark is open before it
-abbrev pub line_on : Contents → ℕ → Option Operation → Option State → List ℕ
-line_on d k (Some o) (Some s) = line_within d k o (fresh s)
-line_on d k (Some o) None = []
-line_on d k None s = []
+abbrev pub line_on_in : ArgTexts → Contents → ℕ → Option Operation → Option State → List ℕ
+line_on_in args d k (Some o) (Some s) = line_within_in args d k o (fresh s)
+line_on_in args d k (Some o) None = []
+line_on_in args d k None s = []
 
 -- the line of item k, on the state that the items before it reach
-unfoldable pub line_at : Contents → ℕ → List ℕ
-line_at d k = line_on d k (item_at d k) (run (start d.many) (ops_of d) k)
+unfoldable pub line_at_in : ArgTexts → Contents → ℕ → List ℕ
+line_at_in args d k = line_on_in args d k (item_at d k) (run (start d.many) (ops_of d) k)
 
 -- what an item left, in the state after it: STOP may leave something on the stack
 abbrev pub left_by : Option Operation → Option State → List ℕ
@@ -67,9 +68,9 @@ left_by (Some o) None = []
 left_by None s = []
 
 -- the lines of the first n items, and after each what it left
-unfoldable pub lines : Contents → ℕ → List ℕ
-lines d zero = []
-lines d (suc k) = lines d k ⧺ line_at d k ⧺ left_by (item_at d k) (run (start d.many) (ops_of d) (suc k))
+unfoldable pub lines_in : ArgTexts → Contents → ℕ → List ℕ
+lines_in args d zero = []
+lines_in args d (suc k) = lines_in args d k ⧺ line_at_in args d k ⧺ left_by (item_at d k) (run (start d.many) (ops_of d) (suc k))
 
 -- ---- the closing lines
 
@@ -90,15 +91,32 @@ refused_lines (Some r) = refused_line r
 -- ---- listings
 
 -- the listing, k being the greatest place that is reached: after all items, or with the refused item k as the last
+abbrev pub listing_to_in : ArgTexts → Contents → ℕ → Option Operation → Option State → Output
+listing_to_in args d k None (Some s) =
+    record { text = lines_in args d k ⧺ (end_lines d (finish_of d) ⧺ protocol_line (highest_protocol (take k (ops_of d)))); status = end_status (finish_of d) }
+listing_to_in args d k (Some o) (Some s) =
+    record { text = lines_in args d (suc k) ⧺ (refused_lines (refusal_at o s) ⧺ protocol_line (highest_protocol (take (suc k) (ops_of d)))); status = 1 }
+listing_to_in args d k o None = record { text = []; status = 0 }
+
+abbrev pub listing_with_in : ArgTexts → Contents → ℕ → Output
+listing_with_in args d k = listing_to_in args d k (item_at d k) (run (start d.many) (ops_of d) k)
+
+unfoldable pub listing_in : ArgTexts → Contents → Output
+listing_in args d = listing_with_in args d (reached (start d.many) (ops_of d) (length (ops_of d)))
+
+-- ---- the listing that has each argument's own text
+
+abbrev pub line_on : Contents → ℕ → Option Operation → Option State → List ℕ
+line_on d k o s = line_on_in short_args d k o s
+
+abbrev pub line_at : Contents → ℕ → List ℕ
+line_at d k = line_at_in short_args d k
+
+abbrev pub lines : Contents → ℕ → List ℕ
+lines d n = lines_in short_args d n
+
 abbrev pub listing_to : Contents → ℕ → Option Operation → Option State → Output
-listing_to d k None (Some s) =
-    record { text = lines d k ⧺ (end_lines d (finish_of d) ⧺ protocol_line (highest_protocol (take k (ops_of d)))); status = end_status (finish_of d) }
-listing_to d k (Some o) (Some s) =
-    record { text = lines d (suc k) ⧺ (refused_lines (refusal_at o s) ⧺ protocol_line (highest_protocol (take (suc k) (ops_of d)))); status = 1 }
-listing_to d k o None = record { text = []; status = 0 }
+listing_to d k o s = listing_to_in short_args d k o s
 
-abbrev pub listing_with : Contents → ℕ → Output
-listing_with d k = listing_to d k (item_at d k) (run (start d.many) (ops_of d) k)
-
-unfoldable pub listing : Contents → Output
-listing d = listing_with d (reached (start d.many) (ops_of d) (length (ops_of d)))
+abbrev pub listing : Contents → Output
+listing d = listing_in short_args d

@@ -3,6 +3,7 @@
 //! A line has the form of `pickletools.dis`. What is said of refused opcodes, of faults and of what is left is this project's own.
 #![tactic(auto)]
 
+mod arg_writer;
 mod column;
 mod highest;
 mod line;
@@ -11,4 +12,5 @@ mod note;
 mod offset;
 mod put;
 
-pub use list::{list_bytes, list_items, write_listing};
+pub use arg_writer::{ArgWriter, ShortArgs};
+pub use list::{list_bytes, list_bytes_with, list_items, write_listing};

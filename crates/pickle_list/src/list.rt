@@ -8,15 +8,16 @@ ghost use Rattle.pickle_machine.specs.State.{stack_size};
 ghost use Rattle.pickle_machine.specs.Move.{next_of, refusal_of, fresh};
 ghost use Rattle.pickle_machine.specs.Outline.{outline, sample};
 ghost use Rattle.pickle_text.specs.ReportLine.{fault_line};
-ghost use Rattle.pickle_list.specs.Line.{item_line, refused_line, left_line, protocol_line};
+ghost use Rattle.pickle_list.specs.Line.{item_line_in, refused_line, left_line, protocol_line};
 ghost use Rattle.pickle_text.specs.Closing.{kept_line};
 ghost use Rattle.pickle_list.specs.Inside.Marks.{followed, followed_by};
 ghost use Rattle.pickle_list.specs.Inside.Answer.{IsAnswer};
 ghost use Rattle.pickle_text.specs.Inside.Part.{IsPart};
 ghost use Rattle.pickle_list.specs.Inside.Listed.{Begun, HasListed};
 ghost use Rattle.pickle_text.specs.Source.{GivesDocument};
-ghost use Rattle.pickle_list.specs.Written.{WroteListing, CutListing, IsListed, CutsListing};
+ghost use Rattle.pickle_list.specs.Written.{WroteListing, CutListing, IsListed, IsListedIn, CutsListing, CutsListingIn};
 
+use crate::arg_writer::{ArgWriter, ShortArgs};
 use crate::highest::Highest;
 use crate::line::{write_left_line, write_protocol, write_refused};
 use crate::offset::Offset;
@@ -86,7 +87,7 @@ fn write_refused_end<P: Page>(
 /// Writes the line of an item that is refused, and the lines after it. An item that is refused has no note.
 #[tactic(auto, using(pickle_io::proofs::Devices::text_steps))]
 #[inline(never)]
-fn write_refused_item<P: Page>(
+fn write_refused_item<A: ArgWriter, P: Page>(
     op: &OpRef<'_>,
     offset: &Offset,
     marks: usize,
@@ -95,9 +96,9 @@ fn write_refused_item<P: Page>(
     page: &mut P,
 ) -> Result<(), Failed>
     requires { marks < 2 ^ 32 }
-    ensures { Writes (P.told page.old) (P.told page.new) result (item_line op.now offset.now marks None ⧺ (refused_line refusal ⧺ protocol_line highest)) }
+    ensures { Writes (P.told page.old) (P.told page.new) result (item_line_in A.texts op.now offset.now marks None ⧺ (refused_line refusal ⧺ protocol_line highest)) }
 {
-    write_bare_item(op, offset, marks, page)?;
+    write_bare_item::<A, P>(op, offset, marks, page)?;
     write_refused_end(refusal, highest, page)
 }
 
@@ -173,17 +174,17 @@ fn end_pickle<P: Page>(lean: &mut Lean, opened: &mut Vec<u64>, page: &mut P) -> 
 
 /// Writes the listing of the items of one part, from how far they are listed on.
 #[inline(never)]
-fn list_part<'a, I: ItemSource<'a>, S: Page>(
+fn list_part<'a, A: ArgWriter, I: ItemSource<'a>, S: Page>(
     many: bool,
     from: SoFar<I>,
     page: &mut S,
 ) -> Result<Part<SoFar<I>, u8>, TextStop>
-    requires { (begun : Begun) × HasListed many begun I.unread (S.told page.old) from }
-    ensures ok { (begun : Begun) → HasListed many begun I.unread (S.told page.old) from
-        → IfOk result (IsPart (HasListed many begun I.unread (S.told page.new))
-        (IsListed many begun.unread.loose begun.unread.rest begun.told (S.told page.new))) }
-    ensures err { (begun : Begun) → HasListed many begun I.unread (S.told page.old) from
-        → IfErr result (CutsListing many begun.unread.loose begun.unread.rest begun.told (S.told page.new)) }
+    requires { (begun : Begun) × HasListed A.texts many begun I.unread (S.told page.old) from }
+    ensures ok { (begun : Begun) → HasListed A.texts many begun I.unread (S.told page.old) from
+        → IfOk result (IsPart (HasListed A.texts many begun I.unread (S.told page.new))
+        (IsListedIn A.texts many begun.unread.loose begun.unread.rest begun.told (S.told page.new))) }
+    ensures err { (begun : Begun) → HasListed A.texts many begun I.unread (S.told page.old) from
+        → IfErr result (CutsListingIn A.texts many begun.unread.loose begun.unread.rest begun.told (S.told page.new)) }
     ensures less { IfOk result (IsPart (λ far. length (I.unread far.reader).rest < length (I.unread from.reader).rest) (λ _. ⊤)) }
 {
     let SoFar {
@@ -210,11 +211,18 @@ fn list_part<'a, I: ItemSource<'a>, S: Page>(
                     highest.raise(op.opcode().protocol());
                     let most = highest.get();
                     return answer(
-                        write_refused_item(&op.again(), &offset, marks, refusal, most, page),
+                        write_refused_item::<A, S>(
+                            &op.again(),
+                            &offset,
+                            marks,
+                            refusal,
+                            most,
+                            page,
+                        ),
                         1,
                     );
                 }
-                write_item(&op, &offset, row, &lean, &opened, page)?;
+                write_item::<A, S>(&op, &offset, row, &lean, &opened, page)?;
                 // After the line: next to the row the compiler makes it a jump of its own.
                 highest.raise(op.opcode().protocol());
                 let class = Class::of(op.opcode());
@@ -250,15 +258,15 @@ fn list_part<'a, I: ItemSource<'a>, S: Page>(
 /// large.
 ///
 /// `Memory` (M) comes when memory runs out, `Failed` from the sink; what was written then is a beginning of the listing.
-pub fn list_items<'a, I: ItemSource<'a>, S: Page>(
+pub fn list_items<'a, A: ArgWriter, I: ItemSource<'a>, S: Page>(
     alloc: Global,
     many: bool,
     source: I,
     page: &mut S,
 ) -> Result<u8, TextStop>
     requires { GivesDocument many (I.unread source) }
-    ensures ok { IfOk result (IsListed many (I.unread source).loose (I.unread source).rest (S.told page.old) (S.told page.new)) }
-    ensures err { IfErr result (CutsListing many (I.unread source).loose (I.unread source).rest (S.told page.old) (S.told page.new)) }
+    ensures ok { IfOk result (IsListedIn A.texts many (I.unread source).loose (I.unread source).rest (S.told page.old) (S.told page.new)) }
+    ensures err { IfErr result (CutsListingIn A.texts many (I.unread source).loose (I.unread source).rest (S.told page.old) (S.told page.new)) }
 {
     let mut far = SoFar {
         reader: source,
@@ -269,7 +277,7 @@ pub fn list_items<'a, I: ItemSource<'a>, S: Page>(
         place: 0,
     };
     'parts: loop {
-        match list_part(many, far, page)? {
+        match list_part::<A, I, S>(many, far, page)? {
             Part::More(next) => far = next,
             Part::End(status) => return Ok(status),
         }
@@ -278,6 +286,22 @@ pub fn list_items<'a, I: ItemSource<'a>, S: Page>(
 
 /// Writes the listing of the pickle that the bytes are, or of the several pickles, which are not too many, with all items loose or with
 /// their frames, and answers its status, as `list_items` does. No item is kept.
+pub fn list_bytes_with<A: ArgWriter, S: Page>(
+    alloc: Global,
+    many: bool,
+    loose: bool,
+    bytes: &[u8],
+    page: &mut S,
+) -> Result<u8, TextStop>
+    requires { length bytes.now ≤ size_limit }
+    ensures ok { IfOk result (IsListedIn A.texts many loose bytes.now (S.told page.old) (S.told page.new)) }
+    ensures err { IfErr result (CutsListingIn A.texts many loose bytes.now (S.told page.old) (S.told page.new)) }
+{
+    let items = Items::new_as(loose, bytes);
+    list_items::<A, Items<'_>, S>(alloc, many, items, page)
+}
+
+/// The same with each argument's own text.
 pub fn list_bytes<S: Page>(
     alloc: Global,
     many: bool,
@@ -289,7 +313,7 @@ pub fn list_bytes<S: Page>(
     ensures ok { IfOk result (IsListed many loose bytes.now (S.told page.old) (S.told page.new)) }
     ensures err { IfErr result (CutsListing many loose bytes.now (S.told page.old) (S.told page.new)) }
 {
-    list_items(alloc, many, Items::new_as(loose, bytes), page)
+    list_bytes_with::<ShortArgs, S>(alloc, many, loose, bytes, page)
 }
 
 /// Writes the listing of a document, in its mode, and answers its status: 1 where an item is refused or the tail has a fault, else 0.
@@ -305,5 +329,5 @@ pub fn write_listing<S: Page>(
     ensures stopped { IfErr result (CutListing document.now.contents (S.told page.old) (S.told page.new)) }
 {
     let items = DocumentItems::new(document);
-    list_items(alloc, document.is_many(), items, page)
+    list_items::<ShortArgs, DocumentItems<'_>, S>(alloc, document.is_many(), items, page)
 }

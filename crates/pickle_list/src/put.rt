@@ -3,20 +3,20 @@
 ghost use Rattle.std.specs.Prelude.{◌≡◌, ◌≤◌, ◌<◌, ◌^◌, ◌+◌, ◌-◌, ◌*◌, ◌++◌, length, codes, unwrap_or, [], None, Some, OnOk};
 ghost use Rattle.pickle_ops.specs.Table.{name_of};
 ghost use Rattle.pickle_io.specs.Text.{◌⧺◌};
-ghost use Rattle.pickle_ops.specs.Text.{arg_text};
 ghost use Rattle.pickle_io.specs.Device.{Wrote, Writes};
 ghost use Rattle.pickle_ops.specs.Row.{row_of};
 ghost use Rattle.pickle_text.specs.Column.{blanks, left_aligned, newline};
-ghost use Rattle.pickle_list.specs.Line.{offset_column, code_column, note_text, described, named, item_line};
+ghost use Rattle.pickle_list.specs.Line.{offset_column, code_column, note_text, described, named_in, item_line_in};
 ghost use Rattle.pickle_list.specs.Listing.{note_with};
 ghost use Rattle.pickle_list.specs.Inside.Marks.{last_element};
 
+use crate::arg_writer::ArgWriter;
 use crate::column::code_block;
 use crate::note::{Note, note_of};
 use crate::offset::{Offset, push_offset};
 use pickle_io::{Failed, Page, push_decimal};
 use pickle_machine::Lean;
-use pickle_ops::{OpRef, Opcode, Row, opcodes, write_arg};
+use pickle_ops::{OpRef, Opcode, Row, opcodes};
 use pickle_text::write_blanks;
 
 /// Writes where an item is, a colon, the code of its opcode and four blanks for each open mark.
@@ -83,14 +83,14 @@ fn push_note<P: Page>(note: Note, page: &mut P)
 /// Writes the name of an operation, and its argument where that has a text.
 #[tactic(auto, using(pickle_io::proofs::Devices::text_steps, crate::proofs::Names::name_steps))]
 #[inline(always)]
-fn write_name<P: Page>(op: &OpRef<'_>, page: &mut P) -> Result<(), Failed>
+fn write_name<A: ArgWriter, P: Page>(op: &OpRef<'_>, page: &mut P) -> Result<(), Failed>
     requires { 160 ≤ P.room page.old }
-    ensures text { Writes (P.told page.old) (P.told page.new) result (described (name_of op.now.opcode) (arg_text op.now) None) }
+    ensures text { Writes (P.told page.old) (P.told page.new) result (described (name_of op.now.opcode) (A.texts.text op.now) None) }
     ensures room { OnOk result (1 ≤ P.room page.new) }
 {
     if op.has_arg_text() {
         push_filled(op.opcode(), page);
-        write_arg(op, page)
+        A::write_text(op, page)
     } else {
         push_name(op.opcode(), page);
         Ok(())
@@ -99,13 +99,17 @@ fn write_name<P: Page>(op: &OpRef<'_>, page: &mut P) -> Result<(), Failed>
 
 /// Writes the name of an operation, its argument and a note.
 #[tactic(auto, using(pickle_io::proofs::Devices::text_steps))]
-fn write_arg_and_note<P: Page>(op: &OpRef<'_>, note: Note, page: &mut P) -> Result<(), Failed>
+fn write_arg_and_note<A: ArgWriter, P: Page>(
+    op: &OpRef<'_>,
+    note: Note,
+    page: &mut P,
+) -> Result<(), Failed>
     requires { 160 ≤ P.room page.old }
-    ensures text { Writes (P.told page.old) (P.told page.new) result (described (name_of op.now.opcode) (Some (unwrap_or (arg_text op.now) [])) (Some note)) }
+    ensures text { Writes (P.told page.old) (P.told page.new) result (described (name_of op.now.opcode) (Some (unwrap_or (A.texts.text op.now) [])) (Some note)) }
     ensures room { OnOk result (1 ≤ P.room page.new) }
 {
     push_filled(op.opcode(), page);
-    write_arg(op, page)?;
+    A::write_text(op, page)?;
     page.push(b' ');
     push_note(note, page);
     Ok(())
@@ -125,40 +129,52 @@ fn write_name_and_note<P: Page>(op: &OpRef<'_>, note: Note, page: &mut P) -> Res
 
 /// Writes the name of an operation, its argument where that has a text, and a note.
 #[tactic(auto, using(crate::proofs::Names::name_steps))]
-fn write_noted<P: Page>(op: &OpRef<'_>, note: Note, page: &mut P) -> Result<(), Failed>
+fn write_noted<A: ArgWriter, P: Page>(
+    op: &OpRef<'_>,
+    note: Note,
+    page: &mut P,
+) -> Result<(), Failed>
     requires { 160 ≤ P.room page.old }
-    ensures text { Writes (P.told page.old) (P.told page.new) result (described (name_of op.now.opcode) (arg_text op.now) (Some note)) }
+    ensures text { Writes (P.told page.old) (P.told page.new) result (described (name_of op.now.opcode) (A.texts.text op.now) (Some note)) }
     ensures room { OnOk result (1 ≤ P.room page.new) }
 {
     if op.has_arg_text() {
-        write_arg_and_note(op, note, page)
+        write_arg_and_note::<A, P>(op, note, page)
     } else {
         write_name_and_note(op, note, page)
     }
 }
 
 /// Writes the name of an operation, its argument where that has a text, and a note where there is one.
-#[tactic(auto, unfolding(crate::specs::Line::named))]
+#[tactic(auto, unfolding(crate::specs::Line::named_in))]
 #[inline(always)]
-fn write_named<P: Page>(op: &OpRef<'_>, note: Option<Note>, page: &mut P) -> Result<(), Failed>
+fn write_named<A: ArgWriter, P: Page>(
+    op: &OpRef<'_>,
+    note: Option<Note>,
+    page: &mut P,
+) -> Result<(), Failed>
     requires { 160 ≤ P.room page.old }
-    ensures text { Writes (P.told page.old) (P.told page.new) result (named op.now note) }
+    ensures text { Writes (P.told page.old) (P.told page.new) result (named_in A.texts op.now note) }
     ensures room { OnOk result (1 ≤ P.room page.new) }
 {
     match note {
-        None => write_name(op, page),
-        Some(note) => write_noted(&op.again(), note, page),
+        None => write_name::<A, P>(op, page),
+        Some(note) => write_noted::<A, P>(&op.again(), note, page),
     }
 }
 
 /// Writes the name of an operation, its argument where that has a text, and a note where there is one, and ends the line.
 #[tactic(auto, using(pickle_io::proofs::Devices::text_steps))]
 #[inline(always)]
-fn write_rest<P: Page>(op: &OpRef<'_>, note: Option<Note>, page: &mut P) -> Result<(), Failed>
+fn write_rest<A: ArgWriter, P: Page>(
+    op: &OpRef<'_>,
+    note: Option<Note>,
+    page: &mut P,
+) -> Result<(), Failed>
     requires { 160 ≤ P.room page.old }
-    ensures { Writes (P.told page.old) (P.told page.new) result (named op.now note ⧺ newline) }
+    ensures { Writes (P.told page.old) (P.told page.new) result (named_in A.texts op.now note ⧺ newline) }
 {
-    write_named(op, note, page)?;
+    write_named::<A, P>(op, note, page)?;
     page.push(b'\n');
     Ok(())
 }
@@ -166,7 +182,7 @@ fn write_rest<P: Page>(op: &OpRef<'_>, note: Option<Note>, page: &mut P) -> Resu
 /// Writes the line of an item at this offset, with its note. This is the outline of the state before it; `opened` has the offsets of the
 /// open marks, the topmost last.
 #[inline(always)]
-pub fn write_item<P: Page>(
+pub fn write_item<A: ArgWriter, P: Page>(
     op: &OpRef<'_>,
     offset: &Offset,
     row: Row,
@@ -177,26 +193,26 @@ pub fn write_item<P: Page>(
     requires row { row ≡ row_of op.now }
     requires marks { length lean.now.marked < 2 ^ 32 }
     ensures { Writes (P.told page.old) (P.told page.new) result
-        (item_line op.now offset.now (length lean.now.marked) (note_with op.now lean.now (last_element opened.now.items))) }
+        (item_line_in A.texts op.now offset.now (length lean.now.marked) (note_with op.now lean.now (last_element opened.now.items))) }
 {
     write_head(op.opcode(), offset, lean.marks_len(), page)?;
     // No earlier: it is used at once, and takes no register while the head is written.
     let note = note_of(op, row, lean, opened);
-    write_rest(op, note, page)
+    write_rest::<A, P>(op, note, page)
 }
 
 /// Writes the line of an item that is refused, at this offset, before which `marks` marks are open. It has no note.
-pub fn write_bare_item<P: Page>(
+pub fn write_bare_item<A: ArgWriter, P: Page>(
     op: &OpRef<'_>,
     offset: &Offset,
     marks: usize,
     page: &mut P,
 ) -> Result<(), Failed>
     requires { marks < 2 ^ 32 }
-    ensures { Writes (P.told page.old) (P.told page.new) result (item_line op.now offset.now marks None) }
+    ensures { Writes (P.told page.old) (P.told page.new) result (item_line_in A.texts op.now offset.now marks None) }
 {
     write_head(op.opcode(), offset, marks, page)?;
-    write_rest(op, None, page)
+    write_rest::<A, P>(op, None, page)
 }
 
 macro_rules! filled_name {

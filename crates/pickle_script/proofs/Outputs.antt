@@ -7,6 +7,7 @@ use Rattle.pickle_doc.specs.Document.{Contents, AreBytes, size_limit}
 use Rattle.pickle_doc.proofs.Existence.{some_document}
 use Rattle.pickle_text.specs.Output.{Output, Begins}
 use Rattle.pickle_list.specs.Listing.{listing}
+use Rattle.whole_listing.specs.WholeArgs.{whole_listing}
 use Rattle.pickle_further.specs.declared.way.Pickles.{Pickles}
 use Rattle.pickle_further.specs.declared.way.Pickles.TheVariants as pickles
 use Rattle.pickle_further.specs.CallsText.{document_calls, kept_calls}
@@ -46,6 +47,7 @@ no_calls how pickles.OneMemo bytes a small =
 
 nothing_left : (t : Text) (many loose : Bool) (bytes : List ℕ) (a : Told) → AreBytes bytes → StopsText t many loose bytes a a stop.TooLarge
 nothing_left text.Listing many loose bytes a small = nothing_written listing many loose bytes a small
+nothing_left text.Whole many loose bytes a small = nothing_written whole_listing many loose bytes a small
 nothing_left text.Objects many loose bytes a small = refl
 nothing_left text.Form many loose bytes a small = refl
 nothing_left (text.Reach granted) many loose bytes a small = refl

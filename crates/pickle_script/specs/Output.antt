@@ -7,6 +7,7 @@ use Rattle.pickle_doc.specs.Document.{Contents, size_limit}
 use Rattle.pickle_text.specs.Output.{Output, Completes, Breaks, Begins}
 use Rattle.pickle_list.specs.Listing.{listing}
 use Rattle.pickle_list.specs.Written.{IsListed}
+use Rattle.whole_listing.specs.WholeArgs.{whole_listing, IsListedWhole}
 use Rattle.object_texts.specs.Report.{IsReported, BreaksReport}
 use Rattle.pickle_io.specs.declared.hole.Hole.{Hole}
 use Rattle.pickle_io.specs.Holes.{first_outside, without}
@@ -30,6 +31,7 @@ use Rattle.pickle_script.specs.declared.texts.written.Text.TheVariants as text
 -- the text of the document that the bytes read as was written, and this is its status
 abbrev pub CompletesText : Text → Bool → Bool → List ℕ → Told → Told → ℕ → Type 0
 CompletesText text.Listing many loose bytes old new status = IsListed many loose bytes old new status
+CompletesText text.Whole many loose bytes old new status = IsListedWhole many loose bytes old new status
 CompletesText text.Objects many loose bytes old new status = IsReported many loose bytes old new status
 CompletesText text.Form many loose bytes old new status = Completes form_output false false bytes old new status
 CompletesText (text.Reach granted) many loose bytes old new status = WroteText (IsReachText granted bytes) old new status
@@ -71,6 +73,7 @@ StopsCalls how pickles bytes old new stop.Memory = CutsCalls how pickles bytes o
 
 abbrev pub StopsText : Text → Bool → Bool → List ℕ → Told → Told → Stop → Type 0
 StopsText text.Listing many loose bytes old new e = Stops listing many loose bytes old new e
+StopsText text.Whole many loose bytes old new e = Stops whole_listing many loose bytes old new e
 StopsText text.Objects many loose bytes old new e = StopsReport many loose bytes old new e
 StopsText text.Form many loose bytes old new e = StopsForm bytes old new e
 StopsText (text.Reach granted) many loose bytes old new e = StopsReach granted bytes old new e

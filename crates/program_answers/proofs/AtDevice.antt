@@ -9,6 +9,7 @@ use Rattle.pickle_io.proofs.Holding.{Broke-below, nothing-held}
 use Rattle.pickle_doc.specs.Document.{AreBytes, size_limit}
 use Rattle.pickle_text.specs.Output.{Output}
 use Rattle.pickle_list.specs.Listing.{listing}
+use Rattle.whole_listing.specs.WholeArgs.{whole_listing}
 use Rattle.pickle_calls.specs.Manner.{Manner, manner}
 use Rattle.pickle_further.specs.declared.way.Pickles.{Pickles}
 use Rattle.pickle_script.specs.declared.stop.Stop.{Stop}
@@ -59,26 +60,31 @@ wrote_nothing old new e = rw e ([], WroteAllBut-none old [])
 said_text : {S : Type 0} (told : S → Told) (t : Text) (many loose : Bool) (bytes : List ℕ) (old new : S) (answer : Result ℕ Stop) → length bytes ≤ size_limit
     → AnswersText t many loose bytes told old new answer → TookText (IsTextOf t many loose bytes) (told old) (told new) answer
 said_text told text.Listing many loose bytes old new (Ok status) few p = let w = p.whole in inl (listing w.0, (w.0, w.1, refl), w.2)
+said_text told text.Whole many loose bytes old new (Ok status) few p = let w = p.whole in inl (whole_listing w.0, (w.0, w.1, refl), w.2)
 said_text told text.Form many loose bytes old new (Ok status) few p = let w = p.whole in inl (form_output w.0, (w.0, w.1, refl), w.2)
 said_text told (text.Reach granted) many loose bytes old new (Ok status) few p = let w = p.whole in inl (w.0, w.1, (w.2, w.3))
 said_text told text.Objects many loose bytes old new (Ok status) few p = let w = p.whole in inl (record { text = w.2.0; status = status }, (w.0, w.1, w.2.1), (w.2.2, refl))
 said_text told (text.Calls pickles detail) many loose bytes old new (Ok status) few p = let w = p.whole in inl (w.0, w.1, (w.2, w.3))
 said_text told text.Listing many loose bytes old new (Err stop.Write) few p = let w = p.stopped in inl (listing w.0, (w.0, w.1, refl), w.2)
+said_text told text.Whole many loose bytes old new (Err stop.Write) few p = let w = p.stopped in inl (whole_listing w.0, (w.0, w.1, refl), w.2)
 said_text told text.Form many loose bytes old new (Err stop.Write) few p = let w = p.stopped in inl (form_output w.0, (w.0, w.1, refl), w.2)
 said_text told (text.Reach granted) many loose bytes old new (Err stop.Write) few p = inl p.stopped
 said_text told text.Objects many loose bytes old new (Err stop.Write) few p = let w = p.stopped in inl (record { text = w.2.0; status = w.2.1 }, (w.0, w.1, w.2.2), w.2.3)
 said_text told (text.Calls pickles detail) many loose bytes old new (Err stop.Write) few p = inl p.stopped
 said_text told text.Listing many loose bytes old new (Err stop.Memory) few p = let w = p.stopped in inl (listing w.0, (w.0, w.1, refl), w.2)
+said_text told text.Whole many loose bytes old new (Err stop.Memory) few p = let w = p.stopped in inl (whole_listing w.0, (w.0, w.1, refl), w.2)
 said_text told text.Form many loose bytes old new (Err stop.Memory) few p = inr (refl, wrote_nothing (told old) (told new) p.stopped)
 said_text told (text.Reach granted) many loose bytes old new (Err stop.Memory) few p = inr (refl, wrote_nothing (told old) (told new) p.stopped)
 said_text told text.Objects many loose bytes old new (Err stop.Memory) few p = inr (refl, wrote_nothing (told old) (told new) p.stopped)
 said_text told (text.Calls pickles detail) many loose bytes old new (Err stop.Memory) few p = inl p.stopped
 said_text told text.Listing many loose bytes old new (Err stop.Read) few p = absurd p.stopped
+said_text told text.Whole many loose bytes old new (Err stop.Read) few p = absurd p.stopped
 said_text told text.Form many loose bytes old new (Err stop.Read) few p = absurd p.stopped
 said_text told (text.Reach granted) many loose bytes old new (Err stop.Read) few p = absurd p.stopped
 said_text told text.Objects many loose bytes old new (Err stop.Read) few p = absurd p.stopped
 said_text told (text.Calls pickles detail) many loose bytes old new (Err stop.Read) few p = absurd p.stopped
 said_text told text.Listing many loose bytes old new (Err stop.TooLarge) few p = too_large bytes few (p.too_large.0 refl)
+said_text told text.Whole many loose bytes old new (Err stop.TooLarge) few p = too_large bytes few (p.too_large.0 refl)
 said_text told text.Form many loose bytes old new (Err stop.TooLarge) few p = too_large bytes few (p.too_large.0 refl)
 said_text told (text.Reach granted) many loose bytes old new (Err stop.TooLarge) few p = too_large bytes few (p.too_large.0 refl)
 said_text told text.Objects many loose bytes old new (Err stop.TooLarge) few p = too_large bytes few (p.too_large.0 refl)
@@ -295,6 +301,7 @@ answers_calls_lines told options source source' whole bytes old mid new d e firs
 unwritten : {S : Type 0} (told : S → Told) (t : Text) (many loose : Bool) (bytes : List ℕ) (old mid : S) (answer : Result ℕ Stop)
     → AnswersText t many loose bytes told old mid answer → comes_last t ≡ true → answer ≡ Err stop.Memory → told mid ≡ told old
 unwritten told text.Listing many loose bytes old mid answer p last memory = absurd cc
+unwritten told text.Whole many loose bytes old mid answer p last memory = absurd cc
 unwritten told text.Objects many loose bytes old mid answer p last memory =
     subst (λ (r : Result ℕ Stop). IfErr r (StopsText text.Objects many loose bytes (told old) (told mid))) memory p.stopped
 unwritten told text.Form many loose bytes old mid answer p last memory =

@@ -23,7 +23,7 @@ use Rattle.clap.specs.declared.parser.matches.ValueSource.{ValueSource}
 use Rattle.clap.specs.declared.parser.matches.ValueSource.TheVariants.{CommandLine, DefaultValue}
 use Rattle.clap.proofs.ValueTestLemmas.{accepts-Accepts}
 use Rattle.clap.proofs.WalkLemmas.{both}
-use Rattle.program_answers.specs.CommandLine.{FitsOptions, IsCommand, IsCount, IsWindow, NamesTask, file_rule, files_rule, first_rule, full_rule, json_rule, list_rule, many_rule, memo_rule, extensions_rule, persistent_rule, buffers_rule, most_records, program, save_rule, skip_rule, unframed_rule, window_rule}
+use Rattle.program_answers.specs.CommandLine.{FitsOptions, IsCommand, IsCount, IsWindow, NamesTask, file_rule, files_rule, first_rule, full_rule, json_rule, list_rule, whole_rule, many_rule, memo_rule, extensions_rule, persistent_rule, buffers_rule, most_records, program, save_rule, skip_rule, unframed_rule, window_rule}
 use Rattle.program_answers.proofs.Walked.{Each, Keeps, KeepsDefault, enters, enters_rows, found_each, level_is_valid, level_keeps, no_help, required}
 
 -- ---- a row
@@ -331,6 +331,9 @@ unframed_suits = record { no_count = refl; gives = refl; window = λ e. absurd c
 json_suits : Suits (filled json_rule)
 json_suits = record { no_count = refl; gives = refl; window = λ e. absurd cc }
 
+whole_suits : Suits (filled whole_rule)
+whole_suits = record { no_count = refl; gives = refl; window = λ e. absurd cc }
+
 first_suits : Suits (filled first_rule)
 first_suits = record { no_count = refl; gives = refl; window = λ e. absurd cc }
 
@@ -383,7 +386,7 @@ ours : (name : Text) → Each (λ sub. answers_to name (label_of sub) ≡ true �
 ours name = (
   (λ t called. record {
     command = inl refl;
-    suits = (file_suits, (many_suits, (unframed_suits, (json_suits, (help_suits, tt)))));
+    suits = (file_suits, (many_suits, (unframed_suits, (json_suits, (whole_suits, (help_suits, tt))))));
     file = λ rows e. (both _ _ e).0;
     list = no_gate (codes "list") refl;
   }),

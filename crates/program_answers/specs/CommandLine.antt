@@ -20,6 +20,7 @@ use Rattle.program_answers.specs.declared.task.Task.TheVariants as task
 use Rattle.program_answers.specs.declared.task.GivenFile.{GivenFile}
 use Rattle.program_answers.specs.declared.task.Format.{Format}
 use Rattle.program_answers.specs.declared.task.Format.TheVariants as format
+use Rattle.program_answers.specs.declared.task.ListOptions.{ListOptions}
 use Rattle.program_answers.specs.declared.task.CallsOptions.{CallsOptions}
 use Rattle.program_answers.specs.declared.task.GateOptions.{GateOptions}
 use Rattle.program_answers.specs.declared.task.Options.{Options}
@@ -63,6 +64,9 @@ unframed_rule = record (new_rule (codes "unframed")) { long = Some (codes "unfra
 abbrev pub json_rule : Rule
 json_rule = record (new_rule (codes "json")) { long = Some (codes "json"); action = Some SetTrue }
 
+abbrev pub whole_rule : Rule
+whole_rule = record (new_rule (codes "whole")) { long = Some (codes "whole"); action = Some SetTrue }
+
 abbrev pub first_rule : Rule
 first_rule = record (new_rule (codes "first")) { long = Some (codes "first"); action = Some SetTrue }
 
@@ -86,6 +90,9 @@ frames_app name = with_rule (on_file name) unframed_rule
 -- and whose answer may be JSON
 abbrev pub json_app : Text → App
 json_app name = with_rule (frames_app name) json_rule
+
+abbrev pub list_app : App
+list_app = with_rule (json_app (codes "list")) whole_rule
 
 abbrev pub detailed_app : App
 detailed_app = with_rule (with_rule (with_rule (with_rule (on_file (codes "calls")) first_rule) memo_rule) full_rule) skip_rule
@@ -132,7 +139,7 @@ wants_subcommand a = record a { top = record a.top { subcommand_required = true 
 abbrev pub program : App
 program =
     with_subcommand (with_subcommand (with_subcommand (with_subcommand (with_subcommand (with_subcommand (with_subcommand (with_subcommand (with_subcommand (wants_subcommand
-    (new_app (codes "picklestep"))) (json_app (codes "list")).top) (json_app (codes "objects")).top) calls_app.top) debug_app.top)
+    (new_app (codes "picklestep"))) list_app.top) (json_app (codes "objects")).top) calls_app.top) debug_app.top)
     form_app.top) gate_app.top) reach_app.top) members_app.top) assemble_app.top
 
 -- ---- the task that matches name
@@ -222,6 +229,11 @@ pub record HasGateOptions (rows : List Row) (options : GateOptions) : Type 0 whe
 abbrev pub HasFlag : List Row → Text → Bool → Type 0
 HasFlag rows name given = (IsTrue given → first_of name rows ≡ Some (codes "true")) × (first_of name rows ≡ Some (codes "true") → IsTrue given)
 
+-- a listing is whole, and what it is written as
+pub record HasListOptions (rows : List Row) (options : ListOptions) : Type 0 where
+  pub whole_is : HasFlag rows (codes "whole") options.whole
+  pub format_is : HasFormat rows options.format
+
 -- what a loader was given besides the bytes
 pub record HasGranted (rows : List Row) (granted : Granted) : Type 0 where
   pub extensions_is : HasFlag rows (codes "extensions") granted.extensions
@@ -234,7 +246,7 @@ pub record HasOptions (rows : List Row) (options : Options) : Type 0 where
   pub format_is : HasFormat rows options.format
 
 abbrev pub IsNamed : Matches → Task → Type 0
-IsNamed matches (task.List input f) = (u : IsUsed (codes "list") matches input) × HasFormat u.rows f
+IsNamed matches (task.List input options) = (u : IsUsed (codes "list") matches input) × HasListOptions u.rows options
 IsNamed matches (task.Objects input f) = (u : IsUsed (codes "objects") matches input) × HasFormat u.rows f
 IsNamed matches (task.Calls input options) = (u : IsUsed (codes "calls") matches input) × HasCallsOptions u.rows options
 IsNamed matches (task.Form input f) = (u : IsUsed (codes "form") matches input) × HasFormat u.rows f
@@ -281,7 +293,7 @@ pub record NamesTask (matches : Matches) : Type 0 where
 
 -- a number of step records is within the bounds
 abbrev pub IsBounded : Task → Type 0
-IsBounded (task.List input f) = ⊤
+IsBounded (task.List input options) = ⊤
 IsBounded (task.Objects input f) = ⊤
 IsBounded (task.Calls input options) = ⊤
 IsBounded (task.Form input f) = ⊤

@@ -9,6 +9,7 @@ use Rattle.pickle_io.specs.declared.whole.ReadStop.{ReadStop}
 use Rattle.pickle_doc.specs.Document.{Contents, ReadsIn, ReadsAs, size_limit}
 use Rattle.pickle_text.specs.Output.{Output}
 use Rattle.pickle_list.specs.Listing.{listing}
+use Rattle.whole_listing.specs.WholeArgs.{whole_listing}
 use Rattle.object_texts.specs.Report.{IsReport}
 use Rattle.pickle_json.specs.Listing as json
 use Rattle.objects_json.specs.Objects.{IsObjects}
@@ -82,6 +83,7 @@ NoneWithoutMemory old new result = result ≡ Err stop.Memory → Wrote old new 
 -- pickle that they are is in the form that picklers write, or whether a loader of them reaches something
 abbrev pub IsTextOf : Text → Bool → Bool → List ℕ → Output → Type 0
 IsTextOf text.Listing many loose bytes o = (d : Contents) × ReadsIn many loose bytes d × (o ≡ listing d)
+IsTextOf text.Whole many loose bytes o = (d : Contents) × ReadsIn many loose bytes d × (o ≡ whole_listing d)
 IsTextOf text.Form many loose bytes o = (d : Contents) × ReadsAs false bytes d × (o ≡ form_output d)
 IsTextOf text.Objects many loose bytes o = (d : Contents) × ReadsIn many loose bytes d × IsReport d o.text o.status
 IsTextOf (text.Reach granted) many loose bytes o = IsReachText granted bytes o
@@ -121,7 +123,7 @@ AnswersInput Is source source' old new result = WasNotRead source source' old ne
 
 -- the file that a task is done on
 abbrev pub input_of : Task → GivenFile
-input_of (task.List input f) = input
+input_of (task.List input options) = input
 input_of (task.Objects input f) = input
 input_of (task.Calls input options) = input
 input_of (task.Form input f) = input
@@ -130,6 +132,11 @@ input_of (task.Reach input granted f) = input
 input_of (task.Members input) = input
 input_of (task.Assemble input) = input
 input_of (task.Debug input options) = input
+
+-- the text of a listing, which may be a whole one
+abbrev pub listing_text : Bool → Text
+listing_text true = text.Whole
+listing_text false = text.Listing
 
 -- what is imported and called by what is left of a file, as a text or as lines of JSON
 abbrev pub is_calls_text : CallsOptions → List ℕ → Output → Type 0
@@ -156,8 +163,8 @@ asks_for_text _ = true
 -- the device took so of the text that is asked for, in the mode that is asked for, of all bytes of the source; a report, the form and what is reached
 -- come last
 abbrev pub AnswersTask : Task → Gives → Gives → Told → Told → Result ℕ Stop → Type 0
-AnswersTask (task.List input f) source source' old new result =
-    AnswersInput (is_said f text.Listing lines.Listing input.many input.unframed) source source' old new result
+AnswersTask (task.List input options) source source' old new result =
+    AnswersInput (is_said options.format (listing_text options.whole) lines.Listing input.many input.unframed) source source' old new result
 AnswersTask (task.Objects input f) source source' old new result =
     AnswersInput (is_said f text.Objects lines.Objects input.many input.unframed) source source' old new result × NoneWithoutMemory old new result
 AnswersTask (task.Calls input options) source source' old new result = AnswersInput (is_calls options) source source' old new result

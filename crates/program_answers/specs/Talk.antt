@@ -147,8 +147,8 @@ pub record WritesText (t : Task) {F O : Type 0} (r : Reports F O) (files files' 
   pub unsaved : files' ≡ files
 
 abbrev pub CarriesOut : Task → {F O : Type 0} → Reports F O → F → F → Gives → Gives → Told → Told → Result ℕ Stop → Type 0
-CarriesOut (task.List input f) r files files' source source' old new result =
-    WritesText (task.List input f) r files files' source source' old new result
+CarriesOut (task.List input options) r files files' source source' old new result =
+    WritesText (task.List input options) r files files' source source' old new result
 CarriesOut (task.Objects input f) r files files' source source' old new result =
     WritesText (task.Objects input f) r files files' source source' old new result
 CarriesOut (task.Calls input pickles) r files files' source source' old new result =

@@ -2,7 +2,7 @@
 //! speak of the device.
 
 ghost use Rattle.std.specs.Prelude.{◌≡◌, ◌≢◌, true, Err};
-ghost use Rattle.program_answers.specs.Device.{NoneWithoutMemory, comes_last, lines_come_last, IsTextOf, IsLinesOf, is_said, AnswersInput, AnswersTask, AnswersFile, is_calls_text, is_calls_lines, is_calls, asks_for_text, device_of, input_of as asked_input};
+ghost use Rattle.program_answers.specs.Device.{NoneWithoutMemory, comes_last, lines_come_last, IsTextOf, IsLinesOf, is_said, AnswersInput, AnswersTask, AnswersFile, is_calls_text, is_calls_lines, is_calls, asks_for_text, listing_text, device_of, input_of as asked_input};
 ghost use Rattle.program_answers.specs.Files.{gives, reports};
 
 use crate::files::{Files, open_file};
@@ -154,6 +154,13 @@ fn input_of(task: &Task) -> &GivenFile
     }
 }
 
+/// The text of a listing, which may be a whole one.
+fn listing_text(whole: bool) -> Text
+    ensures { result ≡ listing_text whole }
+{
+    if whole { Text::Whole } else { Text::Listing }
+}
+
 /// Reads the input of a task that asks for a text of one file from a source whole, writes the text that the task asks for, hands all of it on,
 /// and answers the status.
 ///
@@ -173,10 +180,19 @@ fn answer_task<R: Source, K: Sink + Drop>(
     ensures handed { result ≢ Err Stop.Write → (⟦<Buffered<K> as Sink>⟧.told page.new).held ≡ 0 }
 {
     match task {
-        Task::List(input, format) => {
+        Task::List(input, options) => {
             let (many, loose) = (input.many, input.unframed);
-            let (text, lines) = (Text::Listing, Lines::Listing);
-            answer_said(alloc, *format, text, lines, many, loose, source, page)
+            let (text, lines) = (listing_text(options.whole), Lines::Listing);
+            answer_said(
+                alloc,
+                options.format,
+                text,
+                lines,
+                many,
+                loose,
+                source,
+                page,
+            )
         }
         Task::Objects(input, format) => {
             let (many, loose) = (input.many, input.unframed);

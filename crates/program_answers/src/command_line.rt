@@ -2,7 +2,7 @@
 
 ghost use Rattle.std.specs.Prelude.{◌≡◌, IfOk, false, codes};
 ghost use Rattle.clap.specs.Words.{rule_of, app_of, new_app};
-ghost use Rattle.program_answers.specs.CommandLine.{file_rule, files_rule, many_rule, unframed_rule, first_rule, memo_rule, full_rule, skip_rule, window_rule, save_rule, json_rule, list_rule, extensions_rule, persistent_rule, buffers_rule, on_file, frames_app, json_app, detailed_app, calls_app, debug_app, form_app, listed_app, gate_app, granted_app, reach_app, members_app, assemble_app, wants_subcommand, program};
+ghost use Rattle.program_answers.specs.CommandLine.{file_rule, files_rule, many_rule, unframed_rule, first_rule, memo_rule, full_rule, skip_rule, window_rule, save_rule, json_rule, whole_rule, list_rule, extensions_rule, persistent_rule, buffers_rule, on_file, frames_app, json_app, list_app, detailed_app, calls_app, debug_app, form_app, listed_app, gate_app, granted_app, reach_app, members_app, assemble_app, wants_subcommand, program};
 
 use clap::{Arg, ArgAction, Command};
 use std::alloc::{AllocError, Global};
@@ -82,6 +82,19 @@ fn json_argument<'a>(alloc: Global) -> Arg<'a>
     Arg::new(alloc, "json")
         .long("json")
         .help("print JSON Lines, for programs: an object in each line")
+        .action(ArgAction::SetTrue)
+}
+
+/// Whether arguments are shown whole.
+fn whole_argument<'a>(alloc: Global) -> Arg<'a>
+    ensures rule { rule_of result ≡ whole_rule }
+    ensures local { result.global ≡ false }
+{
+    Arg::new(alloc, "whole")
+        .long("whole")
+        .help(
+            "print arguments so that `assemble` makes the same bytes again; with --json this changes nothing",
+        )
         .action(ArgAction::SetTrue)
 }
 
@@ -220,6 +233,18 @@ fn with_json<'a>(alloc: Global, name: &'a str, about: &'a str) -> Result<Command
     with_frames(alloc, name, about)?.arg(json_argument(alloc))
 }
 
+/// The command that lists opcodes.
+fn list_command<'a>(alloc: Global) -> Result<Command<'a>, AllocError>
+    ensures { IfOk result (λ c. app_of c ≡ list_app) }
+{
+    with_json(
+        alloc,
+        "list",
+        "Lists the opcodes of FILE with their offsets and arguments",
+    )?
+    .arg(whole_argument(alloc))
+}
+
 /// The command that prints what a file would import and call, but for what the answer is written as.
 fn detailed_command<'a>(alloc: Global) -> Result<Command<'a>, AllocError>
     ensures { IfOk result (λ c. app_of c ≡ detailed_app) }
@@ -345,11 +370,7 @@ pub fn command_line<'a>(alloc: Global) -> Result<Command<'a>, AllocError>
 {
     // Each command is given over as soon as it is made: one that waits for the others is one more to be dropped where memory runs out.
     without_commands(alloc)
-        .subcommand(with_json(
-            alloc,
-            "list",
-            "Lists the opcodes of FILE with their offsets and arguments",
-        )?)?
+        .subcommand(list_command(alloc)?)?
         .subcommand(with_json(
             alloc,
             "objects",

@@ -4,7 +4,7 @@ ghost use Rattle.std.specs.Prelude.{◌≡◌, ◌≤◌, IsTrue, ℕ, [], Optio
 ghost use Rattle.std.specs.String.{string_bytes};
 ghost use Rattle.clap.specs.Words.{found_of, first_of, one_of, rows_of, fault_of, subcommand_of, subcommand_rows_of, takes};
 ghost use Rattle.pickle_script.specs.GivenHoles.{holes_of};
-ghost use Rattle.program_answers.specs.CommandLine.{program, most_records, GivesReading, HasReading, HasInput, HasDetail, HasCallsOptions, HasFormat, skips_of, HasOptions, HasList, more_of, HasGateOptions, HasGranted, IsWindow, IsNamed, FitsOptions, NamesTask, IsBounded, IsMemory};
+ghost use Rattle.program_answers.specs.CommandLine.{program, most_records, GivesReading, HasReading, HasInput, HasDetail, HasCallsOptions, HasFormat, skips_of, HasOptions, HasList, HasListOptions, more_of, HasGateOptions, HasGranted, IsWindow, IsNamed, FitsOptions, NamesTask, IsBounded, IsMemory};
 
 use crate::command_line::{MOST_RECORDS, command_line};
 use clap::error::ErrorKind;
@@ -35,7 +35,7 @@ pub struct GivenFile {
 #[derive(Drop, Debug)]
 pub enum Task {
     /// List the opcodes, for people or for programs.
-    List(GivenFile, Format),
+    List(GivenFile, ListOptions),
     /// Print one line per object, in creation order, for people or for programs.
     Objects(GivenFile, Format),
     /// Print what pickles would import and call. Whether the file is read as several pickles changes nothing.
@@ -63,6 +63,15 @@ pub enum Format {
     Text,
     /// JSON Lines for programs: an object in each line.
     Json,
+}
+
+/// The options of a listing.
+#[derive(Clone, Copy, Debug, PartialEq, Eq)]
+pub struct ListOptions {
+    /// Whether the text of each argument stands for its bytes alone. Of lines for programs this says nothing.
+    pub whole: bool,
+    /// Whether it is a text for people or lines for programs.
+    pub format: Format,
 }
 
 /// The options of what pickles would import and call.
@@ -299,6 +308,17 @@ fn format_of(found: &ArgMatches<'_>) -> Format
     }
 }
 
+/// The options of a listing.
+fn list_options_of(found: &ArgMatches<'_>) -> ListOptions
+    ensures { HasListOptions (rows_of (found_of found.now)) result }
+{
+    let whole = is_given(found, "whole");
+    ListOptions {
+        whole,
+        format: format_of(found),
+    }
+}
+
 /// What a loader was given besides the bytes.
 fn granted_of(found: &ArgMatches<'_>) -> Granted
     ensures { HasGranted (rows_of (found_of found.now)) result }
@@ -390,7 +410,7 @@ fn named(alloc: Global, matches: &ArgMatches<'_>) -> Result<Option<Task>, AllocE
         return Ok(None);
     };
     if name == "list" {
-        Ok(Some(Task::List(input, format_of(found))))
+        Ok(Some(Task::List(input, list_options_of(found))))
     } else if name == "objects" {
         Ok(Some(Task::Objects(input, format_of(found))))
     } else if name == "calls" {

@@ -95,6 +95,7 @@ fn rows(alloc: Global) -> Result<Vec<Row>, AllocError> {
     }
     for bytes in &SEVERAL {
         rows.push((Text::Listing, true, *bytes))?;
+        rows.push((Text::Whole, true, *bytes))?;
         rows.push((Text::Objects, true, *bytes))?;
     }
     for (pickles, detail, bytes) in &CALLS {

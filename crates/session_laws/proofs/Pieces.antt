@@ -29,7 +29,7 @@ use Rattle.pickle_text.specs.Column.{newline, blanks, left_aligned}
 use Rattle.pickle_list.specs.ListingColumn.{code_text}
 use Rattle.pickle_io.specs.declared.hole.Hole.{Hole}
 use Rattle.pickle_script.specs.Output.{hole_text, outside_words, outside_line}
-use Rattle.pickle_list.specs.Line.{offset_column, code_column, mark_text, as_text, note_text, described, named, item_line, refused_line, left_text, protocol_words, protocol_text}
+use Rattle.pickle_list.specs.Line.{offset_column, code_column, mark_text, as_text, note_text, described, named, named_in, item_line, item_line_in, refused_line, left_text, protocol_words, protocol_text}
 use Rattle.pickle_text.specs.Closing.{kept_words, kept_text, refused_item_line}
 use Rattle.pickle_text.specs.Words.{id_text, kind_text}
 use Rattle.object_texts.specs.ObjectText.{next_text, some_parts, parts_text, set_text, change_text, object_text, object_line}
@@ -265,11 +265,11 @@ unfolding offset_column
 offset_within offset = lacks_right 10 5 (decimal offset) refl (number offset)
 
 named_within : (o : Operation) (n : Option Note) → Within (named o n)
-unfolding named
+unfolding named_in
 named_within o n = described_within (name_of o.opcode) (arg_text o) n (name_within o.opcode) (arg_within o)
 
 item : (o : Operation) (offset marks : ℕ) (n : Option Note) → IsOneLine (item_line o offset marks n)
-unfolding item_line
+unfolding item_line_in
 item o offset marks n =
     is_line (offset_column offset ⧺ code_column o.opcode ⧺ blanks (4 * marks) ⧺ named o n)
     (join (offset_column offset ⧺ code_column o.opcode ⧺ blanks (4 * marks)) (named o n)

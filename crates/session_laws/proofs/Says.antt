@@ -15,7 +15,7 @@ use Rattle.pickle_ops.proofs.TableLemmas.{one_code}
 use Rattle.pickle_list.specs.declared.note.Note.{Note}
 use Rattle.pickle_text.specs.Column.{blanks, left_aligned, right_aligned, newline}
 use Rattle.pickle_list.specs.ListingColumn.{code_text}
-use Rattle.pickle_list.specs.Line.{offset_column, code_column, described, named, note_text, item_line}
+use Rattle.pickle_list.specs.Line.{offset_column, code_column, described, named, named_in, note_text, item_line, item_line_in}
 use Rattle.pickle_text.specs.Words.{id_text, kind_text}
 use Rattle.object_texts.specs.ObjectText.{parts_text, change_text, object_text, object_line}
 use Rattle.session_laws.specs.Lines.{ItemLineSays, ObjectLineSays}
@@ -104,7 +104,7 @@ pub rest_of : Operation → ℕ → Option Note → List ℕ
 rest_of o marks n = 32 ∷ (blanks (4 * marks) ++ (named o n ++ newline))
 
 pub parts : (o : Operation) (offset marks : ℕ) (n : Option Note) → item_line o offset marks n ≡ offset_column offset ++ 58 ∷ (32 ∷ (cells o.opcode ++ rest_of o marks n))
-unfolding item_line code_column ◌⧺◌ cells rest_of
+unfolding item_line_in code_column ◌⧺◌ cells rest_of
 parts o offset marks n =
     let c : List ℕ = left_aligned 4 (code_text (code_of o.opcode)) in
     let b : List ℕ = blanks (4 * marks) in
@@ -162,7 +162,7 @@ drop_front [] b = refl
 drop_front (x ∷ a) b = drop_front a b
 
 described_read : (o : Operation) (offset marks : ℕ) (n : Option Note) → described_in o.opcode (item_line o offset marks n) ≡ described (name_of o.opcode) (arg_text o) n ++ newline
-unfolding described_in rest_of named stripped
+unfolding described_in rest_of named_in stripped
 described_read o offset marks n =
     let text : List ℕ = described (name_of o.opcode) (arg_text o) n in
     ap (λ (t : List ℕ). stripped (drop (length (cells o.opcode)) (drop 1 (behind 58 t)))) (parts o offset marks n)

@@ -36,7 +36,7 @@ use Rattle.pickle_calls.specs.declared.naming.Detail.{Detail}
 use Rattle.pickle_calls.specs.Manner.{Manner}
 use Rattle.pickle_calls.specs.Telling.{for_people}
 use Rattle.pickle_calls.specs.Calls.{entry_at, entry_on, naming_at, naming_on, counted_text, entry_in}
-use Rattle.pickle_list.specs.Listing.{line_at, line_on, topmost_offset}
+use Rattle.pickle_list.specs.Listing.{line_at, line_at_in, line_on, topmost_offset}
 use Rattle.object_texts.specs.ObjectText.{objects_text}
 use Rattle.session_laws.specs.Edits.{ShowSame}
 use Rattle.session_laws.proofs.Numbers.{OneNumber, of_edit}
@@ -143,7 +143,7 @@ same_line k i d e (Some o) (Some s) h a b =
     rw (a i (omega (arith, h)), top_offset k i d e (fresh s).marked (omega (arith, h)) a (fresh_before i s (b s refl))) refl
 
 listed : (k i : ℕ) (d e : Contents) → i < k → e.many ≡ d.many → AgreeOps k d e → SameOffsets k d e → item_at e i ≡ item_at d i → line_at e i ≡ line_at d i
-unfolding line_at
+unfolding line_at_in
 listed k i d e h m a offsets same =
     ap₂ (line_on e i) same (same_state d e k i (omega (arith, h)) m a)
     ∙ same_line k i d e (item_at d i) (state_at d i) h offsets (λ t r. marks_before d.many (ops_of d) i t r)

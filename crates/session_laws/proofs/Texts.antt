@@ -20,7 +20,7 @@ use Rattle.pickle_session.proofs.Trails.{run_after, before_it, there_is}
 use Rattle.pickle_text.specs.declared.closing.Closing.{Closing}
 use Rattle.pickle_list.specs.Line.{left_text, left_line, protocol_text, protocol_line, highest_protocol}
 use Rattle.calls_laws.specs.LineLaws.{is_within_line, cut_lines, if_any}
-use Rattle.pickle_list.specs.Listing.{line_on, line_at, left_by, lines, end_lines, refused_lines, listing_to, listing}
+use Rattle.pickle_list.specs.Listing.{line_on, line_at, line_at_in, left_by, lines, lines_in, end_lines, refused_lines, listing_to, listing, listing_in}
 use Rattle.pickle_text.specs.Reached.{reached}
 use Rattle.object_texts.specs.ObjectText.{object_line, lines_from, objects_text}
 use Rattle.object_texts.specs.Report.{report_text, result_line}
@@ -71,7 +71,7 @@ line_is : (d : Contents) (k : ℕ) (x : Option Operation) (s : Option State) (o 
 line_is d k x s o t e f = subst (λ (y : Option Operation). IsOneLine (line_on d k y s)) (sym e) (subst (λ (z : Option State). IsOneLine (line_on d k (Some o) z)) (sym f) (pieces.item o _ _ _))
 
 line_there : (d : Contents) (k : ℕ) (o : Operation) (s : State) → item_at d k ≡ Some o → run (start d.many) (ops_of d) k ≡ Some s → IsOneLine (line_at d k)
-unfolding line_at
+unfolding line_at_in
 line_there d k o s e f = line_is d k (item_at d k) (run (start d.many) (ops_of d) k) o s e f
 
 left_has : (objects marks : ℕ) → HasLine (left_line objects marks)
@@ -93,7 +93,7 @@ left_by_has (Some o) (Some s) = go (is_stop o.opcode)
 
 -- item k after those before it
 one_more : (d : Contents) (k : ℕ) → IsOneLine (line_at d k) → Cuts (lines d k) (listed_lines d k) → Cuts (lines d (suc k)) (listed_lines d (suc k))
-unfolding lines ◌⧺◌
+unfolding lines_in ◌⧺◌
 one_more d k l p rest =
     let left : List ℕ = left_by (item_at d k) (run (start d.many) (ops_of d) (suc k)) in
     ap cut_lines (append_assoc (lines d k ++ line_at d k) left rest ∙ append_assoc (lines d k) (line_at d k) (left ++ rest))
@@ -104,7 +104,7 @@ one_more d k l p rest =
     ∙ sym (append_assoc (listed_lines d k) (line_at d k ∷ if_any left) (cut_lines rest))
 
 no_lines : (d : Contents) → Cuts (lines d 0) []
-unfolding lines
+unfolding lines_in
 no_lines d rest = refl
 
 -- where the items before a place have moves each has a line
@@ -148,7 +148,7 @@ listing_by d k (Some o) (Some s) e f =
     (one_more d k (line_there d k o s e f) (cut_items d k s f)) (refused_has (refusal_at o s))
 
 listing_there : (d : Contents) → cut_lines (listing d).text ≡ listing_lines d
-unfolding listing
+unfolding listing_in
 listing_there d =
     let k = reached (start d.many) (ops_of d) (length (ops_of d)) in
     listing_by d k (item_at d k) (run (start d.many) (ops_of d) k) refl refl

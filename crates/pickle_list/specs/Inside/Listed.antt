@@ -11,7 +11,8 @@ use Rattle.pickle_machine.specs.Outline.{outline}
 use Rattle.pickle_machine.specs.Run.{run}
 use Rattle.pickle_list.specs.declared.list.SoFar.{SoFar}
 use Rattle.pickle_list.specs.Line.{highest_protocol}
-use Rattle.pickle_list.specs.Listing.{lines}
+use Rattle.pickle_list.specs.ArgTexts.{ArgTexts}
+use Rattle.pickle_list.specs.Listing.{lines_in}
 use Rattle.pickle_list.specs.Inside.Marks.{mark_offsets}
 
 -- the first k items have moves, and these marks are open
@@ -25,7 +26,7 @@ pub record Progress (d : Contents) (k offset : ℕ) (s : State) (ms : List Marke
 
 -- of the document that the bytes are, k items were read, and have moves; this is the outline of the state that they
 -- reach, as the next move is taken on it, and the device took their lines
-pub record Listed (many loose : Bool) (bytes : List ℕ) (old new : Told) (rest : List ℕ) (left k offset : ℕ)
+pub record Listed (args : ArgTexts) (many loose : Bool) (bytes : List ℕ) (old new : Told) (rest : List ℕ) (left k offset : ℕ)
     (outlined : State) (opened : List ℕ) (highest : Option ℕ) : Type 0 where
   pub d : Contents
   pub reads : ReadsIn many loose bytes d
@@ -33,7 +34,7 @@ pub record Listed (many loose : Bool) (bytes : List ℕ) (old new : Told) (rest 
   pub s : State
   pub outlines : outline (fresh s) ≡ outlined
   pub progress : Progress d k offset s (fresh s).marked opened highest
-  pub written : Wrote old new (lines d k)
+  pub written : Wrote old new (lines_in args d k)
   -- STOP ends the listing where nothing stands behind it
   pub goes : (length rest == 0 && ends_with_stop (take k (items_of d))) ≡ false
 
@@ -43,9 +44,9 @@ pub record Begun : Type 0 where
   pub told : Told
 
 -- so far it is listed, where the bytes are not too many
-abbrev pub HasListed : {I : Type 0} → Bool → Begun → (I → Unread) → Told → SoFar I → Type 0
-HasListed many begun unread told far =
+abbrev pub HasListed : {I : Type 0} → ArgTexts → Bool → Begun → (I → Unread) → Told → SoFar I → Type 0
+HasListed args many begun unread told far =
     ((unread far.reader).loose ≡ begun.unread.loose)
-    × Listed many begun.unread.loose begun.unread.rest begun.told told (unread far.reader).rest (unread far.reader).left
+    × Listed args many begun.unread.loose begun.unread.rest begun.told told (unread far.reader).rest (unread far.reader).left
     far.place far.offset far.lean far.opened.items far.highest
     × (length begun.unread.rest ≤ size_limit)

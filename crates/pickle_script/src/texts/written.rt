@@ -15,12 +15,15 @@ use pickle_io::{Holes, Page};
 use pickle_list::list_bytes;
 use pickle_reach::Granted;
 use std::alloc::Global;
+use whole_listing::list_whole;
 
 /// What is written of an input.
 #[derive(Clone, Copy, Debug, PartialEq, Eq)]
 pub enum Text {
     /// Its opcodes, as a listing.
     Listing,
+    /// The same, in which the text of each argument stands for its bytes alone: the assembler makes the same bytes of it.
+    Whole,
     /// The report of the objects that they make: the lines of all objects, up to the end or to one that is refused, a line for each
     /// result, and a closing line where one is refused or the bytes have a fault.
     Objects,
@@ -59,6 +62,7 @@ pub fn write_text<S: Page>(
     }
     match text {
         Text::Listing => Ok(list_bytes(alloc, many, loose, bytes, page)?),
+        Text::Whole => Ok(list_whole(alloc, many, loose, bytes, page)?),
         Text::Objects => Ok(report_of_bytes(alloc, many, loose, bytes, page)?),
         Text::Form => Ok(write_form(alloc, bytes, page)?),
         Text::Reach(granted) => Ok(write_reach(alloc, granted, bytes, page)?),

@@ -71,7 +71,7 @@ returns-in_err-write_item-in-Item-clause-err g c b h =
     let n : IsNextItem (g.I.ItemSource.unread c.items.reader).loose (g.I.ItemSource.unread c.items.reader).left (g.I.ItemSource.unread c.items.reader).rest c.in-Item.op (size_of c.in-Item.op)
     × (g.I.ItemSource.unread c.next.new.self ≡ record { loose = (g.I.ItemSource.unread c.items.reader).loose; rest = drop (size_of c.in-Item.op) (g.I.ItemSource.unread c.items.reader).rest; left = left_behind (g.I.ItemSource.unread c.items.reader).loose (g.I.ItemSource.unread c.items.reader).left c.in-Item.op }) = rw c.in-Item.is at c.next.ensures in
     let none : refusal_of (row_of c.in-Item.op) c.items.lean ≡ None = rw c.of_ref-row.ensures at (sym c.in_default.ensures.first) in
-    cut_failed _ _ _ _ c.from_residual.ensures.1 (line_breaks _ _ _ _ _ _ _ _ c.in-Item.op _ _ _ v.1 (rw v.0 at n.0) none c.in_err-write_item-in-Item.ensures)
+    cut_failed _ _ _ _ _ c.from_residual.ensures.1 (line_breaks _ _ _ _ _ _ _ _ c.in-Item.op _ _ _ v.1 (rw v.0 at n.0) none c.in_err-write_item-in-Item.ensures)
 
 pub perform-requires-clause-heap : goal.perform-requires-clause-heap
 perform-requires-clause-heap g c =
@@ -89,7 +89,7 @@ returns-in_err-perform-in-Item-clause-err g c b h =
     × (g.I.ItemSource.unread c.next.new.self ≡ record { loose = (g.I.ItemSource.unread c.items.reader).loose; rest = drop (size_of c.in-Item.op) (g.I.ItemSource.unread c.items.reader).rest; left = left_behind (g.I.ItemSource.unread c.items.reader).loose (g.I.ItemSource.unread c.items.reader).left c.in-Item.op }) = rw c.in-Item.is at c.next.ensures in
     let none : refusal_of (row_of c.in-Item.op) c.items.lean ≡ None = rw c.of_ref-row.ensures at (sym c.in_default.ensures.first) in
     let w = with_line _ _ _ _ _ _ _ _ c.in-Item.op _ _ _ v.1 (rw v.0 at n.0) none c.in_ok-write_item-in-Item.ensures in
-    cut_memory _ _ _ _ c.from_residual-in_err-perform-in-Item.ensures.1 (line_stops _ _ _ _ _ _ _ c.in-Item.op _ _ _ w)
+    cut_memory _ _ _ _ _ c.from_residual-in_err-perform-in-Item.ensures.1 (line_stops _ _ _ _ _ _ _ c.in-Item.op _ _ _ w)
 
 pub overflow_add-place : goal.overflow_add-place
 overflow_add-place g c =
@@ -121,7 +121,7 @@ returns-in_err-end_pickle-in-Item-clause-err g c b h =
     let m = moved _ _ _ _ _ _ _ c.in-Item.op _ _ _ _ _ _ w none kind next c.in_ok-perform-in-Item.ensures.marks in
     let stop : is_stop c.in-Item.op.opcode ≡ c.is_stop.result = sym (c.is_stop.ensures ∙ ap is_stop c.opcode-in-Item-3.ensures) in
     let hit = stop ∙ c.if-is_stop.true in
-    cut_failed _ _ _ _ c.from_residual-in_err-end_pickle-in-Item.ensures.1 (stop_breaks _ _ _ _ _ _ _ _ c.in-Item.op _ _ _ m hit c.in_err-end_pickle-in-Item.ensures.text)
+    cut_failed _ _ _ _ _ c.from_residual-in_err-end_pickle-in-Item.ensures.1 (stop_breaks _ _ _ _ _ _ _ _ c.in-Item.op _ _ _ m hit c.in_err-end_pickle-in-Item.ensures.text)
 
 pub returns-then-is_last-clause-ok : goal.returns-then-is_last-clause-ok
 returns-then-is_last-clause-ok g c b h =

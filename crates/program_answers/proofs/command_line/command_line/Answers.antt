@@ -1,14 +1,14 @@
 use Rattle.std.proofs.Common.{◌≡◌, ◌∙◌, ap, ap₂, codes}
 use Rattle.std.proofs.lemmas.Result.{IfOk-weaker}
 use Rattle.clap.specs.Words.{App, app_of, new_app, with_subcommand}
-use Rattle.program_answers.specs.CommandLine.{json_app, calls_app, debug_app, form_app, gate_app, reach_app, members_app, assemble_app, wants_subcommand}
+use Rattle.program_answers.specs.CommandLine.{list_app, json_app, calls_app, debug_app, form_app, gate_app, reach_app, members_app, assemble_app, wants_subcommand}
 use Rattle.program_answers.proofs.Plain.{third}
 use Rattle.program_answers.proofs.command_line.command_line.Goals as goal
 
 pub returns : goal.returns
 returns c =
-    let listing : app_of c.in_ok-with_json.field-0 ≡ json_app (codes "list") = c.in_ok-with_json.ensures in
-    let reporting : app_of c.in_ok-with_json-2.field-0 ≡ json_app (codes "objects") = c.in_ok-with_json-2.ensures in
+    let listing : app_of c.in_ok-list_command.field-0 ≡ list_app = c.in_ok-list_command.ensures in
+    let reporting : app_of c.in_ok-with_json.field-0 ≡ json_app (codes "objects") = c.in_ok-with_json.ensures in
     let calling : app_of c.in_ok-calls_command.field-0 ≡ calls_app = c.in_ok-calls_command.ensures in
     let debugging : app_of c.in_ok-debug_command.field-0 ≡ debug_app = c.in_ok-debug_command.ensures in
     let forming : app_of c.in_ok-form_command.field-0 ≡ form_app = c.in_ok-form_command.ensures in

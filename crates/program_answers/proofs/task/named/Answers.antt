@@ -66,7 +66,7 @@ returns-then-eq-clause-some c =
         used = used_is _ _ _ _ _ c.in-Some.ensures.name c.in-Some.ensures.rows ∙ ap (λ (n : Text). Some (n, rows)) name;
         input_is = search rules;
       },
-      c.format_of.ensures,
+      c.list_options_of.ensures,
     )
 
 pub returns-then-eq-2-clause-some : goal.returns-then-eq-2-clause-some
@@ -78,7 +78,7 @@ returns-then-eq-2-clause-some c =
         used = used_is _ _ _ _ _ c.in-Some.ensures.name c.in-Some.ensures.rows ∙ ap (λ (n : Text). Some (n, rows)) name;
         input_is = search rules;
       },
-      c.format_of-then-eq-2.ensures,
+      c.format_of.ensures,
     )
 
 pub returns-then-eq-5-clause-some : goal.returns-then-eq-5-clause-some
