@@ -12,4 +12,5 @@ pub mod Mixing
 pub mod Kept
 pub mod Behind
 pub mod Searches
+pub mod Quiets
 pub mod PartLines

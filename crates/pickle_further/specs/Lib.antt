@@ -7,4 +7,5 @@ pub mod Far
 pub mod Parts
 pub mod CallsText
 pub mod Inside
+pub mod Quiet
 pub mod Laws

@@ -14,6 +14,7 @@ mod leads;
 mod machine;
 mod parts;
 mod people;
+mod quiet;
 mod seek;
 mod splits;
 mod texts;

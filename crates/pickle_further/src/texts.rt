@@ -15,6 +15,7 @@ use crate::going::go;
 use crate::leads::{first_leading, or_first, warned_status};
 use crate::machine::LoaderMachine;
 use crate::parts::{find_loss, find_mixed, write_found, write_from};
+use crate::quiet::{is_quiet, takes_nothing};
 use crate::way::{Pickles, Spot, Way};
 use crate::worder::Worder;
 use pickle_calls::{Detail, Ending, Naming, Ran, run_items, write_end};
@@ -75,8 +76,8 @@ fn file_frames(pickles: Pickles) -> Frames
     }
 }
 
-/// From where frames may be mixed, if they may be.
-pub fn first_mixed(
+/// From where frames may be mixed, if they may be: a machine goes over the items.
+fn seek_mixed(
     alloc: Global,
     detail: Detail,
     pickles: Pickles,
@@ -94,6 +95,23 @@ pub fn first_mixed(
     find_mixed(alloc, detail, way, bytes, &mut machine)
 }
 
+/// From where frames may be mixed, if they may be.
+pub fn first_mixed(
+    alloc: Global,
+    detail: Detail,
+    pickles: Pickles,
+    bytes: &[u8],
+) -> Result<Option<u64>, TextStop>
+    requires { length bytes.now ≤ size_limit }
+    ensures ok { IfOk result (λ x. x ≡ first_mixed detail pickles bytes.now) }
+    ensures err { IfErr result (λ e. e ≡ TextStop.Memory) }
+{
+    if is_quiet(alloc, bytes)? {
+        return Ok(None);
+    }
+    seek_mixed(alloc, detail, pickles, bytes)
+}
+
 /// Writes it, if they may be.
 fn write_mixed<T: Worder, S: Page>(
     holes: &Holes,
@@ -108,8 +126,8 @@ fn write_mixed<T: Worder, S: Page>(
     }
 }
 
-/// Writes what loaders may do that lose bytes of frames, and from where others may mix frames.
-fn write_lossy<T: Worder, S: Page>(
+/// Writes what loaders may do that lose bytes of frames, and from where others may mix frames: machines go over the items.
+fn write_found_lossy<T: Worder, S: Page>(
     alloc: Global,
     detail: Detail,
     holes: &Holes,
@@ -125,14 +143,32 @@ fn write_lossy<T: Worder, S: Page>(
         frames: Frames::Buffered,
     };
     write_lost::<T, S>(alloc, detail, holes, way, bytes, page)?;
-    let mixed = first_mixed(alloc, detail, pickles, bytes)?;
+    let mixed = seek_mixed(alloc, detail, pickles, bytes)?;
     write_mixed::<T, S>(holes, mixed, page)?;
     Ok(())
 }
 
+/// Writes what loaders may do that lose bytes of frames, and from where others may mix frames.
+fn write_lossy<T: Worder, S: Page>(
+    alloc: Global,
+    detail: Detail,
+    holes: &Holes,
+    pickles: Pickles,
+    bytes: &[u8],
+    page: &mut S,
+) -> Result<(), TextStop>
+    requires { length bytes.now ≤ size_limit }
+    ensures { PutsText (S.told page.old) (S.told page.new) (lost_text_in (wording T.telling T.words) (manner detail holes.now) pickles bytes.now) result }
+{
+    if is_quiet(alloc, bytes)? {
+        return Ok(());
+    }
+    write_found_lossy::<T, S>(alloc, detail, holes, pickles, bytes, page)
+}
+
 /// Writes what loaders may do that ignore frames, behind the items that were run. Their machine has all that the objects hold, which the
 /// slim one does not keep, and both are gone when it returns.
-fn write_ignoring<T: Worder, S: Page>(
+fn write_going_on<T: Worder, S: Page>(
     alloc: Global,
     holes: &Holes,
     pickles: Pickles,
@@ -169,6 +205,30 @@ fn write_ignoring<T: Worder, S: Page>(
         &mut machine,
         page,
     )
+}
+
+/// Writes what loaders may do that ignore frames, behind the items that were run. Where they take nothing more, no machine is needed.
+fn write_ignoring<T: Worder, S: Page>(
+    alloc: Global,
+    holes: &Holes,
+    pickles: Pickles,
+    bytes: &[u8],
+    ran: Ran,
+    slim: Slim<'_>,
+    page: &mut S,
+) -> Result<(), TextStop>
+    requires small { length bytes.now ≤ size_limit }
+    requires offset { ran.offset ≤ length bytes.now }
+    requires place { ran.place ≤ length bytes.now }
+    requires heap { length slim.state.heap ≤ ran.place }
+    ensures { PutsText (S.told page.old) (S.told page.new)
+        (text_from_in (wording T.telling T.words) holes.now (ignoring pickles) (standing_behind bytes.now slim.entry.state ran)) result }
+{
+    let rest = bytes.split_at(ran.offset as usize).1;
+    if takes_nothing(alloc, rest)? {
+        return Ok(());
+    }
+    write_going_on::<T, S>(alloc, holes, pickles, bytes, ran, slim, page)
 }
 
 /// Writes what loaders may do behind the end of the lines.
@@ -240,6 +300,33 @@ fn first_loss(alloc: Global, detail: Detail, bytes: &[u8]) -> Result<Option<u64>
     };
     let mut machine = LoaderMachine::new(alloc, Machine::start(alloc, false));
     find_loss(alloc, detail, way, bytes, &mut machine)
+}
+
+/// Where the first item is whose reading by one unpickler loses bytes, and from where frames may be mixed.
+#[derive(Clone, Copy)]
+pub struct Doubts {
+    /// The first.
+    pub loss: Option<u64>,
+    /// The second.
+    pub mixed: Option<u64>,
+}
+
+/// Both, if they are anywhere.
+fn find_doubts(alloc: Global, detail: Detail, bytes: &[u8]) -> Result<Doubts, TextStop>
+    requires { length bytes.now ≤ size_limit }
+    ensures loss { IfOk result (λ x. x.loss ≡ first_loss detail bytes.now) }
+    ensures mixed { IfOk result (λ x. x.mixed ≡ first_mixed detail Pickles.OneMemo bytes.now) }
+    ensures err { IfErr result (λ e. e ≡ TextStop.Memory) }
+{
+    if is_quiet(alloc, bytes)? {
+        return Ok(Doubts {
+            loss: None,
+            mixed: None,
+        });
+    }
+    let loss = first_loss(alloc, detail, bytes)?;
+    let mixed = seek_mixed(alloc, detail, Pickles::OneMemo, bytes)?;
+    Ok(Doubts { loss, mixed })
 }
 
 /// Writes what one unpickler may do that loses bytes, first at this offset.
@@ -326,8 +413,7 @@ fn write_kept<T: Worder, S: Page>(
     ensures ok { IfOk result (CompletesTextIn (wording T.telling T.words) (manner detail holes.now) Pickles.OneMemo bytes.now (S.told page.old) (S.told page.new)) }
     ensures err { IfErr result (CutsCallsTextIn (wording T.telling T.words) (manner detail holes.now) Pickles.OneMemo bytes.now (S.told page.old) (S.told page.new)) }
 {
-    let loss = first_loss(alloc, detail, bytes)?;
-    let mixed = first_mixed(alloc, detail, Pickles::OneMemo, bytes)?;
+    let doubts = find_doubts(alloc, detail, bytes)?;
     let mut machine = LoaderMachine::new(alloc, Machine::start(alloc, false));
     let way = Way {
         pickles: Pickles::OneMemo,
@@ -358,8 +444,8 @@ fn write_kept<T: Worder, S: Page>(
         page,
     )?;
     T::write_leading(end.leads, page)?;
-    write_behind::<T, S>(alloc, detail, holes, bytes, loss, mixed, page)?;
-    Ok(kept_status(loss, mixed, warned_status(end.leads, status)))
+    write_behind::<T, S>(alloc, detail, holes, bytes, doubts.loss, doubts.mixed, page)?;
+    Ok(kept_status(doubts.loss, doubts.mixed, warned_status(end.leads, status)))
 }
 
 /// Writes what the pickles of the bytes would import and call, as `T` tells it: a line for each item that does, the last lines, and behind a refused item,

@@ -1,4 +1,5 @@
 -- Lemmas.
-mod Lenients
+pub mod Lenients
 pub mod Behind
 pub mod Numbers
+pub mod Passings

@@ -5,3 +5,4 @@ pub mod Key
 pub mod Lenient
 pub mod Reading
 pub mod Stream
+pub mod Passing

@@ -7,10 +7,12 @@ mod fault;
 mod key;
 mod lenient;
 mod number;
+mod pass;
 mod row;
 mod taken;
 
 pub use fault::NotTaken;
 pub use number::Number;
+pub use pass::{Passed, pass_ops};
 pub use row::{LenientRow, RowKind, is_far};
 pub use taken::{Frames, Taken, take_op};

@@ -1,4 +1,6 @@
+use Rattle.std.proofs.Common.{sym}
+use Rattle.pickle_further.proofs.Quiets.{none_mixed}
 use Rattle.pickle_further.proofs.texts.first_mixed.Goals as goal
 
-pub returns-clause-ok : goal.returns-clause-ok
-returns-clause-ok c = rw (c.new-machine.ensures, c.start.ensures, c.are_many.ensures, c.file_frames.ensures) at c.find_mixed.ensures.ok
+pub returns-then-branch-clause-ok : goal.returns-then-branch-clause-ok
+returns-then-branch-clause-ok c = sym (none_mixed c.args.detail c.args.pickles c.args.bytes.now (c.in_ok-is_quiet.ensures.ok c.if-branch.true))
