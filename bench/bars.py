@@ -15,7 +15,7 @@ HOLDS, MISSED, SHORT = 'holds', '**missed**', 'too short to say'
 # The head of the last column, which says whether the bars of a row hold.
 RESULT = 'result'
 # The bars of instructions. All others are of times, but for bytes and MB.
-COUNTED = ('`list`', 'twice the file', 'times as many', 'times as many instructions for twice as many')
+COUNTED = ('`list`', '`objects`', '`calls`', '`debug`', '`show`', 'twice the file', 'times as many', 'times as many instructions for twice as many')
 # A time of fewer seconds says nothing: times are counted in hundredths, and other work of the machine is in them.
 SHORTEST = 0.1
 

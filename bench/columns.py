@@ -2,6 +2,7 @@
 
 from __future__ import annotations
 
+import itertools
 import re
 import sys
 
@@ -22,7 +23,7 @@ def show(rows: list[list[str]]) -> None:
 def main() -> None:
     """Goes over the lines; a table ends with the first line that is none of its rows."""
     rows: list[list[str]] = []
-    for line in [*sys.stdin, '']:
+    for line in itertools.chain(sys.stdin, ['']):
         if line.startswith('|'):
             if not re.fullmatch(r'[|\-:\s]+', line):
                 rows.append(cells(line))

@@ -1,4 +1,4 @@
-"""measure.py PROGRAM PLAIN SCALE: makes big pickles in a temporary folder, runs the listings, and prints the tables."""
+"""measure.py PROGRAM LIMIT SCALE: makes big pickles in a temporary folder, runs the listings, and prints the tables."""
 
 from __future__ import annotations
 
@@ -19,12 +19,13 @@ from collections.abc import Callable, Sequence
 from typing import BinaryIO, NamedTuple
 
 from bars import at_least, at_most, heading, verdict
+from limit import must_print_the_same
 
 # the bars: instructions for each opcode, and how many times as many for twice the file
 INSTRUCTIONS = {'a': 270, 'b': 290, 'c': 180, 'e': 230, 'f': 1500}
 TWICE = 2.05
-# how many times as long as the bare loop at most
-AS_LONG = {'a': 1.3, 'b': 1.3, 'c': 0.8, 'e': 1.1}
+# how many times as long as the limit at most
+AS_LIMIT = 1.5
 # how many times faster than pickletools at least, bytes of memory for each opcode besides the file, how many times as long as a copy of
 # the text for one long string
 FASTER, BYTES_AN_OPCODE, AS_COPY = 80, 2.6, 2.5
@@ -32,12 +33,14 @@ FASTER, BYTES_AN_OPCODE, AS_COPY = 80, 2.6, 2.5
 AS_OBJECTS = 1.5
 # how many times the instructions of `list` `list --json` may take, and how many times those of `calls` `gate`
 AS_LIST, AS_CALLS = 2.2, 1.3
+# how many times as much `calls` may take behind an early end: of a file without frames, and of one with frames
+AS_WHOLE, AS_WHOLE_FRAMED = 1.5, 2.5
 # the most memory on 256 MiB of one-byte opcodes
 MOST_MEMORY = 700_000_000
 # instructions are counted on files of a twenty-fifth of the size
 SMALL = fractions.Fraction(1, 25)
-# the shortest of this many runs counts
-RUNS = 3
+# the shortest of this many runs counts; short commands are started so many times in each
+RUNS, STARTS = 3, 5
 
 
 # --- The files, each of this many items or bytes ---
@@ -134,6 +137,13 @@ def shortest(command: Sequence[str], runs: int = RUNS) -> Measured:
     return min((measure(command) for _ in range(runs)), key=lambda m: m.seconds)
 
 
+def by_turns(*commands: Sequence[str]) -> list[float]:
+    """The seconds of each command, one after another: the shortest of some runs, in each of which it is started some times."""
+    again = ['sh', '-c', 'for start in %s; do "$@" || exit; done' % ' '.join(map(str, range(STARTS))), 'sh']
+    runs = [[measure([*again, *command]).seconds for command in commands] for _ in range(RUNS)]
+    return [min(seconds) / STARTS for seconds in zip(*runs)]
+
+
 def instructions(command: Sequence[str], lines: str = os.devnull) -> int:
     """How many instructions the whole process takes, as callgrind counts them."""
     with open(lines, 'rb') as given:
@@ -163,31 +173,32 @@ def megabytes(count: float) -> str:
     return '%.1f' % (count / 1e6)
 
 
-def counted_row(folder: str, program: str, plain: str, letter: str, what: str, write: Writer, count: int) -> str:
+def counted_row(folder: str, program: str, limit: str, letter: str, what: str, write: Writer, count: int) -> str:
     """A line of the table of instructions."""
     once, twice = made(folder, letter, write, count), made(folder, letter, write, 2 * count)
-    opcodes, listing = opcodes_of(once), instructions([program, 'list', once])
+    must_print_the_same(program, limit, once)
+    opcodes, listing, least = opcodes_of(once), instructions([program, 'list', once]), instructions([limit, once])
     factor = instructions([program, 'list', twice]) / listing
     bar = INSTRUCTIONS[letter]
     good = verdict({'`list`': at_most(listing / opcodes, bar), 'twice the file': at_most(factor, TWICE)})
-    return '| (%s) %s | %s | %.0f | %s | %.0f | %.3f | %s |' % (
-        letter, what, format(opcodes, ','), listing / opcodes, bar, instructions([plain, once]) / opcodes, factor, good)
+    return '| (%s) %s | %s | %.0f | %s | %.0f | %.2f | %.3f | %s |' % (
+        letter, what, format(opcodes, ','), listing / opcodes, bar, least / opcodes, listing / least, factor, good)
 
 
-def timed_row(folder: str, program: str, plain: str, letter: str, what: str, write: Writer, count: int) -> str:
+def timed_row(folder: str, program: str, limit: str, letter: str, what: str, write: Writer, count: int) -> str:
     """A line of the table of times and memory."""
     path = made(folder, letter, write, count)
-    length, opcodes = os.path.getsize(path), opcodes_of(path)
-    listing, bare = shortest([program, 'list', path]), shortest([plain, path])
+    must_print_the_same(program, limit, path)
+    length, opcodes, listing = os.path.getsize(path), opcodes_of(path), measure([program, 'list', path])
+    seconds, least = by_turns([program, 'list', path], [limit, path])
     theirs = measure([sys.executable, '-m', 'pickletools', path])
     beside = (listing.memory - length) / opcodes
-    longer, faster = listing.seconds / bare.seconds, theirs.seconds / listing.seconds
-    good = verdict({'times as long': at_most(longer, AS_LONG[letter], listing.seconds, bare.seconds), 'times faster': at_least(faster, FASTER),
+    longer, faster = seconds / least, theirs.seconds / seconds
+    good = verdict({'times the limit': at_most(longer, AS_LIMIT, STARTS * seconds, STARTS * least), 'times faster': at_least(faster, FASTER),
                     'bytes an opcode': at_most(beside, BYTES_AN_OPCODE), 'status': at_most(max(abs(listing.status), abs(theirs.status)), 0)})
     os.unlink(path)
-    return '| (%s) %s | %s | %.2f s | %.2f s | %.2f | %s | %.1f s | %.0f | %s | %.1f | %s |' % (
-        letter, what, megabytes(length), listing.seconds, bare.seconds, longer, AS_LONG[letter], theirs.seconds, faster,
-        megabytes(listing.memory), beside, good)
+    return '| (%s) %s | %s | %.3f s | %.3f s | %.2f | %.1f s | %.0f | %s | %.1f | %s |' % (
+        letter, what, megabytes(length), seconds, least, longer, theirs.seconds, faster, megabytes(listing.memory), beside, good)
 
 
 def called_row(folder: str, program: str, letter: str, what: str, write: Writer, count: int) -> str:
@@ -202,6 +213,26 @@ def called_row(folder: str, program: str, letter: str, what: str, write: Writer,
     good = verdict({'twice the file': at_most(growth, TWICE), 'times as long': at_most(longer, AS_OBJECTS, theirs.seconds, ours.seconds)})
     return '| (%s) %s | %.0f | %.0f | %.3f | %.2f s | %.2f s | %.2f | %s |' % (
         letter, what, calls / opcodes, objects / opcodes, growth, ours.seconds, theirs.seconds, longer, good)
+
+
+def early_row(folder: str, program: str, letter: str, what: str, write: Writer, count: int) -> str:
+    """A line of the table of `calls` behind an early end: a file without its last byte, which is the STOP, beside the file."""
+    small, large = (made(folder, letter, write, many) for many in (int(count * SMALL), count))
+
+    def taken() -> tuple[int, Measured]:
+        return instructions([program, 'calls', small]), measure([program, 'calls', large])
+
+    counted, good_end = taken()
+    for path in (small, large):
+        os.truncate(path, os.path.getsize(path) - 1)
+    more, early_end = taken()
+    os.unlink(large)
+    bar = AS_WHOLE_FRAMED if letter == 'a' else AS_WHOLE
+    longer, larger = early_end.seconds / good_end.seconds, early_end.memory / good_end.memory
+    good = verdict({'times as many': at_most(more / counted, bar), 'times as long': at_most(longer, bar, good_end.seconds, early_end.seconds),
+                    'times the bytes of memory': at_most(larger, bar), 'status': at_most(abs(early_end.status - 1), 0)})
+    return '| (%s) %s | %s | %s | %.2f | %s | %.2f s | %.2f | %s | %.2f | %s |' % (
+        letter, what, format(counted, ','), format(more, ','), more / counted, bar, early_end.seconds, longer, megabytes(early_end.memory), larger, good)
 
 
 def lines_row(folder: str, program: str, letter: str, what: str, write: Writer, count: int) -> str:
@@ -279,48 +310,70 @@ def when(scale: fractions.Fraction) -> str:
         datetime.date.today(), scale, load, processors, processor(), platform.python_version(), busy, small), 100)
 
 
+def listing_tables(folder: str, program: str, limit: str, scale: fractions.Fraction) -> None:
+    """The tables of `list` beside the limit."""
+    print(heading('Instructions of `list`', 'How many instructions `list` and the limit take for each opcode, and how many times those of the limit '
+                  '`list` takes. It takes long to count them, so the files (a) to (e) are 25 times smaller here than in the next table. (f) is only '
+                  f'here. Bars: the column *bar* for `list`; {TWICE} for twice the file.',
+                  'File', 'opcodes', '`list`', 'bar', 'limit', 'times the limit', 'twice the file'))
+    for letter, what, write, count in FILES:
+        print(counted_row(folder, program, limit, letter, what, write, int(count * scale * SMALL)), flush=True)
+    print(counted_row(folder, program, limit, 'f', '`N0` above 1,000 marks', under_marks, int(MARKED * scale)), flush=True)
+    print(heading('Time and memory of `list`', '*Times the limit* compares `list` with the limit, and *times faster* with `python3 -m pickletools`. '
+                  f'`list` and the limit run by turns, {STARTS} times each turn. *Bytes an opcode* is the memory besides the file. Bars: {AS_LIMIT} '
+                  f'times the limit; at least {FASTER} times faster; {BYTES_AN_OPCODE} bytes an opcode.',
+                  'File', 'MB', '`list`', 'limit', 'times the limit', 'pickletools', 'times faster', 'memory, MB', 'bytes an opcode'))
+    for letter, what, write, count in FILES:
+        print(timed_row(folder, program, limit, letter, what, write, int(count * scale)), flush=True)
+
+
+def calls_tables(folder: str, program: str, scale: fractions.Fraction) -> None:
+    """The tables of `calls`."""
+    print(heading('`calls` beside `objects`', 'The first three columns are instructions for each opcode, and for twice the file, counted with files that are '
+                  '25 times smaller than those of the times. '
+                  f'`calls` makes the same objects and prints less. Bars: {AS_OBJECTS} times as long as `objects`; {TWICE} for twice the file.',
+                  'File', '`calls`', '`objects`', 'twice the file', 'time of `calls`', 'time of `objects`', 'times as long'))
+    for letter, what, write, count in [*FILES, ('r', 'REDUCE again and again', calls, CALLED)]:
+        print(called_row(folder, program, letter, what, write, int(count * scale)), flush=True)
+    print(heading('`calls` behind an early end', 'What `calls` takes of a file whose last byte, the STOP, is cut off, beside the whole file. '
+                  'Instructions are counted with files that are 25 times smaller than those of times and memory. '
+                  f'Bars: {AS_WHOLE} times that of the whole file; {AS_WHOLE_FRAMED} times for (a), which has frames, so that three kinds of loaders '
+                  'are followed.', 'File', 'instructions of the whole', 'of the cut one', 'times as many', 'bar', 'time of the cut one',
+                  'times as long', 'its memory, MB', 'times the bytes of memory'))
+    for letter, what, write, count in [*FILES, ('r', 'REDUCE again and again', calls, CALLED)]:
+        print(early_row(folder, program, letter, what, write, int(count * scale)), flush=True)
+
+
+def other_tables(folder: str, program: str, scale: fractions.Fraction) -> None:
+    """The tables of other commands beside `list` and `calls`, and of large and many inputs."""
+    print(heading('`list --json` beside `list`', f'Instructions for each opcode, with the small files of the first table. Bar: {AS_LIST} times as many.',
+                  'File', '`list --json`', '`list`', 'times as many'))
+    for letter, what, write, count in FILES:
+        print(lines_row(folder, program, letter, what, write, int(count * scale * SMALL)), flush=True)
+    print(heading('`gate` beside `calls`', 'Instructions for each opcode, with the small files of the first table and a list of 1,000 lines. '
+                  f'Bar: {AS_CALLS} times as many.', 'File', '`gate`', '`calls`', 'times as many'))
+    for letter, what, write, count in FILES:
+        if letter != 'c':  # (that is not in form)
+            print(gate_row(folder, program, letter, what, write, int(count * scale * SMALL)), flush=True)
+    print(heading('`list --many`', 'Many small pickles in one file. Two columns are about a file with twice as many pickles: its time, and its '
+                  'instructions, divided by those of this file. *Bytes a pickle* is the memory besides the file. '
+                  f'Bars: {SEVERAL_TWICE} for twice as many; {BYTES_A_PICKLE} bytes a pickle.',
+                  'File', 'pickles', 'time', 'times as long for twice as many', 'times as many instructions for twice as many', 'memory, MB',
+                  'bytes a pickle'))
+    print(several_row(folder, program, 's', '`N.` again and again', small_pickles, int(SEVERAL * scale)), flush=True)
+    print(several_row(folder, program, 't', 'the same behind a large pickle', behind_a_large_one, int(SEVERAL * scale)), flush=True)
+    print(heading('Large inputs of `list`', 'One opcode with a long text, and a large file in which each byte is an opcode.', 'Input', 'measured', 'bar'))
+    print(long_string(folder, program, int(LONG_STRING * scale)))
+    print(full_file(folder, program, int(FULL * scale)))
+
+
 def main() -> None:
-    program, plain, scale = sys.argv[1], sys.argv[2], fractions.Fraction(sys.argv[3])
+    program, limit, scale = sys.argv[1], sys.argv[2], fractions.Fraction(sys.argv[3])
     print(when(scale))
     with tempfile.TemporaryDirectory() as folder:
-        print(heading('Instructions of `list`', 'How many instructions `list` and the bare loop take for each opcode. It takes long to count them, so the '
-                      'files (a) to (e) are 25 times smaller here than in the next table. (f) is only here. '
-                      f'Bars: the column *bar* for `list`; {TWICE} for twice the file.',
-                      'File', 'opcodes', '`list`', 'bar', 'bare loop', 'twice the file'))
-        for letter, what, write, count in FILES:
-            print(counted_row(folder, program, plain, letter, what, write, int(count * scale * SMALL)), flush=True)
-        print(counted_row(folder, program, plain, 'f', '`N0` above 1,000 marks', under_marks, int(MARKED * scale)), flush=True)
-        print(heading('Time and memory of `list`', '*Times as long* compares `list` with the bare loop, and *times faster* with `python3 -m pickletools`. '
-                      '*Bytes an opcode* is the memory besides the file. Bars: the column *bar* for times as long; at least '
-                      f'{FASTER} times faster; {BYTES_AN_OPCODE} bytes an opcode.', 'File', 'MB', '`list`', 'bare loop', 'times as long', 'bar',
-                      'pickletools', 'times faster', 'memory, MB', 'bytes an opcode'))
-        for letter, what, write, count in FILES:
-            print(timed_row(folder, program, plain, letter, what, write, int(count * scale)), flush=True)
-        print(heading('`calls` beside `objects`', 'The first three columns are instructions for each opcode, and for twice the file, counted with files that are '
-                      '25 times smaller than those of the times. '
-                      f'`calls` makes the same objects and prints less. Bars: {AS_OBJECTS} times as long as `objects`; {TWICE} for twice the file.',
-                      'File', '`calls`', '`objects`', 'twice the file', 'time of `calls`', 'time of `objects`', 'times as long'))
-        for letter, what, write, count in [*FILES, ('r', 'REDUCE again and again', calls, CALLED)]:
-            print(called_row(folder, program, letter, what, write, int(count * scale)), flush=True)
-        print(heading('`list --json` beside `list`', f'Instructions for each opcode, with the small files of the first table. Bar: {AS_LIST} times as many.',
-                      'File', '`list --json`', '`list`', 'times as many'))
-        for letter, what, write, count in FILES:
-            print(lines_row(folder, program, letter, what, write, int(count * scale * SMALL)), flush=True)
-        print(heading('`gate` beside `calls`', 'Instructions for each opcode, with the small files of the first table and a list of 1,000 lines. '
-                      f'Bar: {AS_CALLS} times as many.', 'File', '`gate`', '`calls`', 'times as many'))
-        for letter, what, write, count in FILES:
-            if letter != 'c':  # (that is not in form)
-                print(gate_row(folder, program, letter, what, write, int(count * scale * SMALL)), flush=True)
-        print(heading('`list --many`', 'Many small pickles in one file. Two columns are about a file with twice as many pickles: its time, and its '
-                      'instructions, divided by those of this file. *Bytes a pickle* is the memory besides the file. '
-                      f'Bars: {SEVERAL_TWICE} for twice as many; {BYTES_A_PICKLE} bytes a pickle.',
-                      'File', 'pickles', 'time', 'times as long for twice as many', 'times as many instructions for twice as many', 'memory, MB',
-                      'bytes a pickle'))
-        print(several_row(folder, program, 's', '`N.` again and again', small_pickles, int(SEVERAL * scale)), flush=True)
-        print(several_row(folder, program, 't', 'the same behind a large pickle', behind_a_large_one, int(SEVERAL * scale)), flush=True)
-        print(heading('Large inputs of `list`', 'One opcode with a long text, and a large file in which each byte is an opcode.', 'Input', 'measured', 'bar'))
-        print(long_string(folder, program, int(LONG_STRING * scale)))
-        print(full_file(folder, program, int(FULL * scale)))
+        listing_tables(folder, program, limit, scale)
+        calls_tables(folder, program, scale)
+        other_tables(folder, program, scale)
 
 
 if __name__ == '__main__':

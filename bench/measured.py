@@ -3,7 +3,7 @@
 
 One run makes all files, runs all commands one after another, keeps the numbers in bench/measured.json, and has measured_page.py put them into the
 page. It wants Linux, the released programs in `dist`, some seven minutes of a machine that does nothing else, 8 GB of memory, and 4 GB in the
-temporary folder. Rows with Node are left out where there is no `node`.
+temporary folder. Rows with Node are left out where there is no `node`, and those of the limit where there is no compiler for C.
 
 bench/measured.py SCALE makes all files so many times smaller, runs each command once, and writes the page too: 1/10 takes about two minutes.
 """
@@ -27,6 +27,7 @@ from pathlib import Path
 from typing import Any, Callable, Dict, Iterator, List, Optional, Sequence, Tuple
 
 import inputs
+import limit
 import processes
 from inputs import MEGABYTE, ROOT
 from processes import Watch, environment, least, run
@@ -64,7 +65,7 @@ class Row:
 class Word:
     """A word of the command, as the page names it, with its arguments, what it reads, and how many megabytes the largest file has that it gets.
 
-    FILE, OTHER, CUT, NAMES and OUT among the arguments stand for files.
+    FILE, OTHER, CUT, NAMES and OUT among the arguments stand for files, and LIMIT for the program of limit.c.
     """
 
     what: str
@@ -90,6 +91,7 @@ WORDS = [
     Word('`diff`, if one number differs', [ENTRANCE, 'diff', 'FILE', 'OTHER'], largest=1, status=1),
     Word('`optimize`', [ENTRANCE, 'optimize', 'FILE', '--save', 'OUT'], largest=1),
     Word('`convert --protocol 2`', [ENTRANCE, 'convert', 'FILE', '--protocol', '2', '--save', 'OUT'], largest=1),
+    Word('*the limit: a C program that prints what `list` does*', ['LIMIT', 'FILE'], largest=100),
     Word('*`python3 -m pickletools`*', [sys.executable, '-m', 'pickletools', 'FILE'], largest=1),
     Word('*`pickle.load`*', [sys.executable, '-c', 'import pickle, sys; pickle.load(open(sys.argv[1], "rb"))', 'FILE'], largest=100),
 ]
@@ -125,14 +127,17 @@ def rows_of_words(folder: Path, size: float, scale: fractions.Fraction) -> Itera
     values = inputs.records(int(inputs.RECORDS[size] * scale))
     content = inputs.pickled(values)
     values[len(values) // 2]['id'] = -1
+    program = limit.compiled(folder)
     files = {'FILE': makes_file(folder / f'{size}.pickle', content), 'CUT': makes_file(folder / 'cut.pickle', content[:-len(content) // 20]),
              'OTHER': makes_file(folder / 'other.pickle', inputs.pickled(values)), 'NAMES': makes_file(folder / 'names.txt', inputs.NAMES_OF_PLAIN.encode()),
-             'OUT': folder / 'out.pickle'}
+             'OUT': folder / 'out.pickle', **({'LIMIT': program} if program else {})}
     del values, content
+    if program:
+        limit.must_print_the_same(PROGRAM, str(program), str(files['FILE']))
     given = sized(float(size * scale))
     yield Row('opcodes', given, '', opcodes_of(files['FILE']), None, None)
     for word in WORDS:
-        if size * scale <= word.largest:
+        if size * scale <= word.largest and (program or 'LIMIT' not in word.words):
             words = [str(files.get(each, each)) for each in word.words]
             yield from command_row('words', word.what, given, words, folder, word.lines, (word.status,))
 

@@ -33,6 +33,15 @@ OTHER_WAYS = {
     '`diff`, if one number differs': '`list` of both files, and `diff` of your system',
     '`optimize`': '`pickletools.optimize`, which is quicker, and compares nothing',
     '`convert --protocol 2`': 'if the file is yours: load it, and pickle it again'}
+# What people would use in place of picklestep, or to compare with: the first table that has both rows, the input, and what is done.
+LIMIT, SMALL_FILES = '*the limit: a C program that prints what `list` does*', '1,000 pickles of 2 to 7 KB'
+BESIDE = [
+    ('words', '1 MB', '`list`', '*`python3 -m pickletools`*'),
+    ('words', '100 MB', '`list`', LIMIT),
+    ('words', '10 MB', '`calls`', '*`pickle.load`*'),
+    ('words', '10 MB', '`objects`', '*`pickle.load`*'),
+    ('many', SMALL_FILES, 'Python: `picklestep.calls` in a loop', '*`pickletools.genops` in a loop*'),
+    ('many', SMALL_FILES, '`scan`', '*`pickletools.genops` in a loop*')]
 MEMORY_ENDS = (
     '**If memory runs out**, these words end with `picklestep: out of memory` and status 2, or Linux kills them (status 137). In both cases nothing is '
     'saved, and your file is as it was. To keep the rest of the machine alive, type `ulimit -v 4000000` before: each command in this shell then gets '
@@ -144,6 +153,15 @@ class Kept:
         count = self.rows['opcodes', name, ''][0]
         return f'{count / 1e6:.1f} million' if count >= 1e6 else f'{count:,.0f}'
 
+    def beside(self) -> str:
+        """What other programs take for the same input."""
+        rows = [[f'records of {given}' if name == 'words' else given, what, seconds(ours), other, seconds(theirs), f'{theirs / ours:.1f}']
+                for name, given, what, other in BESIDE if (ours := self._time(name, what, given)) and (theirs := self._time(name, other, given))]
+        return table(['Input', '!You use', 's', '!In place of it', 's', 'times as long'], rows)
+
+    def _time(self, name: str, what: str, given: str) -> float:
+        return self.rows.get((name, what, given), (0.0, None))[0]
+
     # --- The answers to what people ask ---
 
     def answers(self) -> str:
@@ -169,12 +187,17 @@ class Kept:
         limit = megabytes_in(most) + (MEMORY_OF_SCAN - (self.rows['words', SCAN, most][1] or 0)) / self._further(SCAN, 1)
         return (
             f'The pickle holds [records](#one-pickle). What {ASKED} MB take is worked out from files of up to {most}. A pickle of long texts or of arrays '
-            'has fewer opcodes, and [takes less](#other-contents). *`pickle.load`* is Python\'s own, for comparison.\n\n'
+            f'has fewer opcodes, and [takes less](#other-contents). *`pickle.load`* is Python\'s own, for comparison.{self._about_limit()}\n\n'
             '**`scan` has limits.** It takes at most 1 GiB of memory and 60 seconds of CPU time for a file, if you say nothing else. Such records meet '
             f'the limit of memory at about {round(limit, -1):.0f} MB. Then `scan` marks the file as `unread`, with status 3, and the line says what it '
             'did not look at. Try again with a higher [limit](../reference/scan.md#limits), as in `scan --max-memory 8G --max-seconds 600`.\n\n'
             f'**These words are slow.** What they take for {ASKED} MB is a guess: it takes for granted that each further MB takes as long and as much memory '
             'as the last one that was measured. The last column has a quicker way:')
+
+    def _about_limit(self) -> str:
+        """What the row of the limit is there for, if it was measured."""
+        measured = LIMIT in self._words()
+        return ' *The limit* shows how quick a listing could be: it is not proved.' if measured else ''
 
     def _slow(self) -> str:
         """What was measured with files that are far too small, and a guess from them."""
@@ -270,8 +293,8 @@ def filled(text: str) -> str:
 
 def written(page: str, kept: Kept) -> str:
     """The page with what is made of the numbers: two parts between marks, and the first table below some headings."""
-    tables = {'One pickle': kept.words(), 'Other contents': kept.contents(), 'Other commands': kept.listed('many', 'node', 'debugger', 'slow'),
-              'What a start takes': kept.starts()}
+    tables = {'One pickle': kept.words(), 'Beside what you would use instead': kept.beside(), 'Other contents': kept.contents(),
+              'Other commands': kept.listed('many', 'node', 'debugger', 'slow'), 'What a start takes': kept.starts()}
     page = replaced(page, '(<!-- begin -->\n).*?(<!-- end -->)', kept.answers() + '\n')
     page = replaced(page, '(<!-- run -->\n).*?(<!-- end of run -->)', kept.run() + '\n')
     for heading, made in tables.items():
