@@ -34,6 +34,9 @@ WORKER = ('bytes.js', 'texts.js', 'words.js', *(f'alone/{name}.js' for name in (
     'wasi', 'library', 'session', 'lines', 'reaches', 'literals', 'source_nodes', 'source_names', 'source_builder', 'source', 'document', 'containers',
     'worker')))
 ALONE = ('alone/examples.js', 'alone/opening.js')
+# What the page has only with a server: scripts, and what stands between these words.
+SERVED = ('sizes.js', 'server.js')
+WITH_SERVER = re.compile(r' *<!-- with a server: -->\n.*?<!-- \. -->\n', re.DOTALL)
 # What the page may do: its own script and style, the module, a worker and a download of its own; no request to anywhere.
 POLICY = ("default-src 'none'; script-src 'sha256-{script}' 'wasm-unsafe-eval'; style-src 'sha256-{style}'; worker-src blob:; img-src data:; "
           "base-uri 'none'; form-action 'none'")
@@ -70,8 +73,8 @@ def packed(name: str, module: bytes, before: str) -> str:
 def make(folder: Path, before: Path) -> bytes:
     """The page of the modules in a folder, where there may be a page `before`."""
     kept = before.read_text(encoding='utf-8', errors='replace') if before.exists() else ''
-    page = read('page.html')
-    scripts = [name for name in re.findall(r'<script src="([a-z]+\.js)" defer></script>\n', page) if name != 'server.js']
+    page = WITH_SERVER.sub('', read('page.html'))
+    scripts = [name for name in re.findall(r'<script src="([a-z]+\.js)" defer></script>\n', page) if name not in SERVED]
     script, style = read(*scripts, *ALONE), read('style.css')
     icon = base64.b64encode((VIEW / 'icon.svg').read_bytes()).decode('ascii')
     policy = POLICY.format(script=digest(script), style=digest(style))

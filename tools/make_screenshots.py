@@ -1,4 +1,4 @@
-"""Makes the screenshots of docs/reference/python.md: the page of `picklestep view` on two real pickles. It needs chromium.
+"""Makes the screenshots of docs/reference/view.md: the page of `picklestep view` on real pickles. It needs chromium.
 
     python3 tools/make_screenshots.py
 """
@@ -15,8 +15,8 @@ ROOT = Path(__file__).resolve().parent.parent
 sys.path[:0] = [str(ROOT / 'python'), str(ROOT / 'python' / 'tests')]
 
 from chromium import PROGRAM, Browser  # noqa: E402
-from picklestep.document import Document  # noqa: E402
 from picklestep.view.server import Viewer  # noqa: E402
+from picklestep.view.viewed import Viewed  # noqa: E402
 
 MODELS = ROOT / 'python' / 'tests' / 'data' / 'models'
 
@@ -28,7 +28,7 @@ def settle(browser: Browser) -> None:
 
 def take(browser: Browser, source: Path, keys: Sequence[str], shots: Sequence[Sequence[object]]) -> None:
     """Opens a pickle, presses keys, points at the top of the stack, and takes pictures: a name, a scheme, a width and a height."""
-    document = Document(source, source.name)
+    document = Viewed(source, source.name)
     viewer = Viewer(document)
     thread = threading.Thread(target=viewer.serve)
     thread.start()
@@ -63,6 +63,7 @@ def main() -> int:
         shots = [('view_light', 'light', 1280, 800), ('view_narrow', 'light', 600, 1100)]
         take(browser, MODELS / 'sklearn_tree.pkl', ['n'] * 4 + ['b'], shots)
         take(browser, MODELS / 'pandas_frame.pkl', ['n'] * 3, [('view_dark', 'dark', 1280, 800)])
+        take(browser, MODELS / 'sklearn_boosting.pkl', ['z'], [('view_sizes', 'light', 1200, 700)])
     finally:
         browser.close()
     return 0

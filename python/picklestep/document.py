@@ -300,7 +300,17 @@ class Document:
             'calls': [calls_before, self.reaches.counts[1]], 'reaches': len(self.reaches.offsets),
             'stack': _last(self.session.ask('stack')), 'memo': _last(self.session.ask('memo')), 'made': self._made(),
             'exact': self._is_exact(), 'undo': _latest(self._edits), 'redo': _latest(self._undone), 'breaks': len(self.breaks),
-            'unframed': '--unframed' in self._options, 'closing': self.lines.closing}
+            'unframed': self.is_unframed, 'closing': self.lines.closing}
+
+    @property
+    def is_many(self) -> bool:
+        """Whether these are several pickles that follow one another."""
+        return '--many' in self._options
+
+    @property
+    def is_unframed(self) -> bool:
+        """Whether the lengths of frames are ignored."""
+        return '--unframed' in self._options
 
     # --- All objects, as they are at the end ---
 
@@ -389,8 +399,13 @@ class Document:
         rows = []
         for at in range(max(0, start), min(len(self.reaches.offsets), start + min(count, _MOST_LINES))):
             offset = self.reaches.offsets[at]
-            rows.append([self.lines.place_of(offset), offset, self.reaches.kind_at(offset), self.reaches.shown(at)])
+            place = self.lines.place_of(offset) if self.has_offset(offset) else None
+            rows.append([place, offset, self.reaches.kind_at(offset), self.reaches.shown(at)])
         return rows
+
+    def has_offset(self, offset: int) -> bool:
+        """Whether the opcode at an offset is among those that are shown."""
+        return True
 
     def holds(self, number: int) -> Fields:
         """What an object holds: each with what it is to the object."""
@@ -451,7 +466,7 @@ class Document:
         content = self.content()
         if len(self.lines) > _MOST_SOURCE or len(content) > _MOST_SOURCE_BYTES or self.reaches.is_part:
             return {'source': [], 'more': 0, 'isLong': True}
-        lines = list(source(content, full=False, many='--many' in self._options, unframed='--unframed' in self._options))
+        lines = list(source(content, full=False, many=self.is_many, unframed=self.is_unframed))
         return {'source': lines[:_MOST_SOURCE_LINES], 'more': max(0, len(lines) - _MOST_SOURCE_LINES), 'isLong': False}
 
     # --- For reports: the objects as they are at the end ---
@@ -490,6 +505,8 @@ class Document:
         offset = self.reaches.next_call(where.offset, direction)
         if offset is None:
             return 'no call there'
+        if not self.has_offset(offset):
+            return f'the next call is at offset {offset}, which is not read'
         return f'at {self.session.goto(self.lines.place_of(offset))}'
 
     def toggle_break(self, place: int) -> str:
@@ -579,7 +596,7 @@ class Document:
     def read_on(self, is_unframed: bool = False) -> str:
         """Reads all pickles of the file, as it is, from its start; or the one that it shows, without the lengths of its frames. What was edited cannot be
         undone any more."""
-        is_many = not is_unframed or '--many' in self._options
+        is_many = not is_unframed or self.is_many
         session = Session(self.session.bytes(), many=is_many, unframed=is_unframed)
         self.session.close()
         self.session, self._options, self.place = session, modes(is_many, is_unframed), 0

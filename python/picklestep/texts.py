@@ -16,7 +16,7 @@ from .patterns import pattern
 from .records import Argument, End
 from .session_records import Item, Shown
 
-__all__ = ['FRAME_SIZE', 'HeldObject', 'ITEMS', 'ITEM_IN_BYTES', 'Line', 'LineReader', 'LinesError', 'MOST_OFFSET', 'NUMBER', 'OBJECTS', 'QUOTED',
+__all__ = ['FRAME_BEGINS', 'FRAME_SIZE', 'HeldObject', 'ITEMS', 'ITEM_IN_BYTES', 'Line', 'LineReader', 'LinesError', 'MOST_OFFSET', 'NUMBER', 'OBJECTS', 'QUOTED',
            'SHOWN', 'as_made', 'begins_with_offset', 'behind_word', 'broken_places', 'code_of', 'count_held', 'end_of', 'end_of_line', 'end_of_texts',
            'frame_length', 'frames_in', 'has_key', 'held_at', 'held_in', 'is_no_name', 'is_object_at', 'key_in', 'kind_in', 'line_of', 'mark_in', 'moved_line',
            'named_by_texts', 'number_of', 'object_of', 'offset_at', 'opcode_of', 'readonly_count', 'refused', 'renumbered', 'unquoted', 'with_mark',
@@ -36,7 +36,7 @@ _CHANGE = pattern(r' (?:([+&!])#([0-9]+)|\[#([0-9]+)\]=#([0-9]+))')
 _CHANGES = {'+': 'append', '&': 'add', '!': 'state'}
 # The most bytes of the beginning of an opcode's line, the code of FRAME behind it, and how many bytes that opcode has.
 MOST_OFFSET = 20
-_FRAME = b': \\x95 '
+FRAME_BEGINS = b': \\x95 '
 FRAME_SIZE = 9
 # Lines of `objects`, `items` and `show`, and closing lines of which there may be several.
 _OBJECT_LINE = pattern(r'^#.*$', re.MULTILINE)
@@ -104,28 +104,9 @@ def opcode_of(line: str) -> Opcode:
     >>> opcode_of("   11: c        GLOBAL     'os' 'getcwd'")
     Opcode(offset=11, code=b'c', name='GLOBAL', argument=(b'os', b'getcwd'), note='', marks=1)
     """
-    match = _OPCODE.match(line)
-    if match is None:
-        raise LinesError(line)
-    return _opcode_at(match)
-
-
-def _opcode_at(match: 're.Match[str]') -> Opcode:
-    offset, code, name, number, rest = match.groups()
-    argument: Argument = None
-    note = ''
-    if number is not None:
-        argument = int(number)
-    elif rest is not None:
-        argument, end = _argument(rest, 0)
-        if end < len(rest):
-            note = rest[end:].strip(' ()')
-    return Opcode(int(offset), _CODES[code], name, argument, note, _marks_at(match))
-
-
-def _marks_at(match: 're.Match[str]') -> int:
-    """How many marks are open before the opcode of a line: four blanks for each are between the code and the name, and one more."""
-    return (match.start(3) - match.end(1) - 7) >> 2
+    shown = line_of(line)
+    argument, end = _argument(shown.argument, 0)
+    return Opcode(shown.offset, _CODES[shown.code], shown.name, argument, shown.argument[end:].strip(' ()'), shown.marks)
 
 
 class Line(NamedTuple):
@@ -144,18 +125,21 @@ def line_of(line: str) -> Line:
     >>> line_of("   11: c        GLOBAL     'os' 'getcwd'")
     Line(offset=11, code='c', name='GLOBAL', argument="'os' 'getcwd'", marks=1)
     """
-    match = _OPCODE.match(line)
-    if match is None:
+    colon = line.find(':')
+    offset, code, behind = line[:colon], line[colon + 2:colon + _TO_NAME].rstrip(), line[colon + _TO_NAME:]
+    named = behind.lstrip(' ')
+    name, _, argument = named.partition(' ')
+    if not offset.lstrip(' ').isdigit() or not name:
         raise LinesError(line)
-    offset, code, name, number, argument = match.groups()
-    return Line(int(offset), code, name, number or argument or '', max(0, _marks_at(match)))
+    return Line(int(offset), code, name, argument.lstrip(' '), (len(behind) - len(named)) // _MARK_WIDTH)
 
 
 # The codes as a listing shows them.
 _CODES = {**{f'\\x{code:02x}': bytes((code,)) for code in range(256)}, **{chr(code): bytes((code,)) for code in range(33, 127)}}
 # In the line of an opcode: what stands before the offset of the mark that it cuts.
 _MARK = '(MARK at '
-_OPCODE = pattern(r'^ *([0-9]+): (\S+) +([A-Z][A-Z0-9_]*)(?: +(-?[0-9]+)$| +(.*))?$', re.MULTILINE)
+# Letters from the colon of a line to the blanks for marks, and how many blanks there are for each.
+_TO_NAME, _MARK_WIDTH = 7, 4
 
 
 def key_in(line: str) -> str:
@@ -220,11 +204,7 @@ def moved_line(line: str, offset: int, marks: int = 0) -> str:
     '   12: N        NONE'
     """
     rest = line[line.index(':'):]
-    return f'{offset:>5}{rest[:_TO_NAME]}{"    " * marks}{rest[_TO_NAME:]}' if marks else f'{offset:>5}{rest}'
-
-
-# Letters from the colon of a line to the blanks for marks.
-_TO_NAME = 7
+    return f'{offset:>5}{rest[:_TO_NAME]}{" " * _MARK_WIDTH * marks}{rest[_TO_NAME:]}' if marks else f'{offset:>5}{rest}'
 
 
 def end_of_line(name: bytes, number: int) -> bytes:
@@ -377,13 +357,13 @@ def frames_in(listing: Union[bytes, bytearray]) -> Iterator[Tuple[int, int]]:
     >>> list(frames_in(b"    0: \\x80 PROTO      4\n    2: \\x95 FRAME      2\n   11: X    BINUNICODE '9: \\x95 '\n"))
     [(2, 9)]
     """
-    at = listing.find(_FRAME)
+    at = listing.find(FRAME_BEGINS)
     while at >= 0:
         begin = max(0, at - MOST_OFFSET)
         _, newline, offset = listing[begin:at].rpartition(b'\n')
         if (newline or not begin) and offset.strip().isdigit():  # (else it stands in a text)
             yield int(offset), FRAME_SIZE
-        at = listing.find(_FRAME, at + 1)
+        at = listing.find(FRAME_BEGINS, at + 1)
 
 
 def without_left(listing: Union[bytes, bytearray]) -> Optional[bytes]:

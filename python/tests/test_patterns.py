@@ -9,19 +9,24 @@ from pathlib import Path
 from typing import Dict, Iterator, Tuple
 
 import picklestep
+from pickles import ROOT
 
 PACKAGE = Path(picklestep.__file__).parent
-# How many patterns each of them has: of listings that are shown, and of what a session answers; of debug and members; of objects.
-OF_TEXTS = {'texts.py': 10, 'replies.py': 5, 'scan/hash_steps.py': 5, 'scan/made_depths.py': 2}
+DECISIONS = ROOT / 'docs' / 'DECISIONS.md'
+# How many patterns each of them has, of which the page of decisions says why: of listings that are shown, and of what a session answers; of debug and
+# members; of objects. And the script of the page.
+OF_TEXTS = {'texts.py': 9, 'replies.py': 5, 'scan/hash_steps.py': 5, 'scan/made_depths.py': 2}
+OF_SCRIPTS = {'view/texts.js': 15}
 # Modules of `scan` that read lines of JSON. (Others have patterns, mostly of files of other forms.)
 WITHOUT = {'scan/depths.py'}
-# Modules whose patterns read something else: words that are typed, names, numbers of a pickle, letters of opcodes, files of other forms.
-OF_OTHERS = {'dap/console.py', 'dap/target.py', 'dap/wire.py', 'protocols/reading.py', 'python_source/names.py', 'python_source/shapes.py',
-             'question.py', 'shell/edits.py', 'shell/expressions.py', 'shell/shell.py', 'shell/words.py', 'sources.py', 'unread.py', 'values.py',
-             'view/server.py'}
-# The script of the page that reads the program's text.
-OF_SCRIPTS = {'view/texts.js': 17}
-_IN_SCRIPT = re.compile(r'RegExp\(|[(=] ?/(?![/*])')
+# Others, whose patterns read something else: words that are typed, names, numbers of a pickle, letters of opcodes, files of other forms.
+OTHERS = {'dap/console.py': 1, 'dap/target.py': 3, 'dap/wire.py': 1, 'protocols/reading.py': 3, 'python_source/names.py': 2, 'python_source/shapes.py': 2,
+          'question.py': 1, 'shell/edits.py': 1, 'shell/expressions.py': 2, 'shell/shell.py': 5, 'shell/words.py': 4, 'sources.py': 1, 'unread.py': 4,
+          'values.py': 2, 'view/server.py': 2}
+OTHER_SCRIPTS = {'alone/containers.js': 5, 'alone/document.js': 1, 'alone/literals.js': 9, 'alone/opening.js': 8, 'alone/source.js': 2,
+                 'alone/source_builder.js': 1, 'alone/source_names.js': 4, 'bytes.js': 1, 'script.js': 2, 'shown.js': 1, 'slow.js': 2,
+                 'values.js': 13, 'words.js': 8}
+_IN_SCRIPT = re.compile(r'RegExp\(|[(=!|&,?] ?/(?![/*])')
 
 
 def patterns() -> Iterator[Tuple[str, int]]:
@@ -34,16 +39,29 @@ def patterns() -> Iterator[Tuple[str, int]]:
             yield path.relative_to(PACKAGE).as_posix(), sum(each.attr != 'escape' for each in used) + later
 
 
+def in_scripts() -> Dict[str, int]:
+    """How many each script of the page has."""
+    counts = {path: len(_IN_SCRIPT.findall(path.read_text(encoding='utf-8'))) for path in (PACKAGE / 'view').rglob('*.js')}
+    return {path.relative_to(PACKAGE).as_posix(): count for path, count in counts.items() if count}
+
+
 class Patterns(unittest.TestCase):
+    """A pattern more is one that somebody has to look at: where it reads what the program prints, ask for lines of JSON in its place."""
+
+    maxDiff = None
+
     def test_modules(self) -> None:
         found: Dict[str, int] = {name: count for name, count in patterns() if count}
-        self.assertEqual({name: found.get(name, 0) for name in OF_TEXTS}, OF_TEXTS)
-        self.assertEqual({name for name in found if not name.startswith('scan/')} - set(OF_TEXTS), OF_OTHERS)
+        self.assertEqual({name: count for name, count in found.items() if name in OF_TEXTS or not name.startswith('scan/')}, {**OF_TEXTS, **OTHERS})
         self.assertEqual({name for name in WITHOUT if name in found}, set())
 
     def test_scripts(self) -> None:
-        for name, count in OF_SCRIPTS.items():
-            self.assertEqual(len(_IN_SCRIPT.findall((PACKAGE / name).read_text(encoding='utf-8'))), count, name)
+        self.assertEqual(in_scripts(), {**OF_SCRIPTS, **{f'view/{name}': count for name, count in OTHER_SCRIPTS.items()}})
+
+    def test_reasons(self) -> None:
+        """The page of decisions has a row for each file that reads the program's text, with the number of its patterns."""
+        rows = re.findall(r'^\| `([^`]+)` \| ([0-9]+) \|', DECISIONS.read_text(encoding='utf-8'), re.MULTILINE)
+        self.assertEqual({name: int(count) for name, count in rows}, {**OF_TEXTS, **OF_SCRIPTS})
 
 
 if __name__ == '__main__':

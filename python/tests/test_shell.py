@@ -25,7 +25,7 @@ from examples_of_pages import stories
 from picklestep.opcodes import BY_NAME, TABLE
 from picklestep.plain import PLAIN
 from picklestep.shell.complete import completions
-from picklestep.shell.later import Later
+from picklestep.later import Later
 from picklestep.shell.opened import Opened
 from picklestep.shell.shell import Shell, WordError
 from picklestep.shell.words import OTHERS, SAMPLE, WORDS, whole_word
@@ -180,6 +180,14 @@ class Words(unittest.TestCase):
     def test_explained_are_the_opcodes(self) -> None:
         self.assertEqual([info.name for info in TABLE], [opcode.name for opcode in pickletools.opcodes])
         self.assertEqual(len({info.sentence for info in TABLE}), len(TABLE))
+
+    def test_long_bytes_are_shown_wherever_they_are_cut(self) -> None:
+        for count in range(4):
+            with self.subTest(count), Shell(pickle.dumps(b'a' * count + b'\xff' * 1000, 4), '') as shell:
+                for line in ('goto 2', 'list 2 3', 'back', 'step'):
+                    self.assertIn(f"BINBYTES '{'a' * count}\\xff", shell.obey(line))
+                self.assertIn(' bytes more', shell.obey('list 2 3'))
+                self.assertRaisesRegex(WordError, 'argument has no value here', shell.obey, 'print argument')
 
     def test_bytes_after_stop(self) -> None:
         """They are named, in the program's words, wherever the shell shows all that there is."""

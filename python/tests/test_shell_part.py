@@ -16,7 +16,7 @@ from unittest import mock
 
 from picklestep import Session
 from picklestep.lines import OpcodeLines
-from picklestep.shell import first
+from picklestep import first
 from picklestep.shell.command import main
 from picklestep.shell.opened import Opened
 from picklestep.shell.shell import Shell, WordError
@@ -148,7 +148,7 @@ class Part(unittest.TestCase):
             shell.obey('insert 3 NONE')
             with mock.patch.object(first.First, 'rest', side_effect=OSError(28, 'No space left on device')), self.assertRaisesRegex(WordError, 'No space'):
                 shell.obey('save')
-            with mock.patch('picklestep.shell.part.LIMIT', len(data)), self.assertRaisesRegex(WordError, 'more than'):
+            with mock.patch('picklestep.part.LIMIT', len(data)), self.assertRaisesRegex(WordError, 'more than'):
                 shell.obey('save')
             self.assertEqual((path.read_bytes(), os.listdir(self.folder), shell.is_unsaved), (data, ['a.pickle'], True))
 

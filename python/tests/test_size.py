@@ -19,8 +19,11 @@ import picklestep
 from cut_pickles import whole_pickles
 from pickles import chosen
 from picklestep import held
+from picklestep.sizing.measure import measured
+from picklestep.sizing.treemap import svg
 from scan_support import environment
 
+SVG = '{http://www.w3.org/2000/svg}'
 SHARED = ['shared', 300]
 VALUES = [SHARED, {'a': SHARED, 'weights': (1.5, b'x' * 2000, 'y' * 70_000)}, list(range(-3, 2500)), {n: str(n) for n in range(400)}, (), [[]], 'end', None,
           True, 2**80, -2**31, [SHARED, ('two', 2)]]
@@ -133,6 +136,35 @@ class Sizes(unittest.TestCase):
         views = b'\x97\x94\x98\x980h\x00\x98\x98\x86.'
         self.assertEqual(sum(each.size for each in picklestep.size(views[:-2] + b'.').opcodes), len(views) - 1)
 
+    def test_the_drawing(self) -> None:
+        """Each rectangle is as large as its bytes, says what the tables say, and names the place of the opcode that makes the object."""
+        drawn = 0
+        for name, data in [*chosen(whole_pickles().items(), 30), *((f'protocol {n}', pickle.dumps(VALUES, n)) for n in range(6))]:
+            with self.subTest(name):
+                answer = picklestep.size(data, most=100_000)
+                rows = {(each.path, each.kind, each.size): each.offset for each in answer.paths}
+                drawing = ElementTree.fromstring(svg(measured(data)))
+                titles = {each.findtext(f'{SVG}title'): each for each in drawing.iter(f'{SVG}g')}
+                overhead = sum(each.size for each in answer.overhead)
+                self.assertEqual(f'overhead: {overhead:,} bytes' in titles, overhead > 0)
+                try:
+                    offsets = [at for _, _, at in pickletools.genops(data)]
+                except (UnicodeDecodeError, ValueError):  # (it does not read all that loaders read)
+                    continue
+                for title, each in titles.items():
+                    if 'data-place' not in each.attrib or '?' in title or ' .. ' in title:  # (a path of odd letters, or a long one)
+                        continue
+                    path, _, said = title.rpartition(': ')
+                    kind, _, size = said.partition(', ')
+                    total = int(size.replace(',', '').replace(' bytes', ''))
+                    self.assertEqual(rows[path, kind, total], offsets[int(each.attrib['data-place'])], title)
+                    drawn += 1
+                    area = each.find(f'{SVG}rect')
+                    if path == 'result':
+                        share = float(area.attrib['width']) * float(area.attrib['height']) / (1200 * 800)
+                        self.assertAlmostEqual(share, total / len(data), 2)
+        self.assertGreater(drawn, 1000)
+
     def test_the_word(self) -> None:
         with tempfile.TemporaryDirectory() as folder:
             data = pickle.dumps({'<&"\u202e\x1b': ['a' * 90, b'b' * 90], ']]>': {}}, 4)
@@ -146,7 +178,7 @@ class Sizes(unittest.TestCase):
             lines = [json.loads(line) for line in run.stdout.splitlines()]
             self.assertEqual(sum(each['size'] for each in lines if each['kind'] == 'opcode'), len(data))
             drawing = ElementTree.parse(Path(folder, 'a.svg')).getroot()
-            titles = [each.text or '' for each in drawing.iter('{http://www.w3.org/2000/svg}title')]
+            titles = [each.text or '' for each in drawing.iter(f'{SVG}title')]
             self.assertIn('result: dict, 201 bytes', titles)
 
 

@@ -30,6 +30,7 @@ from pickles import real_pickles
 from picklestep.view import export
 from picklestep.view.command import main
 from picklestep.document import Document
+from picklestep.view.viewed import Viewed
 from picklestep.view.opcodes import opcode_table
 from picklestep.view.server import IDLE, SCRIPTS, Viewer
 
@@ -290,7 +291,7 @@ class Asking(unittest.TestCase):
     """Who may ask the server."""
 
     def setUp(self) -> None:
-        self.document = Document(SYSTEM, 'a pickle')
+        self.document = Viewed(SYSTEM, 'a pickle')
         self.addCleanup(self.document.close)
         self.viewer = Viewer(self.document)
         self.thread = threading.Thread(target=self.viewer.serve, daemon=True)

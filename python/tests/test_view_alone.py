@@ -29,6 +29,7 @@ from pickles import REAL, ROOT, known_opcodes, real_pickles
 from picklestep.python_source import source
 from picklestep.document import Document
 from picklestep.view.server import Viewer
+from picklestep.view.viewed import Viewed
 
 PAGE = ROOT / 'dist' / 'picklestep.html'
 MODELS = Path(__file__).resolve().parent / 'data' / 'models'
@@ -159,7 +160,7 @@ class Driven(unittest.TestCase):
     @contextlib.contextmanager
     def served(self, path: Path) -> Iterator[None]:
         """Opens a pickle in the page with a server."""
-        document = Document(path, path.name)
+        document = Viewed(path, path.name)
         viewer = Viewer(document)
         thread = threading.Thread(target=viewer.serve, daemon=True)
         thread.start()

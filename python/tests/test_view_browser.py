@@ -17,12 +17,15 @@ import time
 import unittest
 from pathlib import Path
 from typing import Any, List
+from unittest import mock
 
-from chromium import CONTRASTS, FILLED, PROGRAM, Browser
-from picklestep import Ref, Session
+import picklestep
+from chromium import ACCESSIBILITY, CONTRASTS, FILLED, PROGRAM, Browser
+from picklestep import Ref, Session, first
 from picklestep.view.command import _leading_to, main
-from picklestep.document import Document
 from picklestep.view.server import Viewer
+from picklestep.view.viewed import Viewed
+from test_shell_part import ROWS, Call
 
 REAL = Path(__file__).resolve().parent / 'data' / 'models' / 'sklearn_tree.pkl'
 SYSTEM = b'cposix\nsystem\n(X\x02\x00\x00\x00idtR.'
@@ -44,7 +47,7 @@ class InBrowser(unittest.TestCase):
 
     def open(self, source: Any) -> Viewer:
         """Opens the page of a pickle, and waits until it is shown."""
-        document = Document(source, 'a pickle')
+        document = Viewed(source, 'a pickle')
         self.addCleanup(document.close)
         viewer = Viewer(document)
         thread = threading.Thread(target=viewer.serve, daemon=True)
@@ -291,6 +294,76 @@ class InBrowser(unittest.TestCase):
         for role in ('listbox', 'option', 'toolbar', 'slider', 'searchbox', 'tree', 'status', 'heading', 'main'):
             self.assertIn(role, roles)
         self.assertEqual((roles['listbox'], roles['tree'], roles['slider']), ('Opcodes', 'Objects', 'Place in the pickle'))
+
+    def test_where_the_bytes_go(self) -> None:
+        """A rectangle of each object, which keys and a click reach, and which leads to the opcode."""
+        self.addCleanup(self.browser.scheme, 'light')
+        self.open(REAL)
+        offsets = [at for _, _, at in pickletools.genops(REAL.read_bytes())]
+        said = {f'{each.path}: {each.kind}, {each.size:,} bytes': offsets.index(each.offset) for each in picklestep.size(REAL, most=1000).paths}
+        self.browser.key('z')
+        self.browser.wait("document.activeElement.getAttribute('role') === 'treeitem'")
+        titles = self.texts('#sizes [data-place] > title')
+        self.assertEqual([title for title in titles if title not in said], [])
+        self.assertGreater(len(titles), 30)
+        label = "document.activeElement.getAttribute('aria-label')"
+        self.browser.key('End')
+        self.browser.key('Home')
+        self.assertEqual(self.browser.js(label), titles[0])
+        self.browser.key('ArrowRight')
+        self.assertEqual(self.browser.js(label), titles[1])
+        self.browser.key('ArrowLeft')
+        self.assertEqual(self.browser.js(label), titles[0])
+        for scheme in ('light', 'dark'):
+            self.browser.scheme(scheme)
+            self.assertEqual([self.browser.js(ACCESSIBILITY), [each for each in self.browser.js(CONTRASTS) if each[1] < 4.5]], [[], []])
+        self.browser.key('ArrowRight')
+        self.browser.key('Enter')
+        self.browser.wait(f"document.querySelector('.row.selected')?.dataset.place === '{said[titles[1]]}'")
+        self.assertEqual(self.browser.js("[document.querySelector('#sizes-dialog').open, document.activeElement.id]"), [False, 'listing'])
+        self.browser.click('#measure')
+        self.browser.wait("document.activeElement.getAttribute('role') === 'treeitem'")
+        leaf = self.texts('#sizes [data-place]:not(:has(g)) > title')[0]
+        self.browser.click('#sizes [data-place]:not(:has(g)) > rect')
+        self.browser.wait(f"document.querySelector('.row.selected')?.dataset.place === '{said[leaf]}'")
+
+    def test_sizes_of_what_is_hostile_or_long(self) -> None:
+        self.open(pickle.dumps({HOSTILE_NAME: ['</title><script>document.title=1</script>' * 9, b'x' * 900]}, 4))
+        self.browser.key('z')
+        self.browser.wait("document.querySelectorAll('#sizes rect').length > 3")
+        self.assertIn(HOSTILE_NAME, self.browser.js("document.querySelector('#sizes').textContent"))
+        self.assertEqual(self.browser.js("document.querySelectorAll('#sizes :not(svg, g, title, rect, text)').length"), 0)
+        self.browser.key('Escape')
+        with mock.patch('picklestep.view.sizes.MOST_OPCODES', 3):
+            self.browser.key('z')
+            self.browser.wait("document.querySelector('#sizes-said').textContent.startsWith('Too long')")
+        self.browser.key('Escape')
+
+    def test_the_first_part_of_a_long_pickle(self) -> None:
+        """What is read is shown, with what all of it imports and calls; a button reads the rest."""
+        data = pickle.dumps([*ROWS, Call(), Call()], 2)
+        with Session(data) as session, mock.patch.object(first, 'MOST_FIRST', 40):
+            places = session.where().places
+            self.open(data)
+            self.assertEqual(self.texts('#where'), ['at 0 of 40, offset 0, end not read yet'])
+            self.browser.wait("document.querySelector('#reached').textContent === 'imports 0 of 1, calls 0 of 2'")
+            self.assertEqual(self.texts('#closing'), ['the first 40 opcodes: the rest is not read'])
+            self.assertRegex(self.texts('#rest-takes')[0], '^It may take .* of memory.$')
+            self.assertEqual(self.browser.js(ACCESSIBILITY), [])
+            self.browser.key('n')
+            self.browser.wait("document.querySelector('#said').textContent.endsWith(', which is not read')")
+            self.browser.js("document.querySelector('#listing').focus()")
+            self.browser.key('Delete')
+            self.said('edited 0')
+            self.browser.wait("document.querySelector('#reached').textContent === 'imports 0 of 1, calls 0 of 2'")
+            self.browser.key('u')
+            self.said('undone 0')
+            self.press('ArrowRight', 1)
+            self.browser.js("document.querySelector('#read-rest').click()")
+            self.said(f'all {places:,} opcodes are read')
+            self.assertTrue(self.texts('#where')[0].startswith(f'at 1 of {places}, '))
+            self.assertTrue(self.browser.js("document.querySelector('#part').hidden"))
+            self.press('End', places)
 
     def test_the_page_of_its_own(self) -> None:
         with tempfile.TemporaryDirectory() as folder:

@@ -18,7 +18,7 @@ from ..patterns import pattern
 from ..records import Extension, Global, Name, Ref
 from ..replies import is_mark, last_words, number_in_word
 from ..session_records import Mark
-from ..texts import LinesError, opcode_of
+from ..texts import opcode_of
 from ..trees import Values
 from .opened import Opened
 
@@ -333,13 +333,9 @@ def _argument(pickle: Opened) -> Any:
     if place >= len(pickle.lines):
         return None
     line = pickle.lines.raw(place)
-    try:
-        if ' bytes more' in line:
-            raise LookupError('argument')
-        value = opcode_of(line).value
-    except LinesError:
-        raise LookupError('argument') from None
-    return value
+    if ' bytes more' in line:
+        raise LookupError('argument')
+    return opcode_of(line).value
 
 
 def _opcode(pickle: Opened) -> str:

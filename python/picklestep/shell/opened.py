@@ -4,7 +4,6 @@ from __future__ import annotations
 
 import contextlib
 import threading
-import time
 from itertools import islice
 from typing import Any, Callable, Dict, Iterator, List, NamedTuple, Optional, Sequence, Tuple
 
@@ -12,23 +11,21 @@ from ..changes import changed
 from ..comparing import shown_value
 from ..document import Document, Done, Reaches, places_edited
 from ..errors import NoResult, Refused
+from ..later import Later
 from ..lines import CODE_BY_NAME, Line, Lines, OpcodeLines, silent
 from ..listing_records import Object
+from ..part import Part
 from ..python_source.shapes import BRACKETS
 from ..records import Global, Ref
 from ..replies import opcode_refused_in, words_of
-from ..session import SHIFTS, Session
+from ..session import SHIFTS
 from ..session_records import Where
-from ..sources import Input, Source, rereadable
+from ..sources import Input, Source
 from ..texts import LinesError, behind_word, count_held, end_of_texts, held_in, key_in, object_of, readonly_count
-from ..took import seconds_of_programs
 from ..values import PLAIN_KINDS, kind_value
 from .between import MOST_EDITS, Between, Objects, Put, Unknown, is_known_edit
 from .edits import Edit
-from .first import first_of
 from .history import History
-from .later import Later
-from .part import Part
 
 __all__ = ['Opened']
 
@@ -83,20 +80,10 @@ class Opened(Part):
                  whole: bool = False) -> None:
         """Reads a pickle: of a long one only the first part, unless it is the `whole` that is wanted. While that goes on, `progress` is given how
         far it is; later `tell` is, where something takes long."""
-        source = rereadable(source)
-        self._first = None if whole else first_of(source, many, unframed, progress)
-        self._source = source if self._first is None else self._first.content
-        self._is_many, self._is_unframed = many, unframed
         self.tell: Callable[[str], None] = silent
         self._free = threading.Event()  # whoever reads beside the prompt may go on
         self._free.set()
-        begin = time.process_time() + seconds_of_programs()
-        try:
-            super().__init__(self._source, name, many, progress, unframed=unframed)
-        except BaseException:
-            self._close_first()
-            raise
-        self._seconds = time.process_time() + seconds_of_programs() - begin
+        super().__init__(source, name, many, progress, unframed=unframed, whole=whole)
 
     def reopen(self) -> None:
         """Has a session anew, after one that was interrupted within an answer: with the edits, and where the cursor was."""
@@ -106,48 +93,21 @@ class Opened(Part):
         self._undone = []
         self._return(self.place)
 
-    def _session_after(self, source: Source, edits: List[bytes]) -> Session:
-        """A session of a pickle, after edits."""
-        session = Session(source, many=self._is_many, unframed=self._is_unframed)
-        try:
-            for line in edits:
-                session._talk.line(line.rstrip(b'\n'))
-        except BaseException:
-            session.close()
-            raise
-        return session
-
     def read_whole(self) -> bytes:
         """Reads all of the pickle, with the edits of its first part, and answers the bytes that were not read. Where that fails or is interrupted, all
         is as it was."""
         self.settle()
-        first, here, before = self._first, self.session.where().place, dict(vars(self))
-        if first is None:
+        if not self.is_part:
             return b''
         self._edition += 1
-        undone = self.session._talk.undone()
-        self.tell('opening')
+        known, self._codes, self._known = (self._codes, self._known), None, None
         try:
-            source = b''.join(first.given.blocks(0))
-            session = self._session_after(source, [*self.session._talk.edits(), *reversed(undone)])
+            return super().read_whole()
         except BaseException:
+            self._codes, self._known = known
+            self._edition += 1
             self._follow()
             raise
-        try:
-            for _ in undone:
-                session.undo()
-            self.session, self._source, self._first, self._codes, self._known, self._progress = session, source, None, None, None, self.tell
-            self._read()
-            self._return(here)
-        except BaseException:
-            vars(self).update(before, _edition=self._edition + 1)
-            session.close()
-            self._follow()
-            raise
-        self._progress = silent
-        before['session'].close()
-        first.close()
-        return source[len(first.content):]
 
     # --- The pickle ---
 
@@ -169,7 +129,6 @@ class Opened(Part):
             if work is not None:
                 work.wait()
         super().close()
-        self._close_first()
 
     def settle(self) -> None:
         """Waits until the pickle is read after an edit. Where that failed, the edits were taken back, and it is raised why."""

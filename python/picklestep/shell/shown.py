@@ -7,7 +7,8 @@ from typing import List
 
 from ..comparing import shown_value
 from ..lines import line_of
-from ..texts import LinesError, opcode_of
+from ..part import said_of_time
+from ..texts import opcode_of
 from .opened import Opened
 
 __all__ = ['MOST_BYTES', 'latest', 'question_of_whole', 'reached', 'said_of_part', 'shown_argument', 'shown_bytes', 'shown_opcode']
@@ -30,11 +31,10 @@ def shown_opcode(line: str) -> str:
 
 def shown_argument(line: str, shown: str) -> str:
     """The argument in a line of a listing as a value of Python, where it is one and was kept whole."""
-    try:
-        opcode = opcode_of(line)
-    except LinesError:
+    if ' bytes more' in shown:
         return shown
-    is_value = not opcode.note and opcode.argument is not None and not isinstance(opcode.argument, tuple) and ' bytes more' not in shown
+    opcode = opcode_of(line)
+    is_value = not opcode.note and opcode.argument is not None and not isinstance(opcode.argument, tuple)
     return shown_value(opcode.value) if is_value else shown
 
 
@@ -76,11 +76,5 @@ def said_of_part(pickle: Opened) -> str:
 
 
 def question_of_whole(seconds: int, size: int) -> str:
-    """What is asked before all of a pickle is read, which may take so many seconds and bytes.
-
-    >>> question_of_whole(130, 5_200_000_000)
-    'It may take 2 minutes and 5.2 GB of memory. Read all of it? (yes/no) '
-    """
-    time = f'{seconds} seconds' if seconds < 120 else f'{seconds // 60} minutes'
-    memory = f'{size / 1e9:.1f} GB' if size > 1e9 else f'{size // 1_000_000} MB'
-    return f'It may take {time} and {memory} of memory. Read all of it? (yes/no) '
+    """What is asked before all of a pickle is read, which may take so many seconds and bytes."""
+    return f'{said_of_time(seconds, size)} Read all of it? (yes/no) '

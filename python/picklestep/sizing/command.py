@@ -19,7 +19,7 @@ from .measure import MOST, Measured, measured, sizes_of
 from .records import PathSize, Saving, Sized, Sizes
 from .treemap import svg
 
-__all__ = ['main']
+__all__ = ['heading', 'main']
 
 _MOST_ROWS = 1000
 # A path of more letters is shown by its beginning and its end.
@@ -79,7 +79,8 @@ def _write(found: Measured, path: str) -> None:
 
 # --- For people ---
 
-def _in_words(answer: Sizes, rows: int) -> Iterator[str]:
+def heading(answer: Sizes) -> Iterator[str]:
+    """How many bytes there are, and of what."""
     protocol = '' if answer.protocol is None else f', protocol {answer.protocol}'
     yield (f'{count_of(answer.size, "byte")}: {count_of(answer.objects_count, "object")} of {count_of(answer.objects, "byte")}, '
            f'{answer.size - answer.unread - answer.objects} of overhead{protocol}')
@@ -87,6 +88,10 @@ def _in_words(answer: Sizes, rows: int) -> Iterator[str]:
         yield f'{count_of(answer.unread, "byte")} not read: {_why(answer)}'
     if answer.elsewhere:
         yield f'{count_of(answer.elsewhere, "byte")} of objects that are in no result'
+
+
+def _in_words(answer: Sizes, rows: int) -> Iterator[str]:
+    yield from heading(answer)
     yield from _table('bytes', '', 'opcode', _of_opcodes(answer.opcodes, answer.size), rows)
     yield from _table('bytes', '', 'overhead', [(each.size, _share(each.size, answer.size), f'{_OVERHEAD[each.what]}, {each.count:,} times')
                                                 for each in answer.overhead], rows)

@@ -2,23 +2,24 @@
 
 from __future__ import annotations
 
-from typing import Dict, Iterator, List, NamedTuple, Sequence, Tuple
+from typing import Dict, Iterator, List, NamedTuple, Optional, Sequence, Tuple
 from xml.sax.saxutils import escape
 
 from .measure import Measured
 
 __all__ = ['Box', 'squares', 'svg']
 
-_WIDTH, _HEIGHT, _EDGE, _TITLE = 1200.0, 800.0, 2.0, 16.0
+_SIZE = (1200, 800)
+_EDGE, _TITLE = 2.0, 16.0
 # An object whose rectangle would be smaller (in square pixels) is not drawn, and none in so many others.
 _LEAST, _MOST_DEPTH, _MOST_BOXES = 60.0, 12, 3000
 _LETTER, _LEAST_WIDTH = 7.0, 30.0
 # So many letters of a path are in the title of a rectangle.
 _MOST_OF_PATH = 300
-# The colours of kinds of objects; others have the last one.
+# The colours of kinds of objects; others have the last one. (Edges and words stand out from each: nothing is said by colour alone.)
 _COLOURS = {'text': '#9ecae1', 'bytes': '#fdae6b', 'bytearray': '#fdae6b', 'int': '#c7e9c0', 'float': '#c7e9c0', 'list': '#dadaeb', 'tuple': '#dadaeb',
             'dict': '#e7e1ef', 'set': '#dadaeb', 'frozenset': '#dadaeb', 'overhead': '#bdbdbd', 'not read': '#969696'}
-_OTHER = '#fde0dd'
+_OTHER, _EDGES = '#fde0dd', '#404040'
 
 
 class Box(NamedTuple):
@@ -74,43 +75,75 @@ def _rest(box: Box, share: float) -> Box:
     return Box(box.left, box.top + box.height * share, box.width, box.height * (1 - share))
 
 
-class _Drawing:
-    """The rectangles of what was measured."""
+class _Rectangle:
+    """A rectangle with what is said of it, and those inside. `place` is that of the opcode which makes the object; None of what is no object."""
 
-    def __init__(self, found: Measured) -> None:
-        self._found = found
+    def __init__(self, box: Box, step: str, path: str, kind: str, size: int, place: Optional[int] = None) -> None:
+        is_object = place is not None
+        self.box, self.kind, self.place = box, kind, place
+        self.label = f'{step}: {kind}, {size:,}' if is_object else f'{kind}, {size:,}'
+        self.title = f'{path}: {kind}, {size:,} bytes' if is_object else f'{kind}: {size:,} bytes'
+        self.inner: List['_Rectangle'] = []
+
+    def lines(self) -> Iterator[str]:
+        """The rectangle in SVG."""
+        left, top, width, height = self.box
+        place = '' if self.place is None else f' data-place="{self.place}"'
+        yield (f'<g{place}><title>{_text(self.title)}</title><rect x="{left:.1f}" y="{top:.1f}" width="{max(0, width):.1f}" height="{max(0, height):.1f}" '
+               f'fill="{_COLOURS.get(self.kind, _OTHER)}" stroke="{_EDGES}"/>')
+        if height >= _TITLE and width >= _LEAST_WIDTH:
+            letters = int((width - 6) / _LETTER)
+            text = self.label if len(self.label) <= letters else f'{self.label[:max(0, letters - 2)]}..'
+            yield f'<text x="{left + 3:.1f}" y="{top + 12:.1f}">{_text(text)}</text>'
+        for each in self.inner:
+            yield from each.lines()
+        yield '</g>'
+
+
+class _Drawing:
+    """The rectangles of what was measured, in so many pixels."""
+
+    def __init__(self, found: Measured, whole: Box) -> None:
+        self._found, self._whole = found, whole
         # (Only what is large enough to be drawn is known by what holds it.)
-        least = max(1, int(sum(found.sizes) * _LEAST / (_WIDTH * _HEIGHT)))
+        least = max(1, int(sum(found.sizes) * _LEAST / (whole.width * whole.height)))
         self._held: Dict[int, List[int]] = {}
         for number in found.heap.order:
             if found.totals[number] >= least:
                 self._held.setdefault(max(found.heap.holders[number], -1), []).append(number)
-        self.lines: List[str] = []
+        self._count = 0
 
-    def draw(self) -> None:
-        """Draws the overhead and what was not read beside the objects."""
+    def rectangles(self) -> List[_Rectangle]:
+        """Those that are in no other: the objects, and beside them the overhead and what was not read."""
         opcodes = self._found.opcodes
         parts: List[Tuple[int, int, str]] = [(self._found.totals[root], root, '') for root in self._held.get(-1, ())]
         parts += [(sum(opcodes.sizes()) - sum(self._found.own), -1, 'overhead'), (opcodes.unread, -1, 'not read')]
         parts = sorted((part for part in parts if part[0] > 0), key=lambda part: -part[0])
-        waiting: List[Tuple[Box, int, str, int]] = []
-        whole = Box(0, 0, _WIDTH, _HEIGHT)
-        for box, (size, number, what) in zip(squares([size for size, _, _ in parts], whole), parts):
+        drawn: List[_Rectangle] = []
+        others: List[_Rectangle] = []
+        waiting: List[Tuple[List[_Rectangle], Box, int, str, int]] = []
+        for box, (size, number, what) in zip(squares([size for size, _, _ in parts], self._whole), parts):
             if what:
-                self._rectangle(box, what, f'{what}: {size:,} bytes', what)
+                others.append(_Rectangle(box, '', '', what, size))
             else:
-                waiting.append((box, number, '', 0))
-        while waiting and len(self.lines) < _MOST_BOXES:
-            waiting += self._object(*waiting.pop(0))
+                waiting.append((drawn, box, number, '', 0))
+        while waiting and self._count < _MOST_BOXES:
+            into, box, number, step, depth = waiting.pop(0)
+            made = self._object(box, number, step)
+            into.append(made)
+            waiting += [(made.inner, part, each, self._found.heap.last_step(each), depth + 1) for part, each in self._inside(box, number, depth)]
+        return drawn + others
 
-    def _object(self, box: Box, number: int, step: str, depth: int) -> Iterator[Tuple[Box, int, str, int]]:
-        """An object, and where what it holds is to be drawn."""
-        heap, totals = self._found.heap, self._found.totals
-        path = heap.path(number)
+    def _object(self, box: Box, number: int, step: str) -> _Rectangle:
+        self._count += 1
+        found, path = self._found, self._found.heap.path(number)
         if len(path) > _MOST_OF_PATH:
             path = f'{path[:_MOST_OF_PATH // 2]} .. {path[-_MOST_OF_PATH // 2:]}'
-        kind = heap.kind(number)
-        self._rectangle(box, step or path, f'{path}: {kind}, {totals[number]:,} bytes', kind)
+        return _Rectangle(box, step or path, path, found.heap.kind(number), found.totals[number], found.makers.place(number))
+
+    def _inside(self, box: Box, number: int, depth: int) -> Iterator[Tuple[Box, int]]:
+        """Where what an object holds is to be drawn."""
+        totals = self._found.totals
         inner = Box(box.left + _EDGE, box.top + _TITLE, box.width - 2 * _EDGE, box.height - _TITLE - _EDGE)
         if depth >= _MOST_DEPTH or inner.width * inner.height < _LEAST or inner.width <= 0 or inner.height <= 0:
             return
@@ -121,14 +154,7 @@ class _Drawing:
         sizes = [part for part in sizes if part[0] > 0]
         for part, (_, each) in zip(squares([size for size, _ in sizes], inner), sizes):
             if each >= 0 and part.width * part.height >= _LEAST:
-                yield part, each, heap.last_step(each), depth + 1
-
-    def _rectangle(self, box: Box, label: str, title: str, kind: str) -> None:
-        letters = int((box.width - 6) / _LETTER)
-        text = label if len(label) <= letters else f'{label[:max(0, letters - 2)]}..'
-        shown = f'<text x="{box.left + 3:.1f}" y="{box.top + 12:.1f}">{_text(text)}</text>' if box.height >= _TITLE and box.width >= _LEAST_WIDTH else ''
-        self.lines.append(f'<g><title>{_text(title)}</title><rect x="{box.left:.1f}" y="{box.top:.1f}" width="{max(0, box.width):.1f}" '
-                          f'height="{max(0, box.height):.1f}" fill="{_COLOURS.get(kind, _OTHER)}"/>{shown}</g>')
+                yield part, each
 
 
 def _text(text: str) -> str:
@@ -136,9 +162,8 @@ def _text(text: str) -> str:
     return escape(''.join(sign if sign.isprintable() and sign.isascii() or sign.isalnum() else '?' for sign in text))
 
 
-def svg(found: Measured) -> str:
-    """The drawing."""
-    drawing = _Drawing(found)
-    drawing.draw()
-    return '\n'.join([f'<svg xmlns="http://www.w3.org/2000/svg" viewBox="0 0 {_WIDTH:.0f} {_HEIGHT:.0f}" font-family="monospace" font-size="11">',
-                      '<style>rect{stroke:#fff}</style>', *drawing.lines, '</svg>', ''])
+def svg(found: Measured, size: Tuple[int, int] = _SIZE) -> str:
+    """The drawing, in so many pixels. A rectangle of an object has the place of the opcode that makes it."""
+    width, height = size
+    lines = [line for each in _Drawing(found, Box(0, 0, width, height)).rectangles() for line in each.lines()]
+    return '\n'.join([f'<svg xmlns="http://www.w3.org/2000/svg" viewBox="0 0 {width} {height}" font-family="monospace" font-size="11">', *lines, '</svg>', ''])

@@ -23,6 +23,7 @@ from ..waiting import Waiting
 from ..wording import shown
 from .export import MOST, write_report
 from .server import IDLE, Viewer
+from .viewed import Viewed
 
 __all__ = ['main']
 
@@ -47,6 +48,7 @@ def _parser() -> argparse.ArgumentParser:
     parser.add_argument('file', metavar='FILE', help='the pickle, or its address')
     parser.add_argument('--many', action='store_true', help='FILE has several pickles that follow one another')
     parser.add_argument('--unframed', action='store_true', help='ignore the lengths of frames, so that a pickle that was cut off is read to the cut')
+    parser.add_argument('--whole', action='store_true', help='read all of a long pickle at once, and not the first opcodes alone')
     parser.add_argument('--export', metavar='OUT.html', type=Path, help='write a report into this page, and end')
     parser.add_argument('--force', action='store_true', help='let --export replace a file that is there')
     parser.add_argument('--no-browser', action='store_true', help='print the address, and open no browser')
@@ -64,7 +66,7 @@ def _export(document: Document, path: Path) -> int:
     return int(bool(document.missing))
 
 
-def _serve(document: Document, with_browser: bool, idle: float) -> int:
+def _serve(document: Viewed, with_browser: bool, idle: float) -> int:
     with contextlib.suppress(KeyboardInterrupt), Viewer(document, idle) as viewer:
         print(f'{viewer.address}\nCtrl-C ends it.', flush=True)
         if not with_browser:
@@ -106,12 +108,13 @@ def _lesson(path: str) -> str:
         return ''
 
 
-def _opened(options: argparse.Namespace) -> Document:
-    """The document. Somebody at a terminal is told how far it is."""
+def _opened(options: argparse.Namespace) -> Viewed:
+    """The document; for a report the whole pickle. Somebody at a terminal is told how far it is."""
     pickle, found = given(options.file)
     path, rest = (options.file, '') if found is None else (found.path, found.address[len(found.path):])
     with Waiting() as waiting:
-        document = Document(pickle, (path if is_at_server(path) else os.path.basename(path)) + rest, options.many, waiting.progress, options.unframed)
+        document = Viewed(pickle, (path if is_at_server(path) else os.path.basename(path)) + rest, options.many, waiting.progress,
+                          unframed=options.unframed, whole=options.whole or options.export is not None)
     document.container = '' if found is None else found.path
     document.lesson = _lesson(path) if found is None else ''
     document.said = zip_behind(options.file) if found is None else list(found.said)

@@ -38,7 +38,7 @@ function command(word, asked) {
 
 // What the program says, with what its code means.
 function say(text, failed) {
-  const code = /(?:^refused: |, )(?:C3 item \d+: |C9 )?([A-Z]+\d+) /.exec(text), meaning = code && view.plain[code[1]];
+  const meaning = view.plain[codeInSaid(text)];
   by('said').textContent = plain(text) + (meaning ? ` (${meaning})` : '');
   by('said').classList.toggle('failed', Boolean(failed));
 }
@@ -88,8 +88,8 @@ function showHeader(state) {
     (state.unknown ? ` in this part: ${state.unknown}` : '');
   by('closing').textContent = state.closing.join('; ');
   by('read-on').hidden = !keptOf(state.closing);
-  by('unframe-all').hidden = !/^F[678] /.test(state.end) || Boolean(state.part);
-  by('edit').disabled = by('save').disabled = Boolean(state.part);
+  by('unframe-all').hidden = !['F6', 'F7', 'F8'].includes(codeOfWords(state.end)) || Boolean(state.part);
+  by('edit').disabled = by('save').disabled = Boolean(state.waits);
   for (const word of ['undo', 'redo']) {
     by(word).disabled = !state[word];
     by(word).title = state[word] ? `${word === 'undo' ? 'Take back' : 'Make again'}: ${state[word]} (${word[0]})` : `Nothing to ${word} (${word[0]})`;
@@ -105,7 +105,7 @@ const toggle = (place) => { if (place < view.state.places) command('break', { pl
 async function find(text) {
   const answer = await ask('find', { text, after: view.selected });
   if (answer.place === undefined) return;
-  if (answer.place === null) { say('not found: ' + text, true); return; }
+  if (answer.place === null) { say(`not found${view.state.part ? ' in what is read' : ''}: ${text}`, true); return; }
   select(answer.place);
   say('found at place ' + answer.place, false);
 }

@@ -18,11 +18,25 @@ const host = {
 
   save: (name, over) => command('save', { name, over }),
 
-  shown() {},
+  // Of a long pickle the first part is shown. What all of it imports and calls is known later.
+  shown() {
+    const { part, rest, unknown, version } = view.state;
+    by('part').hidden = !part;
+    by('rest-takes').textContent = rest || '';
+    if (!part || !unknown || version === host.asked) return;
+    host.asked = version;
+    host.ask('known').then(() => {
+      view.busy = view.busy.then(async () => {
+        const state = await host.ask('state');
+        if (state.version !== undefined) await show(state);
+      }).catch(() => undefined);
+    });
+  },
 
   begin() {
     addEventListener('pagehide', () => navigator.sendBeacon('closed', '{}'));
     addEventListener('pageshow', () => host.ask('alive'));
+    by('read-rest').addEventListener('click', () => command('rest'));
     setInterval(() => host.ask('alive'), ALIVE);
     return command('open');
   },

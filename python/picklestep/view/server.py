@@ -14,11 +14,12 @@ from http.server import BaseHTTPRequestHandler, ThreadingHTTPServer
 from pathlib import Path
 from typing import Any, Callable, ContextManager, Dict, Optional
 
-from ..document import Document, Fields
+from ..document import Fields
 from ..errors import ProgramError, Refused
 from ..patterns import pattern
 from ..plain import PLAIN
 from .opcodes import opcode_table
+from .viewed import Viewed
 
 __all__ = ['IDLE', 'Viewer']
 
@@ -28,7 +29,7 @@ IDLE = 150.0
 _CLOSED = 75.0
 _HERE = Path(__file__).parent
 SCRIPTS = tuple(re.findall(r'<script src="([a-z]+\.js)"', (_HERE / 'page.html').read_text(encoding='utf-8')))
-_FILES = {'': ('page.html', 'text/html'), 'style.css': ('style.css', 'text/css'), 'icon.svg': ('icon.svg', 'image/svg+xml'),
+_FILES = {'': ('page.html', 'text/html'), 'icon.svg': ('icon.svg', 'image/svg+xml'), **{name: (name, 'text/css') for name in ('style.css', 'sizes.css')},
           **{name: (name, 'text/javascript') for name in SCRIPTS}}
 _POLICY = ("default-src 'none'; script-src 'self'; style-src 'self'; img-src 'self'; connect-src 'self'; base-uri 'none'; "
            "form-action 'none'; frame-ancestors 'none'")
@@ -41,7 +42,7 @@ _MOST_WORDS = 1 << 20
 class Viewer(ContextManager['Viewer']):
     """Serves the page of a document until it is closed, or until no page was open for a while."""
 
-    def __init__(self, document: Document, idle: float = IDLE) -> None:
+    def __init__(self, document: Viewed, idle: float = IDLE) -> None:
         self.document = document
         self.token = secrets.token_urlsafe(24)
         self._lock = threading.Lock()
@@ -79,6 +80,9 @@ class Viewer(ContextManager['Viewer']):
         self.heard()
         if word == 'alive':
             return {}
+        if word == 'known':  # (it may take long: others are answered meanwhile)
+            self.document.wait()
+            return {}
         with self._lock:
             try:
                 return _ANSWERS[word](self.document, asked)
@@ -88,6 +92,8 @@ class Viewer(ContextManager['Viewer']):
                 return {'said': 'not saved: there is such a file', 'failed': True}
             except (ProgramError, OSError, ValueError, TypeError, OverflowError, RecursionError) as error:
                 return {'said': f'not done: {error}', 'failed': True}
+            except MemoryError:
+                return {'said': 'not done: out of memory', 'failed': True}
 
 
 class _Server(ThreadingHTTPServer):
@@ -134,7 +140,7 @@ class _Handler(BaseHTTPRequestHandler):
         length = self.headers.get('Content-Length', '')
         if word is None or self.headers.get('Origin') != self._origin():
             self._refuse(403, b'refused\n')
-        elif word not in _ANSWERS and word not in ('alive', 'closed'):
+        elif word not in _ANSWERS and word not in ('alive', 'closed', 'known'):
             self._refuse(404, b'no such question\n')
         elif not _LENGTH.fullmatch(length) or int(length) > _MOST_WORDS:
             self._refuse(413, b'too long\n')
@@ -207,43 +213,55 @@ def _text(asked: Fields, name: str) -> str:
     return str(asked.get(name, ''))
 
 
-def _after(said: str, document: Document) -> Fields:
+def _after(said: str, document: Viewed) -> Fields:
     return {'said': said, **document.state()}
 
 
-def _open(document: Document, asked: Fields) -> Fields:
+def _open(document: Viewed, asked: Fields) -> Fields:
     return {'said': 'open', 'opcodes': opcode_table(), 'plain': PLAIN, 'lesson': document.lesson, **document.state()}
 
 
-def _lines(document: Document, asked: Fields) -> Fields:
+def _rest(document: Viewed, asked: Fields) -> Fields:
+    document.read_whole()
+    return _after(f'all {len(document.lines):,} opcodes are read', document)
+
+
+def _lines(document: Viewed, asked: Fields) -> Fields:
     return {'version': document.version, 'lines': document.slice(_number(asked, 'start'), _number(asked, 'count'))}
 
 
-def _objects(document: Document, asked: Fields) -> Fields:
+def _objects(document: Viewed, asked: Fields) -> Fields:
     return {'objects': document.objects(_number(asked, 'start'), _number(asked, 'count'))}
 
 
-def _briefs(document: Document, asked: Fields) -> Fields:
+def _briefs(document: Viewed, asked: Fields) -> Fields:
     numbers = asked.get('numbers')
     wanted = [number for number in numbers if isinstance(number, int)] if isinstance(numbers, list) else []
     return {'briefs': document.briefs(wanted)}
 
 
-def _move(document: Document, asked: Fields) -> Fields:
+def _move(document: Viewed, asked: Fields) -> Fields:
     return _after(document.move(_text(asked, 'what'), _number(asked, 'place')), document)
 
 
-def _find(document: Document, asked: Fields) -> Fields:
+def _find(document: Viewed, asked: Fields) -> Fields:
     return {'place': document.find(_text(asked, 'text'), _number(asked, 'after'))}
 
 
-def _edit(document: Document, asked: Fields) -> Fields:
+def _sizes(document: Viewed, asked: Fields) -> Fields:
+    from .sizes import sizes_shown  # (most pages are never asked for it)
+    return sizes_shown(document, _number(asked, 'width'), _number(asked, 'height'))
+
+
+def _edit(document: Viewed, asked: Fields) -> Fields:
     said = document.edit(_text(asked, 'what'), _number(asked, 'place'), _text(asked, 'name'), _text(asked, 'raw'), _number(asked, 'count'))
     return _after(said, document)
 
 
-_ANSWERS: Dict[str, Callable[[Document, Fields], Fields]] = {
+_ANSWERS: Dict[str, Callable[[Viewed, Fields], Fields]] = {
     'open': _open, 'lines': _lines, 'objects': _objects, 'briefs': _briefs, 'move': _move, 'find': _find, 'edit': _edit,
+    'sizes': _sizes, 'rest': _rest,
+    'state': lambda document, asked: document.state(),
     'holds': lambda document, asked: document.holds(_number(asked, 'number')),
     'effect': lambda document, asked: document.effect(),
     'about': lambda document, asked: document.about(_number(asked, 'number')),

@@ -32,13 +32,18 @@ const withArguments = (argument, write) => argument.replace(ARGUMENTS, (all, quo
 
 // --- Lines of opcodes ---
 
-const BEGINNING = /^ *\d+: /;
+const TO_NAME = 7; // letters from the colon of a line to the blanks for marks,
+const MARK_WIDTH = 4; // which are so many for each
 
-const beginsWithOffset = (line) => BEGINNING.test(line);
+function beginsWithOffset(line) {
+  const offset = line.slice(0, Math.max(0, line.indexOf(': '))).trim();
+  return offset !== '' && Number.isInteger(Number(offset));
+}
 
 function opcodeOf(line) {
-  const [, offset, code, blanks, name, argument] = /^ *(\d+): (\S+)( +)([A-Z][A-Z0-9_]*)(?: +(.*))?$/.exec(line);
-  return { offset: Number(offset), code, name, argument: argument || '', marks: Math.max(0, (code.length + blanks.length - 5) >> 2) };
+  const colon = line.indexOf(':'), behind = line.slice(colon + TO_NAME), named = behind.trimStart(), [name] = named.split(' ', 1);
+  return { offset: Number(line.slice(0, colon)), code: line.slice(colon + 2, colon + TO_NAME).trimEnd(), name, argument: named.slice(name.length).trimStart(),
+    marks: (behind.length - named.length) / MARK_WIDTH };
 }
 
 // The opcode in a line of `items`, with its argument behind a blank; null where the line shows none.
@@ -75,6 +80,13 @@ const closingOf = (closing, word) => (closing.findLast((line) => line.startsWith
 
 // The code that the words of a refusal or a fault begin with.
 const codeOfWords = (words) => words.split(' ')[0];
+
+// The code in what is said of a refusal: `refused: S3 no memo entry 7`, `refused: C3 item 4: S3 ..`, `at 4: refused, S3 ..`.
+function codeInSaid(text) {
+  const words = text.startsWith('refused: ') ? text.slice('refused: '.length) : text.slice(text.indexOf(', ') + 2);
+  if (words.startsWith('C9 ')) return codeOfWords(words.slice('C9 '.length));
+  return codeOfWords(words.startsWith('C3 item ') ? words.slice(words.indexOf(': ') + 2) : words);
+}
 
 // How many bytes are after STOP, as closing lines say it.
 const keptOf = (closing) => Number(closingOf(closing, 'kept').split(' ')[0]);

@@ -227,7 +227,7 @@ class Document {
       version: this.version, name: this.name, place: where.place, places: where.places, offset: where.offset,
       results: where.results.slice(-MOST_RESULTS), results_before: Math.max(0, where.results.length - MOST_RESULTS), end: this.isPart ? 'not read yet' : where.end,
       imports: [imports, this.reaches.counts[0]], calls: [calls, this.reaches.counts[1]], reaches: this.reaches.length, unknown: this.unknown,
-      stack: lastWords(stack, MOST_ENTRIES), memo: lastWords(memo, MOST_ENTRIES), pickle: this.pickle, part: this.isPart, made: this.made(), exact: this.isExact(),
+      stack: lastWords(stack, MOST_ENTRIES), memo: lastWords(memo, MOST_ENTRIES), pickle: this.pickle, part: this.isPart, waits: this.isPart, made: this.made(), exact: this.isExact(),
       edits: this.edits.length, undone: this.undone.length,
       undo: describeEdit(this.edits.at(-1)), redo: describeEdit(this.undone.at(-1)), breaks: this.breaks.size,
       unframed: this.options.includes('--unframed'), closing: this.lines.closing };

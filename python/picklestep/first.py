@@ -5,12 +5,12 @@ from __future__ import annotations
 import contextlib
 from typing import Callable, Iterator, List, Optional
 
-from ..lines import Lines, read_first
-from ..printed import bounded
-from ..program import Process
-from ..sources import Input, Source, size_of
-from ..tasks import modes
-from ..texts import begins_with_offset, offset_at
+from .lines import Lines, read_first
+from .printed import bounded
+from .program import Process
+from .sources import Input, Source, size_of
+from .tasks import modes
+from .texts import FRAME_BEGINS, FRAME_SIZE, begins_with_offset, offset_at
 
 __all__ = ['First', 'first_of']
 
@@ -18,9 +18,6 @@ __all__ = ['First', 'first_of']
 MOST_FIRST = 2_000_000
 # A listing has at most so many lines behind its opcodes.
 _CLOSING = 4
-# How the line of a FRAME goes on behind the offset. The opcode has a byte, and its argument eight.
-_OF_FRAME = b': \\x95 '
-_FRAME_SIZE = 9
 
 
 class First:
@@ -79,17 +76,17 @@ def _first_length(given: Input, words: List[str], progress: Callable[[str], None
 def _before_frame(given: Input, lines: Lines, at: int) -> int:
     """The line of the FRAME in whose frame the opcode of a line is; this line itself where the opcode is in no frame."""
     text, end = lines.text, lines.start(at)
-    found = text.rfind(_OF_FRAME, 0, end)
+    found = text.rfind(FRAME_BEGINS, 0, end)
     while found >= 0:
         start = text.rfind(b'\n', 0, found) + 1
         if text.index(b':', start) == found:  # (else it stands in a text)
             offset = offset_at(text, start)
-            is_inside = offset_at(text, end) < offset + _FRAME_SIZE + _frame_length(given, offset)
+            is_inside = offset_at(text, end) < offset + FRAME_SIZE + _frame_length(given, offset)
             return lines.number_at(start) if is_inside else at
-        found = text.rfind(_OF_FRAME, 0, found)
+        found = text.rfind(FRAME_BEGINS, 0, found)
     return at
 
 
 def _frame_length(given: Input, offset: int) -> int:
     """The argument of the FRAME at an offset."""
-    return int.from_bytes(next(given.blocks(offset + 1))[:_FRAME_SIZE - 1], 'little')
+    return int.from_bytes(next(given.blocks(offset + 1))[:FRAME_SIZE - 1], 'little')
