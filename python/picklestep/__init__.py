@@ -19,6 +19,7 @@ __all__ = ['Again', 'Answer', 'Argument', 'Brief', 'Briefs', 'Call', 'Calls', 'C
 
 TYPE_CHECKING = False  # (`typing` would be an import)
 if TYPE_CHECKING:
+    from typing import Any, Callable
     from .addresses import FoundPickle, FoundPickles, pickles_in
     from .answers import Answer, Calls, Listing, Objects, Part, Reached
     from .assembling import assemble
@@ -75,17 +76,20 @@ def check_python() -> None:
         raise ImportError('picklestep needs Python 3.8 or later')
 
 
-def __getattr__(name: str) -> object:
-    """What is public, from the module that has it."""
-    if name in __all__:
-        check_python()
-        from importlib import import_module
-        for module, names in _MODULES.items():
+def lazily(module: 'dict[str, Any]', modules: 'dict[str, tuple[str, ...]]') -> 'tuple[Callable[[str], object], Callable[[], list[str]]]':
+    """The `__getattr__` and the `__dir__` of a package, by its globals and by which of its modules have which public names."""
+    def __getattr__(name: str) -> object:
+        for under, names in modules.items():
             if name in names:
-                globals()[name] = getattr(import_module(f'{__name__}.{module}'), name)
-                return globals()[name]
-    raise AttributeError(f'module {__name__!r} has no attribute {name!r}')
+                check_python()
+                from importlib import import_module
+                module[name] = getattr(import_module(f'{module["__name__"]}.{under}'), name)
+                return module[name]
+        raise AttributeError(f'module {module["__name__"]!r} has no attribute {name!r}')
+
+    def __dir__() -> 'list[str]':
+        return sorted({*module, *(name for names in modules.values() for name in names)})
+    return __getattr__, __dir__
 
 
-def __dir__() -> 'list[str]':
-    return sorted({*globals(), *__all__})
+__getattr__, __dir__ = lazily(globals(), _MODULES)

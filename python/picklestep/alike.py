@@ -46,12 +46,24 @@ class Labels:
 
     def __init__(self) -> None:
         self._labels: Dict[Tuple[Any, ...], int] = {}  # by what makes them
+        self._texts: Dict[str, int] = {}  # those of texts, which are most
         self._known: Dict[int, int] = {}  # of containers, by their identity
-        self._plain: Set[int] = set()
+        self._inexact: Set[int] = set()
+        self._count = 0
 
-    def is_plain(self, label: int) -> bool:
+    @staticmethod
+    def is_plain(label: int) -> bool:
         """Whether values with a label are plain values, names, or tuples and frozen sets of them."""
-        return label in self._plain
+        return label < 0
+
+    def is_exact(self, label: int) -> bool:
+        """Whether values with a label differ in nothing that is compared. (Of pairs that a call was given the order is not in its label.)"""
+        return label not in self._inexact
+
+    def are_same(self, one: Any, other: Any) -> bool:
+        """Whether it is known of two containers that they differ in nothing."""
+        label = self._known.get(id(one))
+        return label is not None and label == self._known.get(id(other)) and self.is_exact(label)
 
     def of(self, values: Values, value: Any) -> int:
         """The label of a value; of a Ref that of its object."""
@@ -62,19 +74,29 @@ class Labels:
             self._follow(values, value)
         return self._known[id(value)]
 
-    def _label(self, *parts: Any) -> int:
-        return self._labels.setdefault(parts, len(self._labels))
+    def _label(self, parts: Tuple[Any, ...], is_plain: bool = False, is_exact: bool = True) -> int:
+        """The label of what is made so, which is below 0 where that is plain."""
+        label = self._labels.get(parts)
+        if label is None:
+            label = self._labels[parts] = self._next(is_plain)
+            if not is_exact:
+                self._inexact.add(label)
+        return label
+
+    def _next(self, is_plain: bool) -> int:
+        self._count += 1
+        return -self._count if is_plain else self._count
 
     def _of_plain(self, value: Any) -> int:
         kind = type(value)
+        if kind is str:
+            label = self._texts.get(value)
+            if label is None:
+                label = self._texts[value] = self._next(is_plain=True)
+            return label
         # (a pickle can choose numbers of one hash, and no texts)
-        text = value if kind is str else literal(value) if kind is float else f'{value:x}' if kind is int else bytes(value) if kind is bytearray else value
-        key = value.kind if kind is Unread else kind, text
-        label = self._labels.get(key)
-        if label is None:
-            label = self._label(*key)
-        self._plain.add(label)
-        return label
+        text = literal(value) if kind is float else f'{value:x}' if kind is int else bytes(value) if kind is bytearray else value
+        return self._label((value.kind if kind is Unread else kind, text), is_plain=True)
 
     def _follow(self, values: Values, first: Any) -> None:
         """Labels a container and all in it, those first that hold no others. (Tarjan's way to find which hold one another.)"""
@@ -83,20 +105,25 @@ class Labels:
         waiting: List[Any] = []
         path: List[Tuple[Any, Iterator[Any]]] = []
 
-        def enter(value: Any) -> None:
+        def enter(value: Any) -> bool:
+            unknown = [part for part in map(values.of, inside(value)) if type(part) not in _PLAIN and _has_inside(part) and id(part) not in self._known]
+            if not unknown:
+                self._known[id(value)] = self._of_container(values, value, {})
+                return False
             order[id(value)] = lowest[id(value)] = len(order)
             waiting.append(value)
-            path.append((value, iter(inside(value))))
+            path.append((value, iter(unknown)))
+            return True
         enter(first)
         while path:
             value, rest = path[-1]
-            for part in map(values.of, rest):
-                if not _has_inside(part) or id(part) in self._known:
+            for part in rest:
+                if id(part) in self._known:
                     continue
-                if id(part) not in order:
-                    enter(part)
+                if id(part) in order:
+                    lowest[id(value)] = min(lowest[id(value)], order[id(part)])
+                elif enter(part):
                     break
-                lowest[id(value)] = min(lowest[id(value)], order[id(part)])
             else:
                 path.pop()
                 if path:
@@ -112,7 +139,7 @@ class Labels:
         if len(together) == 1 and all(values.of(part) is not together[0] for part in inside(together[0])):
             self._known[id(together[0])] = self._of_container(values, together[0], {})
             return
-        found = dict.fromkeys(map(id, together), self._label('holds itself'))
+        found = dict.fromkeys(map(id, together), self._label(('holds itself',), is_exact=False))
         for _ in range(_LEVELS):
             found = {id(value): self._of_container(values, value, found) for value in together}
         self._known.update(found)
@@ -121,18 +148,21 @@ class Labels:
         """The label of a container by those of what it holds, some of which are only found for now."""
         parts = []
         for part in map(values.of, inside(value)):
-            label = found.get(id(part)) if _has_inside(part) else self._of_plain(part)
-            parts.append(self._known[id(part)] if label is None else label)
+            if type(part) in _PLAIN or not _has_inside(part):
+                parts.append(self._of_plain(part))
+            else:
+                label = found.get(id(part))
+                parts.append(self._known[id(part)] if label is None else label)
         kind = type(value)
+        is_exact = self._inexact.isdisjoint(parts)
         if kind is Call:
             at = len(parts) - 2 * len(value.pairs)
-            return self._label(kind, value.how, len(value.items), len(value.states), *parts[:at], *_in_pairs(parts[at:]))
+            made_by = (kind, value.how, len(value.items), len(value.states), *parts[:at], *_in_pairs(parts[at:]))
+            return self._label(made_by, is_exact=is_exact and len(value.pairs) < 2)
         if kind is dict:
-            return self._label(kind, *_in_pairs(parts))
-        label = self._label(kind, *(sorted(parts) if kind in (set, frozenset) else parts))
-        if kind in (tuple, frozenset) and self._plain.issuperset(parts):
-            self._plain.add(label)
-        return label
+            return self._label((kind, *_in_pairs(parts)), is_exact=is_exact)
+        is_plain = kind in (tuple, frozenset) and max(parts, default=-1) < 0
+        return self._label((kind, *(sorted(parts) if kind in (set, frozenset) else parts)), is_plain, is_exact)
 
 
 class Compared:

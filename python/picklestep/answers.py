@@ -6,12 +6,14 @@ import abc
 from array import array
 from functools import cached_property
 from itertools import chain, islice
-from typing import Any, ClassVar, Dict, Iterator, List, Optional, Sequence, Tuple, TypeVar, Union, overload
+from typing import TYPE_CHECKING, Any, ClassVar, Dict, Iterator, List, Optional, Sequence, Tuple, TypeVar, Union, overload
 
 from . import held, listed, made, reaches
 from .hints import Watch
-from .listing_records import Object, Opcode
 from .records import End, Reach
+
+if TYPE_CHECKING:
+    from .listing_records import Object, Opcode
 
 __all__ = ['Answer', 'Calls', 'Line', 'Listing', 'Objects', 'Part', 'Reached']
 
@@ -142,7 +144,7 @@ class _OfLines(Answer[Line]):
         return lines, max(0, self.json.count(b'\n') + len(self._printed_of(self._end)) - 1 - len(lines))
 
 
-class Listing(_OfLines[Opcode]):
+class Listing(_OfLines['Opcode']):
     """The opcodes of a pickle.
 
     >>> import picklestep
@@ -209,7 +211,7 @@ class Listing(_OfLines[Opcode]):
         return f'{len(self)} opcodes, {self.end.text}'
 
 
-class Objects(_OfLines[Object]):
+class Objects(_OfLines['Object']):
     """The objects that a pickle makes.
 
     >>> import picklestep

@@ -2,6 +2,7 @@
 
 from __future__ import annotations
 
+import operator
 import os
 import sys
 from dataclasses import dataclass
@@ -11,10 +12,12 @@ from typing import Any, Dict, Iterator, List, Optional, Sequence, Tuple, Union
 
 from .aligning import Steps, aligned, gaps
 from .alike import CONTAINERS, Compared, Labels, inside, is_held, paired
+from .collector import without_collector
+from .heaps import Heap
 from .literals import literal
 from .records import Extension, Global, Ref
 from .sources import Source
-from .trees import Call, Values, objects_to_stop, values
+from .trees import Call, Reading, Values, objects_to_stop, read, values_of_both
 from .values import Unread
 
 __all__ = ['Comparison', 'Difference', 'compare', 'has_same_bytes', 'shown_line', 'shown_pair', 'shown_value']
@@ -63,6 +66,7 @@ class Difference:
         return f'{path}: {self.old} -> {self.new}' if self.how == 'changed' else f'{path}: {self.how} {self.old}{self.new}'
 
 
+@without_collector()
 def compare(old: Source, new: Source, *, many: bool = False, unframed: bool = False, timeout: Optional[float] = None,
             memory: Optional[int] = None) -> List[Difference]:
     r"""What two pickles differ in, in the order of the paths that lead there: none where the results are equal.
@@ -81,7 +85,8 @@ def compare(old: Source, new: Source, *, many: bool = False, unframed: bool = Fa
     if has_same_bytes(old, new):
         objects_to_stop(old, many, unframed, timeout, memory)
         return []
-    return list(Comparison(*(values(source, many, unframed, timeout, memory) for source in (old, new))).of_results())
+    first = read(old, many, unframed, timeout, memory, Heap.of())
+    return list(Comparison(first, read(new, many, unframed, timeout, memory, first.heap)).of_results())
 
 
 def has_same_bytes(old: Source, new: Source) -> bool:
@@ -127,10 +132,8 @@ class _Words(str):
 class Comparison:
     """Two pickles. What was compared already is not compared again: no difference is given twice."""
 
-    def __init__(self, old: Tuple[Values, Any], new: Tuple[Values, Any]) -> None:
-        """Each of them is what `values` answers of a pickle."""
-        self._old, self._old_result = old
-        self._new, self._new_result = new
+    def __init__(self, old: Reading, new: Reading) -> None:
+        (self._old, self._old_result), (self._new, self._new_result) = values_of_both(old, new)
         self._labels = Labels()
         self._compared = Compared(_MANY * (len(self._old) + len(self._new)))
         self._steps = Steps.for_items(len(self._old) + len(self._new))
@@ -160,7 +163,7 @@ class Comparison:
             elif type(one) is not type(other) or not (isinstance(one, CONTAINERS) or is_held(one) and is_held(other)):
                 if type(one) is not type(other) or not _is_same(one, other):
                     yield Difference(_words(path), 'changed', *shown_pair(one, other))
-            elif compared.is_new(one, other):
+            elif one is not other and not self._labels.are_same(one, other) and compared.is_new(one, other):
                 left += [((path, step), first, second) for step, first, second in reversed(list(self._inside(one, other)))]
 
     def _inside(self, one: Any, other: Any) -> Iterator[_Step]:
@@ -191,14 +194,23 @@ class Comparison:
 
     def _in_lists(self, one: Sequence[Any], other: Sequence[Any]) -> Iterator[_Step]:
         """Items are compared with those that they stand for."""
-        begin, end, other_end = _between(one, other)
+        begin, end, other_end = self._between(one, other)
         first, second = one[begin:end], other[begin:other_end]
         labels = [self._old_label(each) for each in first], [self._new_label(each) for each in second]
         for lefts, rights, same in gaps(aligned(*labels, self._steps), len(first), len(second)):
             for at, to in self._in_gap(first, second, lefts, rights):
                 yield (f'[{begin + (to or 0 if at is None else at)}]', _ABSENT if at is None else first[at], _ABSENT if to is None else second[to])
-            if same is not None and not self._labels.is_plain(labels[0][same[0]]):
+            if same is not None and not self._labels.is_exact(labels[0][same[0]]):
                 yield f'[{begin + same[0]}]', first[same[0]], second[same[1]]
+
+    def _between(self, one: Sequence[Any], other: Sequence[Any]) -> Tuple[int, int, int]:
+        """Where that ends with which both begin, and where that begins in both with which both end: plain values, and then what both share."""
+        begin = _same_at_begin(one, other, 0, len(one), len(other))
+        end, other_end = _same_at_end(one, other, begin, len(one), len(other))
+        begin = _same_at_begin(one, other, begin, end, other_end, is_shared=True)
+        if begin < min(end, other_end) and self._old_label(one[begin]) != self._new_label(other[begin]):  # (else these come first)
+            end, other_end = _same_at_end(one, other, begin, end, other_end, is_shared=True)
+        return begin, end, other_end
 
     def _in_gap(self, one: Sequence[Any], other: Sequence[Any], lefts: range, rights: range) -> Iterator[Tuple[Optional[int], Optional[int]]]:
         """The places of items of which none is in both: those of one kind, and then what is left, in their order."""
@@ -273,29 +285,36 @@ class Comparison:
         return ': '.join(self._shown(part, is_new) for part in pair)
 
 
-def _between(one: Sequence[Any], other: Sequence[Any]) -> Tuple[int, int, int]:
-    """Where plain values end with which both begin, and where those begin in both with which both end."""
-    begin, end, other_end = 0, len(one), len(other)
-    while begin < min(end, other_end) and _are_exactly_same(one[begin:begin + _AT_ONCE], other[begin:begin + _AT_ONCE]):
+def _same_at_begin(one: Sequence[Any], other: Sequence[Any], begin: int, end: int, other_end: int, is_shared: bool = False) -> int:
+    """Where plain values end with which both begin, or these and objects that both share."""
+    most = min(end, other_end)
+    while begin < most and _are_exactly_same(one[begin:begin + _AT_ONCE], other[begin:begin + _AT_ONCE], is_shared):
         begin += _AT_ONCE
-    begin = min(begin, end, other_end)
-    while min(end, other_end) - begin >= _AT_ONCE and _are_exactly_same(one[end - _AT_ONCE:end], other[other_end - _AT_ONCE:other_end]):
-        end, other_end = end - _AT_ONCE, other_end - _AT_ONCE
-    while begin < end and begin < other_end and _is_plainly_same(one[begin], other[begin]):
+    begin = min(begin, most)
+    while begin < most and _is_plainly_same(one[begin], other[begin], is_shared):
         begin += 1
-    while begin < end and begin < other_end and _is_plainly_same(one[end - 1], other[other_end - 1]):
+    return begin
+
+
+def _same_at_end(one: Sequence[Any], other: Sequence[Any], begin: int, end: int, other_end: int, is_shared: bool = False) -> Tuple[int, int]:
+    """Where the same begin in both with which both end."""
+    while min(end, other_end) - begin >= _AT_ONCE and _are_exactly_same(one[end - _AT_ONCE:end], other[other_end - _AT_ONCE:other_end], is_shared):
+        end, other_end = end - _AT_ONCE, other_end - _AT_ONCE
+    while begin < end and begin < other_end and _is_plainly_same(one[end - 1], other[other_end - 1], is_shared):
         end, other_end = end - 1, other_end - 1
-    return begin, end, other_end
+    return end, other_end
 
 
-def _are_exactly_same(one: Sequence[Any], other: Sequence[Any]) -> bool:
-    """Whether these are the same plain values, as Python tells at once; it does not of floats."""
+def _are_exactly_same(one: Sequence[Any], other: Sequence[Any], is_shared: bool) -> bool:
+    """Whether these are the same plain values, as Python tells at once; it does not of floats. Or whether both share them all."""
+    if is_shared and len(one) == len(other) and all(map(operator.is_, one, other)):
+        return True
     kinds = list(map(type, one))
     return _EXACT.issuperset(kinds) and kinds == list(map(type, other)) and one == other
 
 
-def _is_plainly_same(one: Any, other: Any) -> bool:
-    return type(one) is type(other) and type(one) in _PLAIN and _is_same(one, other)
+def _is_plainly_same(one: Any, other: Any, is_shared: bool) -> bool:
+    return is_shared and one is other or type(one) is type(other) and type(one) in _PLAIN and _is_same(one, other)
 
 
 def _kind(value: Any) -> Any:

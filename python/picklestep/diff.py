@@ -14,22 +14,24 @@ from .addresses import given
 from .aligning import Steps, aligned, gaps
 from .alike import paired
 from .answers import Calls
+from .collector import without_collector
 from .comparing import Comparison, Difference, has_same_bytes, shown_line, shown_pair, shown_value
 from .errors import NoResult, PicklestepError, reason
+from .heaps import Heap
 from .listing_records import Opcode
 from .printing import print_text
 from .records import Reach
 from .sources import Source, rereadable, size_of
 from .tasks import calls, frames, listing
 from .texts import renumbered
-from .trees import Values, objects_to_stop, values
+from .trees import Reading, objects_to_stop, read
 from .waiting import Waiting
 from .wording import shown
 
 __all__ = ['main', 'of_opcodes', 'of_reaches']
 
 _BLOCK = 1 << 20
-_SECONDS = 6  # (that a million bytes take)
+_SECONDS = 3  # (that a million bytes take)
 _MADE = ' as #'
 # What is said of bytes that differ, where their opcodes and arguments do not.
 _SPELLINGS = 'opcodes: the same, with arguments that are spelled otherwise'
@@ -62,12 +64,13 @@ def told(size: int) -> str:
     """What is told of a comparison of pickles of so many bytes that takes more than a minute; nothing of another.
 
     >>> told(1_000_000), told(240_000_000)
-    ('', 'comparing, which may take 24 minutes')
+    ('', 'comparing, which may take 12 minutes')
     """
     minutes = size * _SECONDS / 60_000_000
     return f'comparing, which may take {minutes:.0f} minutes' if minutes > 1 else ''
 
 
+@without_collector()
 def _lines(options: argparse.Namespace, progress: Callable[[str], None]) -> List[str]:
     """A line for each difference."""
     old, new = (rereadable(given(name)[0]) for name in (options.old, options.new))
@@ -75,16 +78,17 @@ def _lines(options: argparse.Namespace, progress: Callable[[str], None]) -> List
         _named(options.old, lambda: objects_to_stop(old, options.many, options.unframed))
         return []
     progress(told(max(size_of(old), size_of(new))) or 'comparing')
-    comparison = Comparison(_values(options.old, old, options), _values(options.new, new, options))
+    first = _read(options.old, old, options, Heap.of())
+    comparison = Comparison(first, _read(options.new, new, options, first.heap))
     lines = [*map(str, comparison.of_results()), *of_reaches(old, new, options.unframed, comparison, options.full)]
     lines += of_opcodes(old, new, options.many, options.unframed) if options.opcodes else []
     lines += [] if options.many else _of_what_is_behind(old, new, options.unframed)
     return lines or [_SPELLINGS] * options.opcodes
 
 
-def _values(name: str, pickle: Source, options: argparse.Namespace) -> Tuple[Values, Any]:
+def _read(name: str, pickle: Source, options: argparse.Namespace, like: Heap) -> Reading:
     """What is compared of a pickle."""
-    return _named(name, lambda: values(pickle, options.many, options.unframed, None, None))
+    return _named(name, lambda: read(pickle, options.many, options.unframed, like=like))
 
 
 def _named(name: str, ask: Callable[[], _T]) -> _T:

@@ -20,7 +20,7 @@ _HEAD, _TAIL = '{"kind":"object","object":', ',"is":"'
 _TAIL_BEGINS, _TAIL_BETWEEN = '{"is":"', ',{"is":"'
 # What is before the number of what is put into a container, in one and the same way.
 _PUT, _BETWEEN = {'list': '{"kind":"append","value":', 'set"': '{"kind":"add","value":', 'dict': '{"kind":"set","key":'}, ',"value":'
-_PARTS, _CHANGES = ',"parts":[', ',"changes":['
+_PARTS, _CHANGES, _ENDS = ',"parts":[', ',"changes":[', '}]}'
 # How each number came into an object that was made before.
 APPENDED, ADDED, STATE, KEY, VALUE = b'+', b'&', b'!', b'[', b'='
 _SIGNS = {'append': APPENDED, 'add': ADDED, 'state': STATE, 'set': KEY + VALUE}
@@ -82,13 +82,12 @@ def flat(tail: str) -> str:
     'list","changes":[{"kind":"state","value":4}]}'
     """
     sign = _PUT.get(tail[:4])
-    if sign is None:
+    at = -1 if sign is None else tail.find(_CHANGES)
+    begin = at + len(_CHANGES)
+    if sign is None or at < 0 or not tail.startswith(sign, begin):
         return tail
-    numbers = tail.replace(sign, '')
-    if '{' in numbers or len(numbers) == len(tail):
-        return tail
-    numbers = numbers.replace('}', '').replace('"changes":', '"put":')
-    return f'{numbers.replace(_BETWEEN, ",")}}}' if tail.startswith('d') else f'{numbers}}}'
+    numbers = tail[begin + len(sign):-len(_ENDS)].replace(f'}},{sign}', ',').replace(_BETWEEN, ',')
+    return tail if '{' in numbers else f'{tail[:at]},"put":[{numbers}]}}'
 
 
 # --- What objects hold ---

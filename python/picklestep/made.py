@@ -5,11 +5,14 @@ An object of such a line is called its fields here, as in `listed`. `held` reads
 
 from __future__ import annotations
 
-from typing import Any, Iterable, Iterator, List, Optional, Tuple
+from functools import lru_cache
+from typing import TYPE_CHECKING, Any, Iterable, Iterator, List, Optional, Tuple, Type
 
 from .listed import Fields, argument_of, fields_in, fields_of, shown_argument, starts_in, whole_lines, words_of
-from .listing_records import Change, Object
 from .records import Argument, End
+
+if TYPE_CHECKING:
+    from .listing_records import Change, Object
 
 __all__ = ['OBJECT', 'Fields', 'end_of', 'given', 'line_of', 'made_in', 'object_of', 'printed', 'results_in']
 
@@ -24,7 +27,7 @@ def object_of(fields: Fields) -> Object:
     >>> object_of({'object': 3, 'is': 'list', 'parts': [1], 'changes': [{'kind': 'append', 'value': 4}]})
     Object(number=3, kind='list', text=None, parts=(1,), changes=(Change(how='append', value=4, key=None),))
     """
-    return Object(fields['object'], fields['is'], given(fields), tuple(fields.get('parts', ())), tuple(map(_change, fields.get('changes', ()))))
+    return _records()[0](fields['object'], fields['is'], given(fields), tuple(fields.get('parts', ())), tuple(map(_change, fields.get('changes', ()))))
 
 
 def given(fields: Fields) -> Argument:
@@ -33,7 +36,13 @@ def given(fields: Fields) -> Argument:
 
 
 def _change(fields: Fields) -> Change:
-    return Change(fields['kind'], fields['value'], fields.get('key'))
+    return _records()[1](fields['kind'], fields['value'], fields.get('key'))
+
+
+@lru_cache(maxsize=None)
+def _records() -> Tuple[Type[Object], Type[Change]]:
+    from .listing_records import Change, Object  # (who asks for imports and calls needs none)
+    return Object, Change
 
 
 def made_in(blocks: Iterable[bytes]) -> Iterator[List[Fields]]:
@@ -52,7 +61,8 @@ def results_in(lines: bytes) -> Tuple[int, ...]:
     >>> results_in(b'{"kind":"object","object":0,"is":"none"}\\n{"kind":"result","object":0}\\n{"kind":"end","how":"stopped"}\\n')
     (0,)
     """
-    return tuple(int(fields_of(lines[at:lines.index(b'\n', at)])['object']) for at in starts_in(lines, _RESULT))
+    last = lines[max(0, lines.rfind(OBJECT)):]  # (they stand behind all objects)
+    return tuple(int(fields_of(last[at:last.index(b'\n', at)])['object']) for at in starts_in(last, _RESULT))
 
 
 def end_of(fields: Fields, refused_at: Optional[int]) -> End:

@@ -5,25 +5,25 @@ from __future__ import annotations
 import sys
 from collections import Counter
 from dataclasses import dataclass, field
-from typing import Any, Callable, Dict, Iterable, Iterator, List, NamedTuple, Optional, Sequence, Tuple, Union
+from typing import AbstractSet, Any, Callable, Dict, Iterator, List, NamedTuple, Optional, Sequence, Tuple, Union
 
 from _compat_pickle import IMPORT_MAPPING, NAME_MAPPING
 
-from . import made as lines
 from .addresses import opened_in
 from .answers import Objects
 from .changes import changed
+from .collector import without_collector
 from .errors import NoResult
-from .held import fields_of_tails, flat
+from .heaps import FILLED, Filled, Heap, heap_of, plain_value, same_in
 from .hints import OF_FRAMES
 from .listing_records import Object
 from .program import check_timeout
 from .records import Extension, Global, Name, Ref
 from .sources import Source, is_fifo, rereadable
 from .tasks import calls, frames, objects
-from .values import PLAIN_KINDS, Argument, Unread, kind_value
+from .values import PLAIN_KINDS, Argument
 
-__all__ = ['Call', 'Values', 'objects_to_stop', 'tree', 'values']
+__all__ = ['Call', 'Reading', 'Values', 'objects_to_stop', 'read', 'tree', 'values', 'values_of_both']
 
 _SLOTS: Dict[str, Any] = {'slots': True} if sys.version_info >= (3, 10) else {}
 
@@ -51,48 +51,40 @@ class Call:
     states: List[Any] = field(default_factory=list)
 
 
-class Plain(NamedTuple):
-    """A plain value that nothing changes. Many objects are the same one."""
-
-    value: Any
-
-
-class Filled(NamedTuple):
-    """A list, a set or a dictionary by the numbers of what it holds; in a dictionary keys and values take turns."""
-
-    kind: str
-    held: Sequence[int]
-
-
-# An object as it is made into a value.
-Made = Union[Plain, Filled, Object]
-
-
 class Values:
     """The values of objects, the parts of each before the object."""
 
-    def __init__(self, heap: Sequence[Made], names: Callable[[], Dict[int, Name]] = dict) -> None:
-        """`names` answers what is imported for names of Python 2, by the numbers of their objects, where there may be some."""
+    def __init__(self, heap: Heap, names: Callable[[], Dict[int, Name]] = dict, like: Optional[Values] = None, shared: AbstractSet[int] = frozenset()) -> None:
+        """`names` answers what is imported for names of Python 2, by the numbers of their objects, where there may be some. Those that are shared are
+        taken from other values, which they are like."""
         self._ask_names = names
         self._names: Optional[Dict[int, Name]] = None
-        self._values: List[Any] = []
+        self._values = heap.plain[:]
         # Of tuples and frozen sets; of all else a depth is 0, and a size 1.
         self._depths: Dict[int, int] = {}
         self._sizes: Dict[int, int] = {}
         self._members: Dict[int, List[int]] = {}  # of sets, by their identity
-        for number, made in enumerate(heap):
-            if isinstance(made, Plain):
-                self._values.append(made.value)
-                continue
+        if like is not None:
+            self._share(like, shared)
+        own = {number: made for number, made in heap.made.items() if number not in shared}
+        for number, made in own.items():
             if isinstance(made, Object) and made.kind in ('tuple', 'frozenset'):
                 self._depths[number] = 1 + max([self._depths.get(part, 0) for part in made.parts], default=0)
                 self._sizes[number] = min(_MOST_SIZE, sum([self._sizes.get(part, 1) for part in made.parts])) + 1
-            self._values.append(_FILLED[made.kind]() if isinstance(made, Filled) else self._made(made))
-        for number, made in enumerate(heap):
+            self._values[number] = FILLED[made.kind]() if isinstance(made, Filled) else self._made(made)
+        for number, made in own.items():
             if isinstance(made, Filled):
                 self._hold(self._values[number], made.kind, made.held)
-            elif not isinstance(made, Plain):
+            else:
                 self._fill(self._values[number], made)
+
+    def _share(self, like: Values, shared: AbstractSet[int]) -> None:
+        """Takes objects from other values."""
+        for number in shared:
+            self._values[number] = like.at(number)
+        self._depths.update((number, depth) for number, depth in like._depths.items() if number in shared)
+        self._sizes.update((number, size) for number, size in like._sizes.items() if number in shared)
+        self._members.update(like._members)
 
     def __len__(self) -> int:
         return len(self._values)
@@ -112,9 +104,9 @@ class Values:
     def _made(self, made: Object) -> Any:
         """An object as it was made. What goes into a list, a set or a dictionary comes later, as does what was done to an object."""
         if made.kind in PLAIN_KINDS:
-            return _plain(made.kind, made.text)
-        if made.kind in _FILLED:
-            return _FILLED[made.kind]()
+            return plain_value(made.kind, made.text)
+        if made.kind in FILLED:
+            return FILLED[made.kind]()
         parts = [self._values[part] for part in made.parts]
         if made.kind == 'tuple':
             return tuple(parts)
@@ -170,7 +162,9 @@ class Values:
     def _keys(self, numbers: Sequence[int]) -> List[Any]:
         """Objects as keys of a dictionary or members of a set. Those are their numbers whose hash many others have: a pickle can choose whole numbers
         so, and Python would compare each with all others."""
-        keys = list(map(self._key, numbers))
+        keys = list(map(self._values.__getitem__, numbers))
+        if not _HASHED.issuperset(map(type, keys)):
+            keys = list(map(self._key, numbers))
         if len(keys) <= _MOST_ALIKE:
             return keys
         counts = Counter(map(hash, keys))
@@ -189,7 +183,7 @@ class Values:
             changed(value, made, self.at, self.at)
         elif made.kind == 'frozenset':
             self._members[id(value)] = list(made.parts)
-        elif made.kind in _FILLED:
+        elif made.kind in FILLED:
             self._hold(value, made.kind, changed(list(made.parts), made, self.at))
 
     def _hold(self, value: Any, kind: str, held: Sequence[int]) -> None:
@@ -203,8 +197,8 @@ class Values:
             self._members[id(value)] = list(held)
 
 
-_FILLED: Dict[str, Any] = {'list': list, 'dict': dict, 'set': set}
-
+# Types of values that have a hash, whatever they are.
+_HASHED = frozenset((int, float, str, bytes, bool, type(None)))
 # (Python's hash of a tuple asks its items, which ask theirs, each time anew: too many levels would end the interpreter, and a tuple that has one
 # item twice, fifty levels deep, would never be done.)
 _MOST_DEPTH = 50
@@ -236,8 +230,24 @@ def objects_to_stop(pickle: Source, many: bool, unframed: bool, timeout: Optiona
     return answer
 
 
-def values(pickle: Source, many: bool, unframed: bool, timeout: Optional[float], memory: Optional[int]) -> Tuple[Values, Any]:
-    """The values of all objects, and what `tree` answers."""
+class Reading(NamedTuple):
+    """What is read of a pickle: its objects, the numbers of its results, whether these are all asked for, and who answers what is imported for names of
+    Python 2, by the numbers of their objects."""
+
+    heap: Heap
+    results: Sequence[int]
+    many: bool
+    names: Callable[[], Dict[int, Name]]
+
+    def result(self, made: Values) -> Any:
+        """What `tree` answers."""
+        results = [made.at(number) for number in self.results]
+        return results if self.many else results[0]
+
+
+@without_collector()
+def read(pickle: Source, many: bool, unframed: bool, timeout: Optional[float] = None, memory: Optional[int] = None, like: Optional[Heap] = None) -> Reading:
+    """Reads a pickle, which is compared with one that is like it, if there is one. Raises NoResult where reading ended before its STOP."""
     check_timeout(timeout)
     opened = opened_in(pickle)
     pickle = pickle if opened is None else opened.content
@@ -248,46 +258,33 @@ def values(pickle: Source, many: bool, unframed: bool, timeout: Optional[float],
     def names() -> Dict[int, Name]:
         reaches = calls(pickle, first=not many, skip=frames(pickle, many) if unframed else (), timeout=timeout, memory=memory)
         return {reach.number: reach.name for reach in reaches if reach.said and reach.name and reach.number is not None}
-    made = Values(list(_heap_of(answer)), names)
-    results = [made.at(number) for number in answer.results]
-    return made, results if many else results[0]
+    return Reading(heap_of(answer, like), answer.results, many, names)
 
 
+@without_collector()
+def values(pickle: Source, many: bool, unframed: bool, timeout: Optional[float], memory: Optional[int]) -> Tuple[Values, Any]:
+    """The values of all objects, and what `tree` answers."""
+    reading = read(pickle, many, unframed, timeout, memory)
+    made = Values(reading.heap, reading.names)
+    return made, reading.result(made)
+
+
+@without_collector()
+def values_of_both(old: Reading, new: Reading) -> Tuple[Tuple[Values, Any], Tuple[Values, Any]]:
+    """The same of two pickles. What is the same in both is the same object."""
+    made = Values(old.heap, old.names)
+    beside = Values(new.heap, new.names, made, same_in(new.heap, old.heap, _of_python_2(new.heap)))
+    return (made, old.result(made)), (beside, new.result(beside))
+
+
+def _of_python_2(heap: Heap) -> Iterator[int]:
+    """The numbers of imports of which the protocol, too, says what they are."""
+    for number, made in heap.made.items():
+        if isinstance(made, Object) and made.kind in _IMPORTS:
+            module = made.text[0] if isinstance(made.text, tuple) else heap.plain[made.parts[0]] if made.parts else None
+            if (module.encode('utf-8', 'surrogatepass') if isinstance(module, str) else module) in _RENAMED:
+                yield number
+
+
+_IMPORTS = frozenset(('global', 'stack-global', 'inst'))
 _RENAMED = frozenset(module.encode('ascii') for module in (*IMPORT_MAPPING, *(module for module, _ in NAME_MAPPING)))
-
-
-def _plain(kind: str, text: Argument) -> Any:
-    """The value of a plain object. Bytes that no loader makes a text of know what they were to be."""
-    value = kind_value(kind, text)
-    return Unread(value, kind) if isinstance(value, bytes) and kind != 'bytes' else value
-
-
-# So many plain values are kept at most behind some lines, and none behind lines of so many bytes.
-_MOST_KNOWN, _MOST_OF_LINES = 100_000, 4 << 20
-
-
-def _heap_of(answer: Objects) -> Iterator[Made]:
-    """The objects of an answer. A line that says the same of another object is read once."""
-    known: Dict[str, Plain] = {}
-    number = 0
-    for tails in answer.tails():
-        new = [tail for tail in dict.fromkeys(tails) if tail not in known]
-        others: Dict[str, lines.Fields] = {}
-        for tail, fields in zip(new, fields_of_tails(list(map(flat, new)))):
-            if fields['is'] in PLAIN_KINDS and fields['is'] != 'bytearray' and 'changes' not in fields:
-                known[tail] = Plain(_plain(fields['is'], lines.given(fields)))
-            else:
-                others[tail] = fields
-        for number, tail in enumerate(tails, number):
-            plain = known.get(tail)
-            yield _made_of(number, others[tail]) if plain is None else plain
-        number += len(tails) > 0
-        if len(known) > _MOST_KNOWN or sum(map(len, new)) > _MOST_OF_LINES:
-            known.clear()
-
-
-def _made_of(number: int, fields: lines.Fields) -> Made:
-    """An object that is no plain value, of its fields."""
-    if fields['is'] in _FILLED and 'changes' not in fields:
-        return Filled(fields['is'], [*fields.get('parts', ()), *fields.get('put', ())])
-    return lines.object_of({**fields, 'object': number})

@@ -9,7 +9,9 @@ Source: the list of `file` (archives, packed data, databases, file systems), and
 from __future__ import annotations
 
 import re
-from typing import TYPE_CHECKING, Dict, Optional
+from functools import lru_cache
+from itertools import chain
+from typing import TYPE_CHECKING, Dict, Iterable, List, Optional, Pattern, Tuple
 
 from .patterns import pattern
 
@@ -38,11 +40,11 @@ _SURE: Dict[str, bytes] = {
     'Avro': rb'Obj\x01',
     'pg_dump': rb'PGDMP\x01',
     'dump of Redis': rb'REDIS[0-9]{4}',
-    'append-only file of Redis': rb'(?:#TS:[0-9]{1,20}\r\n)?\*[1-9][0-9]{0,6}\r\n\$[1-9][0-9]{0,8}\r\n[A-Za-z]',
+    'append-only file of Redis': rb'\*[1-9][0-9]{0,6}\r\n\$[1-9][0-9]{0,8}\r\n[A-Za-z]|#TS:[0-9]{1,20}\r\n\*[1-9][0-9]{0,6}\r\n\$[1-9][0-9]{0,8}\r\n[A-Za-z]',
     'tdb': rb'TDB file\n',
     'LMDB': rb'.{16}\xde\xc0\xef\xbe',
     'dbm of BSD': rb'\x61\x15\x06\0|\0\x06\x15\x61',
-    'Berkeley DB of another kind': rb'.{12}(?:\x62\x31\x05\0|\0\x05\x31\x62|\x53\x22\x04\0|\0\x04\x22\x53)',
+    'Berkeley DB of another kind': rb'.{12}\x62\x31\x05\0|.{12}\0\x05\x31\x62|.{12}\x53\x22\x04\0|.{12}\0\x04\x22\x53',
     'write-ahead log of SQLite': rb'\x37\x7f\x06[\x82\x83]',
     'rollback journal of SQLite': rb'\xd9\xd5\x05\xf9\x20\xa1\x63\xd7',
     'ar': rb'!<(?:arch|thin)>\n',
@@ -63,7 +65,7 @@ _LONG: Dict[str, bytes] = {
     'zchunk': rb'\0ZCK1',
     'qpress': rb'qpress10',
     'UCL': rb'\0\xe9UCL\xff\x01\x1a',
-    'SZDD or KWAJ': rb'(?:SZDD|KWAJ|SZ )\x88\xf0',
+    'SZDD or KWAJ': rb'SZDD\x88\xf0|KWAJ\x88\xf0|SZ \x88\xf0',
     'blosc 2': rb'\x9e\xa8b2frame\0|blpk' + _SOON,
     # Archives
     'rpm': rb'\xed\xab\xee\xdb|drpm' + _SOON,
@@ -94,7 +96,7 @@ _LONG: Dict[str, bytes] = {
     'yEnc': rb'=ybegin ',
     'BinHex': rb'\(This file must be converted with BinHex',
     'partimage': rb'PaRtImAgE-VoLuMe',
-    'dump of a file system': rb'.{24}(?:[\x6b\x6c]\xea\0\0|\0\0\xea[\x6b\x6c]|\x19\x01\x54\x19|\x19\x54\x01\x19)|xFSdump0',
+    'dump of a file system': rb'.{24}[\x6b\x6c]\xea\0\0|.{24}\0\0\xea[\x6b\x6c]|.{24}\x19\x01\x54\x19|.{24}\x19\x54\x01\x19|xFSdump0',
     'EnCase': rb'[EL]VF\x09\r\n\xff\0',
     'PAR2': rb'PAR2\0PKT',
     'encrypted': rb'age-encryption\.org/v1\n|-----BEGIN (?:AGE ENCRYPTED FILE|PGP MESSAGE)-----|Salted__' + _SOON + rb'|LUKS\xba\xbe|\$ANSIBLE_VAULT;',
@@ -104,14 +106,14 @@ _LONG: Dict[str, bytes] = {
     'VirtualBox disk': rb'.{64}\x7f\x10\xda\xbe',
     'VHD': rb'conectix|vhdxfile',
     'table of partitions': rb'.{512}EFI PART|[\0\x31\x33\xe9-\xeb\xfa\xfc].{445}(?:[\0\x80].{15}){4}\x55\xaa',
-    'squashfs': rb'(?:hsqs|sqsh)' + _SOON,
+    'squashfs': rb'hsqs' + _SOON + rb'|sqsh' + _SOON,
     'cramfs': rb'\x45\x3d\xcd\x28|\x28\xcd\x3d\x45',
     'romfs': rb'-rom1fs-',
     'erofs': rb'.{1024}\xe2\xe1\xf5\xe0',
     'f2fs': rb'.{1024}\x10\x20\xf5\xf2',
     'ext2': rb'.{1080}\x53\xef[\0-\x07]\0[\x01-\x03]\0',
     'xfs': rb'XFSB\0',
-    'HFS+': rb'.{1024}(?:H\+\0\x04|HX\0\x05)',
+    'HFS+': rb'.{1024}H(?:\+\0\x04|X\0\x05)',
     'APFS': rb'.{32}NXSB\0',
     'UBI': rb'UBI#\x01\0\0\0|\x31\x18\x10\x06',
     'jffs2': rb'\x85\x19[\x01-\x03]\xe0|\x19\x85\xe0[\x01-\x03]',
@@ -138,7 +140,7 @@ _LONG: Dict[str, bytes] = {
     'Realm': rb'.{16}T-DB',
     'MySQL': rb'\xfebin|\xfe\xfe[\x03-\x0b][\0-\x0f]',
     'COPY of PostgreSQL': rb'PGCOPY\n\xff\r\n\0',
-    'ZODB': rb'(?:FS21|FS30|ZEC3)' + _SOON,
+    'ZODB': rb'FS(?:21|30)' + _SOON + rb'|ZEC3' + _SOON,
     'Lucene': rb'\x3f\xd7\x6c\x17',
     'KeePass': rb'\x03\xd9\xa2\x9a',
     'Java keys': rb'\xfe\xed\xfe\xed|\xce\xce\xce\xce\0\0\0',
@@ -169,7 +171,7 @@ _FILES: Dict[str, bytes] = {'pack, freeze or LZH': rb'\x1f[\x1e\x1f\x9e-\xa1]'}
 # Some bytes before the end, or at a place behind what is looked at first.
 _ENDS: Dict[str, bytes] = {
     'ORC': rb'\x82\xf4\x03\x03ORC.\Z',
-    'LevelDB or RocksDB': rb'(?:\x57\xfb\x80\x8b\x24\x75\x47\xdb|\xf7\xcf\xf4\x85\xb6\x41\xe2\x88|\x64\x95\xbf\x63\x96\x22\x42\x82)\Z',
+    'LevelDB or RocksDB': rb'\x57\xfb\x80\x8b\x24\x75\x47\xdb\Z|\xf7\xcf\xf4\x85\xb6\x41\xe2\x88\Z|\x64\x95\xbf\x63\x96\x22\x42\x82\Z',
     'dmg': rb'koly\0\0\0\x04.{504}\Z',
     'VHD': rb'conectix.{504}\Z',
 }
@@ -180,18 +182,90 @@ _SIZES_OF_ENDS = (512, 8)
 TAIL = max(_SIZES_OF_ENDS)
 
 
-def _one_of(*tables: Dict[str, bytes]) -> 're.Pattern[bytes]':
-    """A pattern of all kinds of some tables. It has no groups, and so most bytes are known at once to be none."""
-    return pattern(b'|'.join(sign for table in tables for sign in table.values()), re.DOTALL)
+# What a sign begins with: any bytes, so many of them, and then one of some.
+_ANY = pattern(rb'((?:\.(?:\{[0-9]+\})?)*)(\[[^\]]*\]|\\x..|\\.|[^.(\[\\])', re.DOTALL)
+_COUNT = pattern(rb'\.(?:\{([0-9]+)\})?')
+_RANGE = pattern(rb'(\\x..|\\.|.)(?:-(\\x..|\\.|.))?', re.DOTALL)
+# The parts of a sign that have none of its alternatives in them, and what stands between these.
+_PIECE = pattern(rb'\\.|\[[^\]]*\]|\((?:[^()\\\[]|\\.|\[[^\]]*\])*\)|[^|]', re.DOTALL)
+_Sign = Tuple[int, str, bytes]
 
 
-def _first_of(kinds: Dict[str, bytes], content: bytes, at: int = 0) -> Optional[str]:
-    """The first kind whose pattern fits, of those of a table."""
-    return next((kind for kind, sign in kinds.items() if re.compile(sign, re.DOTALL).match(content, at) is not None), None)
+class _Signs:
+    """The signs of some tables, by a byte that each has at a place. Nearly all bytes have the bytes of few of them there, and only these signs are
+    compiled."""
+
+    def __init__(self, *tables: Dict[str, bytes]) -> None:
+        self._tables = tables
+        self._at: Dict[int, Dict[int, List[_Sign]]] = {}
+
+    def first(self, content: bytes, begin: int = 0) -> Optional[str]:
+        """The first kind, in the order of the tables, one of whose signs fits what begins at a place."""
+        if not self._at:
+            self._sort()
+        found = [sign for at, by_byte in self._at.items() if begin + at < len(content) for sign in by_byte.get(content[begin + at], ())]
+        return next((kind for _, kind, sign in sorted(found) if _compiled(sign).match(content, begin) is not None), None)
+
+    def _sort(self) -> None:
+        at: Dict[int, Dict[int, List[_Sign]]] = {}
+        for number, (kind, signs) in enumerate((kind, signs) for table in self._tables for kind, signs in table.items()):
+            for sign in _alternatives(signs):
+                place, firsts = _begins_with(sign)
+                for byte in firsts:
+                    at.setdefault(place, {}).setdefault(byte, []).append((number, kind, sign))
+        self._at = at
+
+
+@lru_cache(maxsize=None)
+def _compiled(sign: bytes) -> Pattern[bytes]:
+    return re.compile(sign, re.DOTALL)
+
+
+def _alternatives(signs: bytes) -> List[bytes]:
+    """Those of which a sign is one.
+
+    >>> _alternatives(rb'a(?:b|c)[|]|d\\|e')
+    [b'a(?:b|c)[|]', b'd\\\\|e']
+    """
+    if b'|' not in signs:
+        return [signs]
+    parts: List[bytes] = [b'']
+    at = 0
+    while at < len(signs):
+        piece = _PIECE.match(signs, at)
+        if piece is None:
+            parts.append(b'')
+        else:
+            parts[-1] += piece[0]
+        at = at + 1 if piece is None else piece.end()
+    return parts
+
+
+def _begins_with(sign: bytes) -> Tuple[int, Iterable[int]]:
+    """The first place at which not any byte fits a sign, and the bytes that fit it there.
+
+    >>> [(place, bytes(firsts)) for place, firsts in map(_begins_with, (rb'.{4}..\\x41', b'[a-cx]d', rb'\\0b'))]
+    [(6, b'A'), (0, b'abcx'), (0, b'\\x00')]
+    """
+    found = _ANY.match(sign)
+    assert found is not None, sign
+    place, one = sum(int(count or 1) for count in _COUNT.findall(found[1])), found[2]
+    ranges = _RANGE.findall(one[1:-1]) if one[:1] == b'[' else [(one, b'')]
+    return place, chain.from_iterable(range(_byte(first), _byte(last or first) + 1) for first, last in ranges)
+
+
+def _byte(spelled: bytes) -> int:
+    """The byte that a pattern spells so."""
+    if spelled[:2] == b'\\x':
+        return int(spelled[2:], 16)
+    return spelled[0] if len(spelled) == 1 else _ESCAPED.get(spelled[1], spelled[1])
+
+
+_ESCAPED = {ord('n'): 10, ord('r'): 13, ord('0'): 0, ord('1'): 1}
 
 
 SURE = b'|'.join(_SURE.values())
-_IS_SURE, _IS_KNOWN, _HAS_END = _one_of(_SURE), _one_of(_SURE, _LONG, _FILES, {'compress': rb'\x1f\x9d'}), _one_of(_ENDS)
+_OF_SHORT, _OF_LONG, _OF_FILES, _OF_ENDS = _Signs(_SURE), _Signs(_SURE, _LONG), _Signs(_FILES), _Signs(_ENDS)
 
 
 def kind_of_short(head: bytes) -> Optional[str]:
@@ -200,7 +274,7 @@ def kind_of_short(head: bytes) -> Optional[str]:
     >>> kind_of_short(b'LZIP' + bytes(9)), kind_of_short(b'LZIP is a program'), kind_of_short(b'\\x50\\x2a\\x4d\\x18')
     ('lzip', None, 'zstd or lz4 (a frame that is skipped)')
     """
-    return _first_of(_SURE, head) if _IS_SURE.match(head) is not None else None
+    return _OF_SHORT.first(head)
 
 
 def kind_of_long(head: bytes) -> Optional[str]:
@@ -209,23 +283,22 @@ def kind_of_long(head: bytes) -> Optional[str]:
     >>> kind_of_long(b'FEA1\\4\\0'), kind_of_long(b'FEA1 is a form of files'), kind_of_long(b'ORC')
     ('Feather', None, None)
     """
-    if _IS_KNOWN.match(head) is None:
-        return None
-    return _first_of(_SURE, head) or _first_of(_LONG, head) or ('compress' if _is_compress(head) else None)
+    return _OF_LONG.first(head) or ('compress' if _is_compress(head) else None)
 
 
 def kind_by_end(tail: bytes) -> Optional[str]:
     """What ends so."""
     for size in _SIZES_OF_ENDS:
         begin = len(tail) - size
-        if begin >= 0 and _HAS_END.match(tail, begin) is not None:
-            return _first_of(_ENDS, tail, begin)
+        found = _OF_ENDS.first(tail, begin) if begin >= 0 else None
+        if found is not None:
+            return found
     return None
 
 
 def kind_of_file(blob: Blob, head: bytes) -> Optional[str]:
     """What a file or a member begins or ends like."""
-    found = kind_of_long(head) or _first_of(_FILES, head) if _IS_KNOWN.match(head) is not None else None
+    found = kind_of_long(head) or _OF_FILES.first(head)
     if found is None and blob.size > _FIRST_LATE:
         found = next((kind for at, kind, sign in _LATE if blob.size > at and sign.match(blob.read(at, 8))), None)
     return found or kind_by_end(blob.read(max(0, blob.size - TAIL), TAIL))

@@ -15,7 +15,7 @@ from typing import Dict, List
 
 import picklestep
 from picklestep.scan import Judge, Options, look
-from picklestep.scan.known import known_names
+from picklestep.scan.known import known_names, known_note
 from picklestep.scan.looking import look_at_bytes
 from picklestep.scan.names import Names
 from picklestep.scan.results import from_json, to_json
@@ -265,11 +265,17 @@ class TheList(unittest.TestCase):
         self.assertGreaterEqual(len(notes), 150)
         self.assertTrue(all(notes))
 
+    def test_a_name_is_looked_for_by_its_first_part(self) -> None:
+        names = known_names()
+        patterns = [pattern.replace('**', 'a.b').replace('*', 'c') for pattern, _, _ in names.patterns]
+        for name in (*names.names, *patterns, *(f'x.{name}' for name in names.names), *(name.partition('.')[2] for name in names.names), '', '.', '*.a'):
+            self.assertEqual(known_note(name), names.note(name), name)
+
     def test_names_that_were_seen_to_run_something(self) -> None:
         """Names that a call of was seen or read to run, load, write or reach what it is given; one of each module, where that is all of it."""
         for name in (DATA / 'names_that_run.txt').read_text().split():
             with self.subTest(name):
-                self.assertIsNotNone(known_names().note(name))
+                self.assertIsNotNone(known_note(name))
 
     def test_names_of_protocol_2(self) -> None:
         for name in ('__builtin__.eval', 'cPickle.loads', 'commands.getoutput', 'urllib2.urlopen', '__builtin__.reduce', 'itertools.imap'):
@@ -280,9 +286,9 @@ class TheList(unittest.TestCase):
     def test_modules_under_names_of_their_own(self) -> None:
         for name in ('enum.bltns.eval', 'numpy._builtins.eval', 'random._os.system', 'collections._sys.modules', 'a._subprocess.Popen',
                      'a._posix.system', 'a.b._importlib.import_module', 'enum.types.FunctionType'):
-            self.assertIsNotNone(known_names().note(name), name)
+            self.assertIsNotNone(known_note(name), name)
         for name in ('enum.types.DynamicClassAttribute', 'a._system.b', 'torch._utils._rebuild'):
-            self.assertIsNone(known_names().note(name), name)
+            self.assertIsNone(known_note(name), name)
 
     def test_a_long_name_takes_no_long_time(self) -> None:
         self.assertIsNone(Names(known_names_lines()).note('a.' * 200_000 + 'b'))

@@ -19,7 +19,7 @@ from typing import Any, Callable, Iterator, List, Optional, Tuple
 import picklestep
 from picklestep.records import Global
 from picklestep.scan import Judge, look_at_bytes
-from picklestep.scan.known import known_names
+from picklestep.scan.known import known_note
 from pickles import ROOT
 
 # (of a folder of several Pythons those that the package runs in, and Python 2.7)
@@ -336,7 +336,7 @@ class NamesThatLeadThere(unittest.TestCase):
         found = look_at_bytes('a.pkl', data + b'N.').pickles[0].imports
         self.assertGreaterEqual(len(found), 3 * len(names_of_the_page()))
         for each in found:
-            self.assertIsNotNone(known_names().note(each.name), each.name)
+            self.assertIsNotNone(known_note(each.name), each.name)
 
     def test_names_that_cannot_be_read_may_be_any(self) -> None:
         """Those of GLOBAL and INST, a STRING, a SHORT_BINSTRING and a SHORT_BINUNICODE."""

@@ -15,7 +15,7 @@ from typing import Dict, FrozenSet, Tuple
 from picklestep import NotAllowed, check, gate
 from picklestep.scan import Judge, Options
 from picklestep.scan.allow import SETS, read_lines, read_names
-from picklestep.scan.known import known_names
+from picklestep.scan.known import known_note
 from picklestep.scan.names import read_line
 from evasions import NO_PARTS, kind, long
 from made_pickles import WORD_OF, Made, Named
@@ -60,7 +60,7 @@ class Names(unittest.TestCase):
     def test_no_name_is_known_to_run_what_it_is_given(self) -> None:
         for word in SETS:
             for name in read_names([word]).names:
-                self.assertIsNone(known_names().note(name), f'{word}: {name}')
+                self.assertIsNone(known_note(name), f'{word}: {name}')
 
     def test_each_name_is_whole_and_has_a_reason(self) -> None:
         for word in SETS:

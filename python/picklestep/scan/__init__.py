@@ -5,7 +5,7 @@
 What is public is imported when it is first used, as in `picklestep`.
 """
 
-from .. import check_python
+from .. import check_python, lazily
 
 check_python()
 
@@ -31,16 +31,4 @@ _MODULES = {
     'results': ('Call', 'Import', 'Note', 'Pickle', 'Result', 'from_json', 'to_json'),
 }
 
-
-def __getattr__(name: str) -> object:
-    """What is public, from the module that has it."""
-    from importlib import import_module
-    for module, names in _MODULES.items():
-        if name in names:
-            globals()[name] = getattr(import_module(f'{__name__}.{module}'), name)
-            return globals()[name]
-    raise AttributeError(f'module {__name__!r} has no attribute {name!r}')
-
-
-def __dir__() -> 'list[str]':
-    return sorted({*globals(), *__all__})
+__getattr__, __dir__ = lazily(globals(), _MODULES)

@@ -8,7 +8,7 @@ from typing import Dict, List
 from ..opens import split
 from ..wording import shown
 from .allow import sets_with
-from .known import known_names
+from .known import known_note
 from .looks import Look
 from .reading import is_worked_out
 from .severity import severity_of
@@ -50,7 +50,7 @@ def advice_for(look: Look) -> str:
     if is_worked_out(look.name):
         return ADVICE['worked-out']
     # (a name that is marked as worse than others goes through a module, or is none)
-    if known_names().note(look.name) is not None or look.severity != severity_of(look.rule):
+    if known_note(look.name) is not None or look.severity != severity_of(look.rule):
         return ADVICE['known']
     sets = sets_with(look.name)
     return f'The set {sets[0]} has this name. If you expect files of this library, give --allow {sets[0]}.' if sets else ADVICE[look.rule]

@@ -2,7 +2,6 @@
 
 from __future__ import annotations
 
-import argparse
 import io
 import json
 import os
@@ -10,7 +9,8 @@ import re
 import sys
 from contextlib import closing, suppress
 from itertools import chain
-from typing import TYPE_CHECKING, Dict, Generator, Iterable, Iterator, List, Optional, TextIO, Tuple, Union
+from types import SimpleNamespace
+from typing import TYPE_CHECKING, Any, Dict, Generator, Iterable, Iterator, List, Optional, TextIO, Tuple, Union, cast
 
 from ..errors import PicklestepError
 from ..opens import is_at_server, split
@@ -26,6 +26,7 @@ from .settings import Settings
 from .severity import FAILING
 
 if TYPE_CHECKING:
+    import argparse
     from .stores.server import Task
 
 __all__ = ['Work', 'escape_names', 'main', 'scan_words']
@@ -43,6 +44,7 @@ def _bytes(text: str) -> int:
     """A number of bytes, with K, M or G after it where it counts these."""
     match = re.fullmatch(r'([0-9]+)([KMG]?)', text.upper())
     if match is None:
+        import argparse
         raise argparse.ArgumentTypeError(f'{text!r} is no number of bytes')
     return int(match[1]) * _UNITS[match[2]]
 
@@ -53,18 +55,40 @@ def _positive(text: str) -> int:
     except ValueError:
         number = 0
     if number < 1:
+        import argparse
         raise argparse.ArgumentTypeError(f'{text!r} is no whole number above 0')
     return number
 
 
+class _Defaults:
+    """What a parser finds where only names are given. (To make one takes longer than to look at a file.)"""
+
+    def __init__(self) -> None:
+        self.found = SimpleNamespace()
+
+    def add_argument(self, name: str, **said: Any) -> None:
+        """Takes an option as a parser does."""
+        default = said.get('default', False if said.get('action') == 'store_true' else None)
+        setattr(self.found, name.lstrip('-').replace('-', '_'), default.copy() if isinstance(default, list) else default)
+
+
+_Taking = Union['argparse.ArgumentParser', _Defaults]
+
+
 def _parser(fewest: str = '+') -> argparse.ArgumentParser:
     """The options and names. `fewest` is how many names there are to be, as argparse has it."""
+    import argparse
     parser = argparse.ArgumentParser(
         prog='picklestep scan', description='Prints what the pickles in files import and call, with ! before what to look at first. Nothing of them is run '
                                            'or loaded.',
         epilog='Status: 0 if nothing is marked; 1 if something is found; 3 if nothing is found, and something could not be looked at; 2 if it '
                'could not begin, or could not write; 130 after Ctrl-C; 141 if whoever read the output has left. Good files have marks too, and a file '
                'without a mark may still do harm.')
+    _add_options(parser, fewest)
+    return parser
+
+
+def _add_options(parser: _Taking, fewest: str = '+') -> None:
     parser.add_argument('paths', metavar='PATH', nargs=fewest,
                         help='a file, a folder, a server (redis://, memcached://, postgresql://, mysql://), a URL for fsspec, an address that '
                              'scan printed, or - for names on standard input')
@@ -91,10 +115,9 @@ def _parser(fewest: str = '+') -> argparse.ArgumentParser:
     parser.add_argument('--follow', action='store_true', help='look at new values of a Redis server as they come, and print a line of JSON for each')
     parser.add_argument('--null', action='store_true', help='each name on standard input ends in a NUL byte')
     _add_limits(parser)
-    return parser
 
 
-def _add_limits(parser: argparse.ArgumentParser) -> None:
+def _add_limits(parser: _Taking) -> None:
     parser.add_argument('--max-bytes', metavar='N', type=_bytes, help='unpack at most N bytes of a file (1G)')
     parser.add_argument('--max-members', metavar='N', type=_positive, help='look at N members of a file at most (100000)')
     parser.add_argument('--max-depth', metavar='N', type=_positive, help='open containers in one another to this depth (4)')
@@ -103,7 +126,7 @@ def _add_limits(parser: argparse.ArgumentParser) -> None:
     parser.add_argument('--max-lines', metavar='N', type=_positive, help='read at most N lines of the answers about a file (10000000)')
 
 
-def _add_lists(parser: argparse.ArgumentParser) -> None:
+def _add_lists(parser: _Taking) -> None:
     parser.add_argument('--allow', metavar='FILE', action='append', default=[],
                         help='mark each import that the list FILE does not allow. FILE may also be one of the sets '
                              f'{", ".join(SETS)}. You may give several lists: a name is allowed if one of them allows it')
@@ -113,7 +136,7 @@ def _add_lists(parser: argparse.ArgumentParser) -> None:
                         help='write a list for --allow with the names that these files import. If FILE is there, add to it the names that it lacks')
 
 
-def _add_policy(parser: argparse.ArgumentParser) -> None:
+def _add_policy(parser: _Taking) -> None:
     parser.add_argument('--policy', metavar='FILE', help='follow the policy FILE. Without it a picklestep.toml that is found in the folder of the files, '
                                                          'or in one above it, adds marks and takes none away')
     parser.add_argument('--no-policy', action='store_true', help='follow no policy')
@@ -124,6 +147,11 @@ def _add_policy(parser: argparse.ArgumentParser) -> None:
 def scan_words(words: List[str]) -> argparse.Namespace:
     """What the words say. All behind the first `--` are names of files, whatever they look like: argparse, where options and names come in
     any order, would take some for options."""
+    if words and not any(word.startswith('-') for word in words):
+        defaults = _Defaults()
+        _add_options(defaults)
+        defaults.found.paths = words[:]
+        return cast('argparse.Namespace', defaults.found)
     at = words.index('--') if '--' in words else len(words)
     files = words[at + 1:]
     parsed = _parser('*' if files else '+').parse_intermixed_args(words[:at])

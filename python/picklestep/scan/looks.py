@@ -3,12 +3,11 @@
 from __future__ import annotations
 
 from dataclasses import dataclass
-from functools import lru_cache
 from typing import Dict, Iterator, List, Optional, Tuple
 
 from ..records import End
 from .allow import sets_with
-from .known import known_names
+from .known import known_anywhere, known_note
 from .names import Names
 from .reading import begun_module, is_plain_name, is_worked_out
 from .results import OF_ARGUMENTS, OF_OFFSETS, ODD, OTHER_FORM, Call, Import, Pickle, Place, Result, Verdict
@@ -132,12 +131,6 @@ def calls_of(pickle: Pickle, name: str) -> List[Call]:
 _NONE = Names(())
 
 
-@lru_cache(maxsize=None)
-def _known_anywhere() -> Names:
-    """The known names that are reached through whatever stands before them."""
-    return Names((text for text, _, _ in known_names().patterns if text.startswith('**.')), is_checked=True)
-
-
 class Judge:
     """Which names are marked, and why.
 
@@ -157,14 +150,13 @@ class Judge:
         self._least = least
         self._marks: Dict[Tuple[str, str, bool], Optional[Tuple[str, str]]] = {}
 
-    @property
-    def _known(self) -> Names:
-        """The known names, which are read where there is a name to be judged."""
-        return known_names() if self._with_known else _NONE
+    def _known(self, name: str) -> Optional[str]:
+        """What a call of a name would do that is known, where such names count."""
+        return known_note(name) if self._with_known else None
 
     @property
     def _through(self) -> Names:
-        return _known_anywhere() if self._with_known else _NONE
+        return known_anywhere() if self._with_known else _NONE
 
     def lists(self) -> Tuple[Names, ...]:
         """The lists by which the gate is to be asked."""
@@ -191,7 +183,7 @@ class Judge:
             return 'denied', f'denied{": " + note if note else ""}'
         if self.allowed is not None and self._is_allowed(name, member, passes):
             return None if self._least is None else self._least.mark(name, member)
-        known = self._known.note(name)
+        known = self._known(name)
         if known is None and self._with_known:
             known = why_through(name, member or name.rpartition('.')[2])
         if self.allowed is not None:
@@ -211,7 +203,7 @@ class Judge:
         """The severity of the mark of a name. Also where a list decides, it is that of what is known of the name."""
         if rule == 'odd' or not self._with_known:
             return severity_of(rule)
-        does = self._known.note(name)
+        does = self._known(name)
         if does is None and rule == 'not-allowed' and is_worked_out(name):
             return severity_of('worked-out')
         if does is None and rule == 'not-allowed' and (why_through(name, member or name.rpartition('.')[2]) or not is_plain_name(name)):

@@ -2,7 +2,6 @@
 
 from __future__ import annotations
 
-import argparse
 import json
 import os
 import sys
@@ -18,6 +17,7 @@ from .report import Report
 from .results import Result
 
 if TYPE_CHECKING:
+    import argparse
     from .policy.baseline import Marks
     from .written import Used
 

@@ -2,8 +2,6 @@
 
 from __future__ import annotations
 
-import bz2
-import lzma
 import struct
 import zlib
 from importlib import import_module
@@ -12,10 +10,12 @@ from typing import TYPE_CHECKING, Any, Callable, Iterator, Optional, Sequence, U
 from .blobs import Blob
 
 if TYPE_CHECKING:
+    import bz2
+    import lzma
     from .lz4_chunks import Lz4Chunk
 
 __all__ = ['BLOSC_MODULES', 'Blosc', 'Decompressor', 'LZ4_MODULES', 'Lz4', 'Unpacking', 'ZSTD_MODULES', 'Zstd', 'inflate_gzip', 'inflate_zlib',
-           'module_of', 'raw_deflate', 'raw_lzma', 'unpack_lzma', 'unpack_xz']
+           'module_of', 'raw_deflate', 'raw_lzma', 'unpack_bz2', 'unpack_lzma', 'unpack_xz']
 
 # Unpacked bytes of a step: a bomb is noticed before it fills the memory.
 STEP = 1 << 18
@@ -182,7 +182,7 @@ class Blosc:
         return bytes(self._packed)
 
 
-Decompressor = Union[_Inflate, Zstd, Lz4, 'Lz4Chunk', Blosc, bz2.BZ2Decompressor, lzma.LZMADecompressor]
+Decompressor = Union[_Inflate, Zstd, Lz4, 'Lz4Chunk', Blosc, 'bz2.BZ2Decompressor', 'lzma.LZMADecompressor']
 
 
 def raw_deflate() -> Decompressor:
@@ -192,6 +192,7 @@ def raw_deflate() -> Decompressor:
 
 def raw_lzma(properties: bytes) -> Decompressor:
     """LZMA as a zip archive has it: its properties are before the stream."""
+    import lzma  # (as all of these modules, for the few files that are packed so)
     dictionary = int.from_bytes(properties[1:5], 'little')
     number = properties[0]
     chain = [{'id': lzma.FILTER_LZMA1, 'dict_size': min(max(dictionary, 4096), LZMA_MEMORY), 'lc': number % 9, 'lp': number // 9 % 5,
@@ -209,13 +210,21 @@ def inflate_zlib() -> Decompressor:
     return _Inflate(15)
 
 
+def unpack_bz2() -> Decompressor:
+    """What unpacks a bzip2 file."""
+    import bz2
+    return bz2.BZ2Decompressor()
+
+
 def unpack_xz() -> Decompressor:
     """What unpacks an xz file."""
+    import lzma
     return lzma.LZMADecompressor(lzma.FORMAT_XZ, LZMA_MEMORY)
 
 
 def unpack_lzma() -> Decompressor:
     """What unpacks a file of the older form of lzma."""
+    import lzma
     return lzma.LZMADecompressor(lzma.FORMAT_ALONE, LZMA_MEMORY)
 
 
@@ -248,6 +257,7 @@ class Unpacking:
                 return
 
     def _stream(self) -> Iterator[bytes]:
+        from lzma import LZMAError
         taken = self.end
         try:
             inner = self.start()  # (it reads the settings of some kinds, which may be none)
@@ -260,7 +270,7 @@ class Unpacking:
                     self.first_end = self.end if self.streams == 1 else self.first_end
                     return
             self.trouble = 'the compressed data are cut short'
-        except (zlib.error, lzma.LZMAError, OSError, ValueError, EOFError) as error:
+        except (zlib.error, LZMAError, OSError, ValueError, EOFError) as error:
             self.trouble = f'the compressed data cannot be unpacked to their end ({error})'
 
     def _step(self, inner: Decompressor, piece: bytes) -> Iterator[bytes]:

@@ -2,7 +2,6 @@
 
 from __future__ import annotations
 
-import argparse
 import os
 from dataclasses import replace
 from typing import TYPE_CHECKING, Dict, Iterable, List, Mapping, Optional, Tuple
@@ -14,6 +13,7 @@ from .policy.finding import find_policy
 from .severity import FAILING
 
 if TYPE_CHECKING:
+    import argparse
     from .policy.model import Policy, Rule
 
 __all__ = ['Settings', 'chosen_policy']

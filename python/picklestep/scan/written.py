@@ -12,7 +12,7 @@ from typing import Callable, Dict, Iterable, Iterator, List, Sequence, Set, Tupl
 from ..saving import open_text, written_whole
 from ..sources import is_opened
 from .allow import SETS, lines_of, read_names
-from .known import known_names
+from .known import known_note
 from .looks import Judge, Look
 from .names import Names, NoList, read_comment, words_for
 from .results import Result
@@ -76,7 +76,7 @@ class Used:
         """The lines of the list."""
         for name, use in sorted(self._uses.items()):
             note = f'{times(use.count)} in {count_of(use.pickles, "pickle")}, first in {use.first}'
-            why = known_names().note(name) or why_through(name, use.member or name.rpartition('.')[2])
+            why = known_note(name) or why_through(name, use.member or name.rpartition('.')[2])
             entry = shown(name) + words_for(use.done)
             if why is not None or name.startswith('#') or '*' in name:
                 yield f'# {entry}  # {why + "; " if why else ""}{note}'

@@ -13,6 +13,7 @@ from typing import Any, Callable, Dict, List, Sequence, Tuple, Type, Union
 
 from ..comparing import shown_value
 from ..errors import PicklestepError
+from ..heaps import Heap
 from ..listing_records import Change, Object
 from ..patterns import pattern
 from ..records import Extension, Global, Name, Ref
@@ -226,7 +227,7 @@ class _At:
             return Ref(number)
         shown = {each.number: each.object for each in self._pickle.session.show(number) if each.object is not None}
         at = {known: place for place, known in enumerate(sorted(shown))}
-        return Values([_renumbered(shown[known], at) for known in sorted(shown)]).at(at[number])
+        return Values(Heap.of([_renumbered(shown[known], at) for known in sorted(shown)])).at(at[number])
 
     def _named(self, node: ast.Name) -> Any:
         return NAMES[node.id](self._pickle)

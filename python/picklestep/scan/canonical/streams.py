@@ -6,16 +6,13 @@ README_CHUNK_FORMAT.rst of C-Blosc, joblib/numpy_pickle_compat.py (ZF), and what
 
 from __future__ import annotations
 
-import bz2
-import lzma
-import re
 import zlib
 from typing import Callable, FrozenSet, NamedTuple, Optional
 
 from ...patterns import pattern
 from ..begins import HEAD
 from ..blobs import Blob
-from ..packed import BLOSC_MODULES, LZMA_MEMORY, Blosc, Decompressor, Lz4, Unpacking, Zstd, inflate_gzip, inflate_zlib, module_of, unpack_lzma, unpack_xz
+from ..packed import BLOSC_MODULES, LZMA_MEMORY, Blosc, Decompressor, Lz4, Unpacking, Zstd, inflate_gzip, inflate_zlib, module_of, unpack_bz2, unpack_lzma, unpack_xz
 from .forms import require
 
 __all__ = ['BLOSC', 'BZ2', 'GZIP', 'LZ4', 'LZ4_CHUNK', 'LZMA', 'Stream', 'XZ', 'ZFILE', 'ZLIB', 'ZSTD']
@@ -33,7 +30,7 @@ _BEGINS_LZMA = frozenset(byte for byte in range(225) if byte % 9 + byte // 9 % 5
 _BEGINS_ZLIB = frozenset(byte for byte in range(256) if byte & 15 == 8)
 # Names in a gzip header are Latin-1 without control characters.
 _NAME = pattern(rb'[\x20-\x7e\xa0-\xff]{1,255}\0')
-_BZ2 = re.compile(rb'BZh[1-9](1AY&SY|\x17rE8P\x90)')
+_BZ2 = pattern(rb'BZh[1-9](1AY&SY|\x17rE8P\x90)')
 _ZFILE = pattern(rb'ZF(0x[0-9a-f]{1,16}L?) *')
 _ZFILE_HEADER = 21
 _NO_SIZE = 2 ** 64 - 1
@@ -158,6 +155,7 @@ def _is_lzma(blob: Blob) -> bool:
     It lets liblzma choose the form (FORMAT_AUTO), which then takes no dictionary and no size that its own writers do not write. FORMAT_ALONE
     would: each list of protocol 1 begins like that. It goes on over empty streams; 18 zeros are one.
     """
+    import lzma
     at = 0
     for _ in range(_MOST_STREAMS):
         if blob.read(at, len(_EMPTY)) == _EMPTY:
@@ -224,7 +222,7 @@ def _size_of_lzma(packed: Blob) -> int:
     return int.from_bytes(packed.read(5, 8), 'little')
 
 
-BZ2 = Stream(bz2.BZ2Decompressor, _bz2, takes=lambda blob, head: _BZ2.match(head) is not None, firsts=frozenset(b'B'),
+BZ2 = Stream(unpack_bz2, _bz2, takes=lambda blob, head: _BZ2.match(head) is not None, firsts=frozenset(b'B'),
              behind_few=rb'BZh[1-9](?:1AY|\x17rE)')
 GZIP = Stream(inflate_gzip, _gzip, takes=lambda blob, head: head[:3] == b'\x1f\x8b\x08', firsts=frozenset(b'\x1f'), behind_few=rb'\x1f\x8b\x08')
 XZ = Stream(unpack_xz, _xz, takes=lambda blob, head: head[:6] == b'\xfd7zXZ\0', firsts=frozenset(b'\xfd'), behind_few=rb'\xfd7zXZ\0')
