@@ -106,9 +106,9 @@ def _decimal(number: int) -> tuple[int, ...]:
     return tuple(str(number).encode())
 
 
-CONSTRUCTORS = {"true", "false", "zero", "suc", "[]", "∷", "Some", "None", "Ok", "Err", "tt"}
+CONSTRUCTORS = {"true", "false", "zero", "suc", "[]", "∷", "Some", "None", "Ok", "Err", "tt", "refl"}
 # These are plain values of Python's, and these operators expressions.
-PLAIN: Mapping[str, str] = {"true": "True", "false": "False", "zero": "0", "suc": "W_suc", "[]": "()"}
+PLAIN: Mapping[str, str] = {"true": "True", "false": "False", "zero": "0", "suc": "W_suc", "[]": "()", "refl": "()"}
 INFIX: Mapping[str, str] = {
     "&&": "({} and {})",
     "||": "({} or {})",

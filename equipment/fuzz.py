@@ -457,12 +457,10 @@ class Case:
 
     def check_whole(self, listing: str) -> None:
         whole = subprocess.run([self.program, "list", "--whole", str(self.file), *self.options], capture_output=True, timeout=600)
-        opcodes = GAP.sub(b"", whole.stdout)
-        made = subprocess.run([self.program, "assemble", "/dev/stdin"], input=opcodes, capture_output=True, timeout=600)
+        made = subprocess.run([self.program, "assemble", "/dev/stdin"], input=GAP.sub(b"", whole.stdout), capture_output=True, timeout=600)
         kept, fault = re.search(r"^kept: (\d+)", listing, re.M), re.search(r"^fault: .* at (\d+)$", listing, re.M)
         most = len(self.pickled) - int(kept[1]) if kept else int(fault[1]) if fault else len(self.pickled)
-        is_refused = "\nrefused: " in f"\n{listing}"
-        if made.returncode or not (self.pickled[:most].startswith(made.stdout) if is_refused else made.stdout == self.pickled[:most]):
+        if made.returncode or not (self.pickled[:most].startswith(made.stdout) if "\nrefused: " in f"\n{listing}" else made.stdout == self.pickled[:most]):
             raise Broken("the whole listing is assembled to other bytes")
 
     def check_json(self, listing: str) -> None:

@@ -143,14 +143,12 @@ def fault_of_answers(room: Room, page: Path) -> str:
             continue
         file.write_bytes(block.pickle)
         lines = [each for line in block.script for each in (line, *LOOKS)]
-        script = "".join(f"{line}\n" for line in lines)
         text = run([room.program, "debug", *block.options, file], folder, "".join(f"{line}\n{MARK}\n" for line in lines).encode())
-        found = run([room.program, "debug", "--json", *block.options, file], folder, script.encode())
+        found = run([room.program, "debug", "--json", *block.options, file], folder, "".join(f"{line}\n" for line in lines).encode())
         texts = text.output.decode().split(MARKED)[: len(lines)]
         looks = [dict(zip(LOOKS, texts[at - at % 4 + 1 :])) for at in range(len(texts))]
         wanted = [json_of_answers.of_answer(*each) for each in zip(lines, texts, looks)]
-        refused = any(each["kind"] == "refused" for each in wanted)
-        why = found.fault_of_status(int(refused)) or fault_of_lines(found.output, wanted)
+        why = found.fault_of_status(int(any(each["kind"] == "refused" for each in wanted))) or fault_of_lines(found.output, wanted)
         if why or found.errors:
             return f"{block.name}: {why or beginning(found.errors)}"
         printed += found.output

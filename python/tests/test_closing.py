@@ -86,7 +86,7 @@ def rows() -> Iterator[Tuple[str, Text]]:
         for row in re.finditer(r'^(list)(?: [0-9a-f]+)*: (.*\n)', text, re.MULTILINE):
             yield row[1], row[2]
         for block in re.split('\n\n', text):
-            for match in re.finditer(r'^\$ (list|objects)(?!.* --json)(?: .*)?\n((?!\$ |debug> |saved ).*\n?)*', block + '\n', re.MULTILINE):
+            for match in re.finditer(r'^\$ (list|objects)(?!.* --(?:json|whole))(?: .*)?\n((?!\$ |debug> |saved ).*\n?)*', block + '\n', re.MULTILINE):
                 lines = match[0].rstrip('\n').split('\n')[1:]
                 yield match[1], ''.join(f'{line}\n' for line in lines)
         for digits in re.findall(r'^pickle ([0-9a-f ]+)$', text, re.MULTILINE):

@@ -21,7 +21,7 @@ OF_SCRIPTS = {'view/texts.js': 15}
 WITHOUT = {'scan/depths.py'}
 # Others, whose patterns read something else: words that are typed, names, numbers of a pickle, letters of opcodes, files of other forms.
 OTHERS = {'dap/console.py': 1, 'dap/target.py': 3, 'dap/wire.py': 1, 'protocols/reading.py': 3, 'python_source/names.py': 2, 'python_source/shapes.py': 2,
-          'question.py': 1, 'shell/edits.py': 1, 'shell/expressions.py': 2, 'shell/shell.py': 5, 'shell/words.py': 4, 'sources.py': 1, 'unread.py': 4,
+          'question.py': 1, 'shell/edits.py': 1, 'shell/expressions.py': 2, 'shell/shell.py': 5, 'shell/words.py': 4, 'sources.py': 1, 'unread.py': 7,
           'values.py': 2, 'view/server.py': 2}
 OTHER_SCRIPTS = {'alone/containers.js': 5, 'alone/document.js': 1, 'alone/literals.js': 9, 'alone/opening.js': 8, 'alone/source.js': 2,
                  'alone/source_builder.js': 1, 'alone/source_names.js': 4, 'bytes.js': 1, 'script.js': 2, 'shown.js': 1, 'slow.js': 2,

@@ -693,7 +693,7 @@ class Alone(InChromium):
         large = b'(' + b'K\x01' * 200_000 + b't.'
         self.choose(self.file('largest.pickle', b'(' + b'K\x01' * 10_000_000 + b't.'))
         self.said('not done: out of memory')
-        self.limit_memory('module', 600)
+        self.limit_memory('module', 660)
         self.give(self.file('large.pickle', large))
         self.browser.key('Delete')
         self.said('edited 0')

@@ -1,11 +1,8 @@
 //! What a conversation holds between two bytes.
 
-use pickle_script::{Line, Syntax, read_command};
+use pickle_script::{LONGEST_LINE, Line, Syntax, read_command};
 use std::alloc::{AllocError, Global};
 use std::marker::Model;
-
-/// The most bytes of a line.
-const LONGEST: usize = 65_536;
 
 /// The line that has begun, and whether a line was refused. Of a line that is too long no more is held than shows that it is.
 #[derive(Drop)]
@@ -37,7 +34,7 @@ impl Pending {
         ensures { IfOk result (λ p. p ≡ record { line = []; refused = false }) }
     {
         Ok(Pending {
-            line: Vec::with_capacity(alloc, LONGEST + 1)?,
+            line: Vec::with_capacity(alloc, LONGEST_LINE + 1)?,
             refused: false,
         })
     }
@@ -47,7 +44,7 @@ impl Pending {
     pub fn push(&mut self, byte: u8)
         ensures { self.new ≡ record self.old { line = longer self.old.line byte } }
     {
-        if self.line.len() <= LONGEST {
+        if self.line.len() <= LONGEST_LINE {
             self.line.push_reserved(byte);
         }
     }

@@ -1,5 +1,5 @@
 -- The lines of a text, and the bytes that they give.
--- Source: own. A line is read as a listing prints it (`pickle_show/specs/Line.antt`): offsets, codes and notes are passed over.
+-- Source: own. A line is read as a listing prints it (`pickle_list/specs/Line.antt`): offsets, codes and notes are passed over.
 use Rattle.std.specs.Prelude.{◌≡◌, ◌≢◌, ◌⊎◌, ⊤, ℕ, ◌+◌, ◌==◌, ◌||◌, if◌then◌else◌, Bool, List, [], ◌∷◌, ◌++◌, codes, is_some, Result, Ok, Err}
 use Rattle.std.specs.Option.{option_map_or}
 use Rattle.std.specs.List.{slice_split}

@@ -22,3 +22,4 @@ pub use line::{Action, Line, Place, Query, Syntax};
 pub use place::write_where;
 pub use reply::write_reply;
 pub use talk::{answer_line, converse};
+pub use words::LONGEST_LINE;

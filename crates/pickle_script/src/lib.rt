@@ -11,8 +11,8 @@ mod stop;
 mod texts;
 
 pub use conversation::{
-    Action, Line, OpWord, Place, PlaceWord, Query, Syntax, answer_line, converse, read_command,
-    write_items, write_reply, write_where,
+    Action, LONGEST_LINE, Line, OpWord, Place, PlaceWord, Query, Syntax, answer_line, converse,
+    read_command, write_items, write_reply, write_where,
 };
 pub use given_holes::{first_unfit, holes_of};
 pub use laws::{one_by_one, one_cut, zero_where_passing};

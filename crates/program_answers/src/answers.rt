@@ -183,16 +183,8 @@ fn answer_task<R: Source, K: Sink + Drop>(
         Task::List(input, options) => {
             let (many, loose) = (input.many, input.unframed);
             let (text, lines) = (listing_text(options.whole), Lines::Listing);
-            answer_said(
-                alloc,
-                options.format,
-                text,
-                lines,
-                many,
-                loose,
-                source,
-                page,
-            )
+            let format = options.format;
+            answer_said(alloc, format, text, lines, many, loose, source, page)
         }
         Task::Objects(input, format) => {
             let (many, loose) = (input.many, input.unframed);

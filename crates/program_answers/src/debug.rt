@@ -117,33 +117,17 @@ fn talk<R: Asker<Buffered<K>>, K: Sink + Drop, F: Files>(
         (K.told (device_of page.old)) (K.told (device_of page.new)) result }
     ensures handed { result ≢ Err Stop.Write → (⟦<Buffered<K> as Sink>⟧.told page.new).held ≡ 0 }
 {
-    let save = options.save.as_deref();
+    let (format, save) = (options.format, options.save.as_deref());
     match options.window {
         None => {
             let past = Whole::new(alloc);
             let mut session = open_session(alloc, past, bytes, many, loose)?;
-            converse_and_save(
-                alloc,
-                &mut session,
-                source,
-                page,
-                files,
-                options.format,
-                save,
-            )
+            converse_and_save(alloc, &mut session, source, page, files, format, save)
         }
         Some(count) => {
             let past = Window::new(alloc, count)?;
             let mut session = open_session(alloc, past, bytes, many, loose)?;
-            converse_and_save(
-                alloc,
-                &mut session,
-                source,
-                page,
-                files,
-                options.format,
-                save,
-            )
+            converse_and_save(alloc, &mut session, source, page, files, format, save)
         }
     }
 }

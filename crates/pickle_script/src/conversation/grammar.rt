@@ -9,7 +9,7 @@ use crate::conversation::keyword::{
     OpWord, PlaceWord, command_word, op_word, place_word, query_word,
 };
 use crate::conversation::line::{Action, Line, Place, Query, Syntax};
-use crate::conversation::words::{LONGEST, first_word};
+use crate::conversation::words::{LONGEST_LINE, first_word};
 use pickle_ops::{OpFault, Opcode, decimal_of, op_of};
 use std::alloc::Global;
 
@@ -234,7 +234,7 @@ fn read_words(alloc: Global, word: &[u8], rest: &[u8]) -> Result<Line, Syntax>
 pub fn read_command(alloc: Global, bytes: &[u8]) -> Result<Line, Syntax>
     ensures { AnswersWords (line_says bytes.now) result }
 {
-    if bytes.len() > LONGEST {
+    if bytes.len() > LONGEST_LINE {
         return Err(Syntax::LineTooLong);
     }
     match first_word(bytes) {

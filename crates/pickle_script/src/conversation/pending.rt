@@ -3,7 +3,7 @@
 use crate::conversation::grammar::read_command;
 use crate::conversation::line::{Line, Syntax};
 use crate::conversation::outcome::Outcome;
-use crate::conversation::words::LONGEST;
+use crate::conversation::words::LONGEST_LINE;
 use std::alloc::{AllocError, Global};
 use std::marker::Model;
 
@@ -37,7 +37,7 @@ impl Pending {
         ensures { IfOk result (λ p. p ≡ record { line = []; refused = false }) }
     {
         Ok(Pending {
-            line: Vec::with_capacity(alloc, LONGEST + 1)?,
+            line: Vec::with_capacity(alloc, LONGEST_LINE + 1)?,
             refused: false,
         })
     }
@@ -47,7 +47,7 @@ impl Pending {
     pub fn push(&mut self, byte: u8)
         ensures { self.new ≡ record self.old { line = longer self.old.line byte } }
     {
-        if self.line.len() <= LONGEST {
+        if self.line.len() <= LONGEST_LINE {
             self.line.push_reserved(byte);
         }
     }

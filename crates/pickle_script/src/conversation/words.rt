@@ -5,7 +5,7 @@ ghost use Rattle.std.specs.List.{prefix_len};
 ghost use Rattle.pickle_script.specs.Grammar.{is_blank, words_of};
 
 /// The most bytes of a line.
-pub const LONGEST: usize = 65_536;
+pub const LONGEST_LINE: usize = 65_536;
 
 /// Whether a byte separates words.
 fn is_blank(byte: u8) -> bool

@@ -7,5 +7,5 @@ pub returns-in-Some-clause-some : goal.returns-in-Some-clause-some
 returns-in-Some-clause-some c = record {
   save_is = sym (first_value-rows (found_of c.args.found.now) (codes "save")) ∙ sym c.get_str.ensures ∙ sym c.in_ok-save.ensures;
   window_is = c.in-Some.ensures.some;
-  format_is = c.format_of.ensures;
+  format_is = c.format_of-format.ensures;
 }
