@@ -142,7 +142,10 @@ uint8_t picklestep_open(uint32_t options, size_t window, const uint8_t *bytes, s
  * PICKLESTEP_OUT_OF_MEMORY: it was not obeyed. The session goes on after each of these answers. */
 uint8_t picklestep_ask(picklestep_session *session, const uint8_t *line, size_t line_length, uint8_t *out, size_t room, picklestep_written *written);
 
-/* The text of the latest line that was obeyed, once more. */
+/* The same with a line of JSON in the place of the text (`picklestep debug --json FILE`): it ends in a newline, and tells what the text tells. */
+uint8_t picklestep_ask_json(picklestep_session *session, const uint8_t *line, size_t line_length, uint8_t *out, size_t room, picklestep_written *written);
+
+/* The text of the latest line that was obeyed, once more, or the line of JSON where this was asked for. */
 uint8_t picklestep_again(picklestep_session *session, uint8_t *out, size_t room, picklestep_written *written);
 
 /* The bytes of the pickle as it is, edits and all: what `debug --save` would save. */
