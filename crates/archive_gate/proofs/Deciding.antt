@@ -1,6 +1,6 @@
 -- Where an archive passes, no member fails, unless loaders may read it in too many ways.
 use Rattle.std.proofs.Common.{◌≡◌, ◌≢◌, ℕ, zero, suc, ◌<◌, ◌≤◌, ◌^◌, Bool, true, false, List, [], ◌∷◌, ◌++◌, length, length-drop, drop, Some, Ok, Err, inl, inr, refl, sym, ap, subst, ◌∙◌, arith}
-use Rattle.std.specs.Prelude.{◌⊎◌, Result}
+use Rattle.std.specs.Prelude.{Result}
 use Rattle.pickle_doc.specs.Document.{AreBytes, size_limit}
 use Rattle.pickle_allow.specs.declared.list.Entry.{Entry as Allowed}
 use Rattle.pickle_gate.specs.declared.verdict.Verdict.{Verdict}
@@ -26,6 +26,7 @@ use Rattle.npy_form.specs.Npy.{header_size, behind_header}
 use Rattle.archive_gate.specs.declared.fault.ArrayFault.{ArrayFault}
 use Rattle.archive_gate.specs.declared.fault.ArrayFault.TheVariants as array_fault
 use Rattle.archive_gate.specs.Members.{with_ids, Gives, ArrayPasses, BytesPass, MemberPasses, AllPass, ArrayFails, BytesFail, IsRefusedAs, OpenedFails, HasFault}
+use Rattle.archive_gate.specs.Tar.{HasWays}
 use Rattle.archive_gate.specs.File.{NoneFails}
 use Rattle.zip_open.proofs.Opening.{same_opening, broken_opens, small_opened}
 use Rattle.zip_open.proofs.Openable.{openable_in, openable_among}
@@ -59,13 +60,13 @@ reaches_there g bytes (turn ∷ mix) from s f stands reaches =
     go further (step.Goes t) h = further t h
 
 -- where nothing is reached, another answer can only be that there are too many ways
-only_ways : (bytes : List ℕ) (r : Reach) → NothingFrom with_ids bytes first_spot → IsReach with_ids bytes r → ((offset : ℕ) (settled : Bool) → r ≢ answer.Nothing offset settled)
-    → IsReach with_ids bytes answer.TooMany
-only_ways bytes (answer.Nothing offset settled) nothing is other = absurd (other offset settled refl)
-only_ways bytes (answer.At spot frames) nothing is other =
-    let bad : false ≡ true = sym (nothing (is.stands.0 ++ turn_of frames ∷ [])) ∙ reaches_there with_ids bytes is.stands.0 first_spot spot frames is.stands.1 is.reaches in
+pub only_ways : (g : Granted) (bytes : List ℕ) (r : Reach) → NothingFrom g bytes first_spot → IsReach g bytes r → ((offset : ℕ) (settled : Bool) → r ≢ answer.Nothing offset settled)
+    → IsReach g bytes answer.TooMany
+only_ways g bytes (answer.Nothing offset settled) nothing is other = absurd (other offset settled refl)
+only_ways g bytes (answer.At spot frames) nothing is other =
+    let bad : false ≡ true = sym (nothing (is.stands.0 ++ turn_of frames ∷ [])) ∙ reaches_there g bytes is.stands.0 first_spot spot frames is.stands.1 is.reaches in
     absurd cc
-only_ways bytes answer.TooMany nothing is other = is
+only_ways g bytes answer.TooMany nothing is other = is
 
 -- ---- a member that passes has no fault
 
@@ -78,7 +79,7 @@ refused_ways list bytes v small few (inl passes) r =
     let there : one.0 ≡ verdict.Passes = one.2 verdict.Passes ((verdicts_are_true list bytes few).says passes) in
     absurd (r.refusal.other (sym here ∙ there))
 refused_ways list bytes v small few (inr (inl raises)) r = let bad : false ≡ true = sym r.goes ∙ raises in absurd cc
-refused_ways list bytes v small few (inr (inr nothing)) r = only_ways bytes r.found nothing r.reach r.reaches
+refused_ways list bytes v small few (inr (inr nothing)) r = only_ways with_ids bytes r.found nothing r.reach r.reaches
 
 pub dropped_bytes : (n : ℕ) (xs : List ℕ) → AreBytes xs → AreBytes (drop n xs)
 dropped_bytes zero xs h = h
@@ -101,26 +102,28 @@ array_ways list bytes (array_fault.Refused v) small few (inr pickle) has =
     let less : length (behind_header bytes) ≤ size_limit = omega (arith, few, length-drop (header_size bytes) bytes) in
     refused_ways list (behind_header bytes) v (dropped_bytes (header_size bytes) bytes small) less pickle.1 has.1
 
+pub held_ways : (list : List Allowed) (bytes : List ℕ) (f : Fault) → AreBytes bytes → length bytes ≤ size_limit → BytesPass list bytes → BytesFail list bytes f → HasWays bytes
+held_ways list bytes (fault.Broken b) small few p has = absurd has
+held_ways list bytes fault.Archive small few p has = let bad : false ≡ true = sym p.apart ∙ has in absurd cc
+held_ways list bytes (fault.Refused v) small few p has = inl (refused_ways list bytes v small few p.gives has)
+held_ways list bytes (fault.Array f) small few p has = inr (array_ways list bytes f small few (p.array has.0) has.1)
+
 -- what a member opens to, of which there are too many ways to read it or what is behind its header
-record HasWays (e : Entry) : Type 0 where
+record EntryWays (e : Entry) : Type 0 where
   held : List ℕ
   opens : OpensTo (member_of e) held
-  ways : IsReach with_ids held answer.TooMany ⊎ IsReach with_ids (behind_header held) answer.TooMany
+  ways : HasWays held
 
-opened_ways : (list : List Allowed) (e : Entry) (bytes : List ℕ) (f : Fault) → OpensTo (member_of e) bytes → AreBytes bytes → length bytes ≤ size_limit → BytesPass list bytes
-    → BytesFail list bytes f → HasWays e
-opened_ways list e bytes (fault.Broken b) opens small few p has = absurd has
-opened_ways list e bytes fault.Archive opens small few p has = let bad : false ≡ true = sym p.apart ∙ has in absurd cc
-opened_ways list e bytes (fault.Refused v) opens small few p has = record { held = bytes; opens = opens; ways = inl (refused_ways list bytes v small few p.gives has) }
-opened_ways list e bytes (fault.Array f) opens small few p has =
-    record { held = bytes; opens = opens; ways = inr (array_ways list bytes f small few (p.array has.0) has.1) }
-
-fails_ways : (list : List Allowed) (e : Entry) (f : Fault) → IsOpenable e → MemberPasses list (member_of e) → OpenedFails list (member_of e) f → HasWays e
+fails_ways : (list : List Allowed) (e : Entry) (f : Fault) → IsOpenable e → MemberPasses list (member_of e) → OpenedFails list (member_of e) f → EntryWays e
 fails_ways list e f o m has =
     let same : has.bytes ≡ m.bytes = same_opening (member_of e) m.bytes has.bytes m.opens has.opens in
-    opened_ways list e has.bytes f has.opens has.small (small_opened e has.bytes o has.opens) (subst (BytesPass list) (sym same) m.pass) has.fail
+    record {
+      held = has.bytes;
+      opens = has.opens;
+      ways = held_ways list has.bytes f has.small (small_opened e has.bytes o has.opens) (subst (BytesPass list) (sym same) m.pass) has.fail;
+    }
 
-fault_ways : (list : List Allowed) (e : Entry) (f : Fault) → IsOpenable e → MemberPasses list (member_of e) → HasFault list e f → HasWays e
+fault_ways : (list : List Allowed) (e : Entry) (f : Fault) → IsOpenable e → MemberPasses list (member_of e) → HasFault list e f → EntryWays e
 fault_ways list e (fault.Broken b) o m has = absurd (broken_opens (member_of e) b has m.bytes m.opens)
 fault_ways list e fault.Archive o m has = fails_ways list e fault.Archive o m has
 fault_ways list e (fault.Refused v) o m has = fails_ways list e (fault.Refused v) o m has

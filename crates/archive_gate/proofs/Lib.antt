@@ -2,3 +2,4 @@
 pub mod Deciding
 pub mod Nothing
 pub mod Passing
+pub mod Tars

@@ -22,7 +22,6 @@ use Rattle.pickle_reach.specs.declared.spot.Step.TheVariants as step
 use Rattle.pickle_reach.specs.Item.{opcode_reaches, opcode_ends, reaches, ends}
 use Rattle.pickle_reach.specs.Reach.{Turn, as_shown, first_spot, step_by, step_at, reaches_on, reaches_from, NothingFrom}
 use Rattle.pickle_reach.specs.declared.granted.Granted.{Granted}
-use Rattle.packed_stream.specs.declared.reason.Packing.{Packing}
 use Rattle.packed_stream.specs.declared.reason.Packing.TheVariants as packing
 use Rattle.packed_stream.specs.Header.{begins_as_gzip, begins_as_zlib}
 use Rattle.packed_stream.proofs.Contents.{gzip_first, zlib_first}

@@ -1,11 +1,11 @@
 -- Members that pass, one after another.
-use Rattle.std.proofs.Common.{◌≡◌, ℕ, zero, suc, ◌+◌, ◌<◌, ◌≤◌, Bool, true, List, [], ◌∷◌, ◌++◌, length, take, drop, get_or, map, sym, ap, subst, ◌∙◌, arith}
+use Rattle.std.proofs.Common.{◌≡◌, ℕ, zero, suc, ◌+◌, ◌<◌, List, [], ◌∷◌, ◌++◌, length, take, drop, get_or, map, sym, ap, subst, ◌∙◌, arith}
 use Rattle.std.specs.Prelude.{All, Result, Ok, Err, Option, Some, None, IfOk, MatchOption}
 use Rattle.std.proofs.lemmas.List.{drop_more, take_more, take-append-drop, length-take-le}
 use Rattle.pickle_doc.specs.Document.{AreBytes}
 use Rattle.pickle_allow.specs.declared.list.Entry.{Entry as Allowed}
 use Rattle.zip_archive.specs.Entry.{Entry}
-use Rattle.zip_archive.specs.Archive.{Counts, IsZip}
+use Rattle.zip_archive.specs.Archive.{Counts}
 use Rattle.zip_archive.specs.Reader.{member_of, ByDirectoryAgrees}
 use Rattle.archive_gate.specs.declared.fault.Fault.{Fault}
 use Rattle.archive_gate.specs.declared.fault.Fault.TheVariants as fault

@@ -1,12 +1,11 @@
--- Which files pass a list: a pickle, an array, a packed file with one of these, or an archive of members that pass.
+-- Which files pass a list: a pickle, an array, an archive of members that pass, or a packed file with one of these that is no zip archive.
 -- Source: own.
 use Rattle.std.specs.Prelude.{◌≡◌, ◌⊎◌, ◌≤◌, ℕ, true, List, ◌∷◌, ◌++◌, length, Some, Ok}
 use Rattle.pickle_doc.specs.Document.{size_limit}
 use Rattle.pickle_allow.specs.declared.list.Entry.{Entry as Allowed}
 use Rattle.pickle_gate.specs.Gate.{Passes}
 use Rattle.pickle_reach.specs.declared.granted.Granted.{Granted}
-use Rattle.pickle_reach.specs.declared.answer.Reach.TheVariants as answer
-use Rattle.pickle_reach.specs.Reach.{first_spot, NothingFrom, IsReach}
+use Rattle.pickle_reach.specs.Reach.{first_spot, NothingFrom}
 use Rattle.zip_archive.specs.Entry.{Entry}
 use Rattle.zip_archive.specs.Archive.{IsZip}
 use Rattle.zip_archive.specs.Reader.{member_of}
@@ -20,7 +19,8 @@ use Rattle.npy_form.specs.Npy.{begins_as_array, behind_header, read_array}
 use Rattle.archive_gate.specs.declared.kind.Kind.{Kind}
 use Rattle.archive_gate.specs.declared.kind.Kind.TheVariants as kind
 use Rattle.archive_gate.specs.Kind.{begins_as_archive, kind_of}
-use Rattle.archive_gate.specs.Members.{alone, with_ids, IsFailing, PassesArchive}
+use Rattle.archive_gate.specs.Members.{alone, IsFailing, PassesArchive}
+use Rattle.archive_gate.specs.Tar.{PassesAsTar, HasWays, HasTarWays}
 
 -- ---- each kind
 
@@ -41,8 +41,9 @@ pub record PassesAsArray (list : List Allowed) (bytes : List ℕ) : Type 0 where
   pub held : HeldPasses list bytes
   pub nothing : ReachesNothing bytes
 
--- what a packed file opens to is an array or a pickle, and passes
+-- what a packed file opens to is a tar archive, an array or a pickle, and passes
 abbrev pub PassesInside : List Allowed → List ℕ → Kind → Type 0
+PassesInside list bytes kind.Tar = PassesAsTar list bytes
 PassesInside list bytes kind.Archive = ⊥
 PassesInside list bytes (kind.Packed p) = ⊥
 PassesInside list bytes kind.Array = PassesAsArray list bytes
@@ -59,6 +60,7 @@ pub record PassesAsPacked (list : List Allowed) (bytes : List ℕ) (p : Packing)
 -- ---- a file
 
 abbrev pub PassesAs : List Allowed → List ℕ → Kind → Type 0
+PassesAs list bytes kind.Tar = PassesAsTar list bytes
 PassesAs list bytes kind.Archive = PassesAsArchive list bytes
 PassesAs list bytes (kind.Packed p) = PassesAsPacked list bytes p
 PassesAs list bytes kind.Array = PassesAsArray list bytes
@@ -82,7 +84,7 @@ abbrev pub NothingInArrays : Type 0
 NothingInArrays = (bytes : List ℕ) → begins_as_array bytes ≡ true → ReachesNothing bytes
 
 -- of what a member opens to, or of what is behind its header, it is not known whether a loader reaches something: there are too many ways to read it
-pub record HasTooManyWays (bytes : List ℕ) : Type 0 where
+pub record HasWaysInZip (bytes : List ℕ) : Type 0 where
   pub entries : List Entry
   pub archive : IsZip bytes entries
   pub before : List Entry
@@ -91,9 +93,19 @@ pub record HasTooManyWays (bytes : List ℕ) : Type 0 where
   pub is : entries ≡ before ++ entry ∷ after
   pub held : List ℕ
   pub opens : OpensTo (member_of entry) held
-  pub ways : IsReach with_ids held answer.TooMany ⊎ IsReach with_ids (behind_header held) answer.TooMany
+  pub ways : HasWays held
 
--- in an archive that passes no member fails, unless there are too many ways to read one
+-- or of what is in a member of a tar archive, or of this itself, which may be packed
+pub record HasWaysInside (bytes : List ℕ) : Type 0 where
+  pub packing : Packing
+  pub content : List ℕ
+  pub opens : IsPacked packing bytes content
+  pub ways : HasTarWays content
+
+abbrev pub HasTooManyWays : List ℕ → Type 0
+HasTooManyWays bytes = HasWaysInZip bytes ⊎ (HasTarWays bytes ⊎ HasWaysInside bytes)
+
+-- in a zip archive that passes no member fails, unless there are too many ways to read one
 abbrev pub NoneFails : Type 0
 NoneFails = (list : List Allowed) (bytes : List ℕ) (es : List Entry) (f : Failing) → length bytes ≤ size_limit → PassesArchive list bytes → IsZip bytes es
-    → IsFailing list es f → HasTooManyWays bytes
+    → IsFailing list es f → HasWaysInZip bytes

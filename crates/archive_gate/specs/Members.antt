@@ -1,6 +1,6 @@
 -- Which members of an archive pass a list, by what they open to.
 -- Source: own. Of an `.npy` file numpy's `read_array` (lib/format.py) reads the raw numbers behind the header, or loads a pickle there.
-use Rattle.std.specs.Prelude.{◌≡◌, ◌≢◌, ◌⊎◌, ◌≤◌, ℕ, ◌+◌, ◌-◌, ◌*◌, ◌==◌, ◌&&◌, ◌||◌, not, eqb, nat_le, if◌then◌else◌, Bool, true, false, List, [], ◌∷◌, ◌++◌, length, take, drop, get_or, All, ⊤, Ok, Err}
+use Rattle.std.specs.Prelude.{◌≡◌, ◌≢◌, ◌⊎◌, ◌≤◌, ℕ, ◌-◌, ◌==◌, ◌&&◌, ◌||◌, not, eqb, nat_le, if◌then◌else◌, Bool, true, false, List, [], ◌∷◌, ◌++◌, length, take, drop, All, ⊤, Ok, Err}
 use Rattle.std.specs.List.{starts_with}
 use Rattle.pickle_doc.specs.Document.{AreBytes, size_limit}
 use Rattle.pickle_allow.specs.declared.list.Entry.{Entry as Allowed}
@@ -17,7 +17,7 @@ use Rattle.zip_archive.specs.Archive.{Counts, IsZip, are_distinct, any_case}
 use Rattle.zip_archive.specs.Reader.{Member, member_of, by_directory}
 use Rattle.npy_form.specs.declared.array.Held.TheVariants as held
 use Rattle.npy_form.specs.Npy.{begins_as_array, behind_header, read_array}
-use Rattle.archive_gate.specs.Kind.{begins_as_archive}
+use Rattle.archive_gate.specs.Kind.{holds_members}
 use Rattle.archive_gate.specs.declared.fault.ArrayFault.{ArrayFault}
 use Rattle.archive_gate.specs.declared.fault.ArrayFault.TheVariants as array_fault
 use Rattle.archive_gate.specs.declared.fault.Fault.{Fault}
@@ -66,7 +66,7 @@ ArrayPasses list bytes = (read_array bytes ≡ Ok held.Numbers) ⊎ ((read_array
 
 -- they are no archive themselves; and an array passes as one, too
 pub record BytesPass (list : List Allowed) (bytes : List ℕ) : Type 0 where
-  pub apart : begins_as_archive bytes ≡ false
+  pub apart : holds_members bytes ≡ false
   pub gives : Gives list bytes
   pub array : begins_as_array bytes ≡ true → ArrayPasses list bytes
 
@@ -101,7 +101,7 @@ ArrayFails list bytes (array_fault.Refused v) = (read_array bytes ≡ Ok held.Pi
 
 abbrev pub BytesFail : List Allowed → List ℕ → Fault → Type 0
 BytesFail list bytes (fault.Broken b) = ⊥
-BytesFail list bytes fault.Archive = begins_as_archive bytes ≡ true
+BytesFail list bytes fault.Archive = holds_members bytes ≡ true
 BytesFail list bytes (fault.Refused v) = IsRefusedAs list bytes v
 BytesFail list bytes (fault.Array f) = (begins_as_array bytes ≡ true) × ArrayFails list bytes f
 

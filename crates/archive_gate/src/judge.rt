@@ -8,7 +8,7 @@ ghost use Rattle.archive_gate.specs.Members.{with_ids, raises_first, Gives, Arra
 ghost use Rattle.pickle_gate.specs.Gate.{Passes};
 ghost use Rattle.zip_archive.specs.Reader.{member_of};
 
-use crate::begins::{begins_as_archive, raises_first};
+use crate::begins::{holds_members, raises_first};
 use crate::fault::{ArrayFault, Fault};
 use npy_form::{Held, begins_as_array, behind_header, read_array};
 use pickle_allow::Entry;
@@ -102,7 +102,7 @@ fn fault_in(alloc: Global, list: &[Entry<'_>], bytes: &[u8]) -> Result<Option<Fa
     requires { length bytes.now ≤ size_limit }
     ensures { IfOk result (λ o. MatchOption o (BytesPass list.now bytes.now) (λ f. BytesFail list.now bytes.now f)) }
 {
-    if begins_as_archive(bytes) {
+    if holds_members(bytes) {
         return Ok(Some(Fault::Archive));
     }
     if let Some(verdict) = refused(alloc, list, bytes)? {
@@ -115,7 +115,7 @@ fn fault_in(alloc: Global, list: &[Entry<'_>], bytes: &[u8]) -> Result<Option<Fa
 }
 
 /// The same, with what is known of numbers that stand in bytes.
-fn fault_in_bytes(
+pub(crate) fn fault_in_bytes(
     alloc: Global,
     list: &[Entry<'_>],
     bytes: &[u8],

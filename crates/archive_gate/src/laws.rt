@@ -3,6 +3,7 @@
 ghost use Rattle.zip_archive.specs.Reader.{told_by_locator, told_before};
 ghost use Rattle.archive_gate.specs.Members.{EachMemberPasses, WhatIsReadPasses};
 ghost use Rattle.archive_gate.specs.File.{NothingInArchives, NothingInPacked, NothingInArrays, NoneFails};
+ghost use Rattle.archive_gate.specs.Tar.{ByHeaderPasses, NoneFailsInTar};
 
 /// Each member that a reader by the directory finds in an archive that passes, passes: one that goes where the locator tells, as miniz.
 pub fn by_locator_passes()
@@ -37,4 +38,14 @@ pub fn nothing_in_arrays()
 /// In an archive that passes no member fails, unless there are too many ways to read one.
 pub fn none_fails()
     ensures { NoneFails }
+{}
+
+/// Each member that the reader of `tarfile` finds in a tar archive that passes, passes.
+pub fn by_header_passes()
+    ensures { ByHeaderPasses }
+{}
+
+/// In a tar archive that passes no member fails, unless there are too many ways to read one.
+pub fn none_fails_in_tar()
+    ensures { NoneFailsInTar }
 {}

@@ -1,16 +1,15 @@
 -- The text of the gate, of what was judged.
-use Rattle.std.proofs.Common.{◌≡◌, ◌⊎◌, ◌<◌, ◌≤◌, ℕ, zero, suc, Bool, true, false, List, [], ◌∷◌, ◌++◌, length, length-append, length-drop, get_or, inl, inr, Ok, Err, refl, sym, ap, subst, ◌∙◌, arith}
-use Rattle.std.specs.Prelude.{Result, IfOk, IfErr, IsErrAnd}
+use Rattle.std.proofs.Common.{◌≡◌, ◌<◌, ◌≤◌, ℕ, true, false, List, [], ◌∷◌, ◌++◌, length, length-append, length-drop, get_or, inl, inr, Ok, Err, refl, sym, ap, subst, ◌∙◌, arith}
+use Rattle.std.specs.Prelude.{Result, IfOk, IsErrAnd}
 use Rattle.pickle_io.specs.Device.{Told, Wrote, Broke}
 use Rattle.pickle_doc.specs.Document.{Contents, ReadsAs, AreBytes, size_limit}
 use Rattle.pickle_text.specs.Output.{Output}
 use Rattle.pickle_allow.specs.declared.list.Entry.{Entry as Allowed}
 use Rattle.pickle_allow.specs.declared.listing.Listing.{Listing}
-use Rattle.pickle_allow.specs.declared.listing.Listing.TheVariants as listing
 use Rattle.pickle_allow.specs.Grammar.{IsListing}
 use Rattle.pickle_gate.specs.declared.verdict.Verdict.{Verdict}
 use Rattle.pickle_gate.specs.Verdict.{IsVerdict}
-use Rattle.pickle_script.specs.GateText.{line_for, verdict_text, verdict_status, IsVerdictText, StopsGate}
+use Rattle.pickle_script.specs.GateText.{line_for, verdict_text, verdict_status, StopsGate}
 use Rattle.pickle_script.proofs.GateTexts.{tells}
 use Rattle.pickle_script.specs.declared.stop.Stop.{Stop}
 use Rattle.pickle_script.specs.declared.stop.Stop.TheVariants as stop
@@ -39,7 +38,8 @@ use Rattle.archive_script.specs.MembersText.{refusal_output}
 use Rattle.archive_script.specs.declared.judged.Judged.{Judged}
 use Rattle.archive_script.specs.declared.judged.Single.{Single}
 use Rattle.archive_script.specs.SingleText.{single_output, inside_output, no_packed_output, held_text, IsBehindText, IsHeldText, IsArrayText, IsSingleText, IsPackedText, Says}
-use Rattle.archive_script.specs.GateText.{judged_output, IsLineIn, fault_output, IsMembersVerdict, IsEntriesText, IsArchiveText, IsTextAs, IsFileText, IsNamedText, named_output, AnswersWith}
+use Rattle.archive_script.specs.FaultText.{fault_output}
+use Rattle.archive_script.specs.GateText.{judged_output, IsLineIn, IsMembersVerdict, IsEntriesText, IsArchiveText, IsTextAs, IsFileText, IsNamedText, named_output, AnswersWith}
 
 -- ---- an answer
 

@@ -2,3 +2,4 @@
 pub mod GateLaws
 pub mod GateTexts
 pub mod MembersTexts
+pub mod TarTexts

@@ -1,6 +1,6 @@
 -- The text of the members of an archive, or of why there are none.
 use Rattle.std.proofs.Common.{◌≡◌, ◌≤◌, ℕ, zero, suc, ◌+◌, ◌-◌, ◌^◌, ◌<◌, sym, ◌∙◌, List, [], ◌∷◌, length, get_or, inl, inr, Ok, Err, refl, subst, arith}
-use Rattle.std.specs.Prelude.{Option, Result, IsErrAnd}
+use Rattle.std.specs.Prelude.{Bool, Option, Result, IsErrAnd}
 use Rattle.pickle_io.specs.Device.{Told, Wrote, Broke, each}
 use Rattle.pickle_text.specs.Output.{Output}
 use Rattle.zip_archive.specs.declared.reason.Refusal.{Refusal}
@@ -12,9 +12,14 @@ use Rattle.packed_stream.specs.declared.reason.Packing.{Packing}
 use Rattle.packed_stream.specs.declared.reason.Refusal.{Refusal as PackedRefusal}
 use Rattle.packed_stream.specs.Header.{header_of, packing_of}
 use Rattle.packed_stream.specs.Packed.{end_size, IsPacked, opened}
+use Rattle.tar_archive.specs.declared.reason.Refusal.{Refusal as TarRefusal}
+use Rattle.tar_archive.specs.declared.member.Member.{Member}
+use Rattle.tar_archive.specs.Tar.{read_tar}
+use Rattle.tar_archive.specs.Begins.{begins_as_tar}
+use Rattle.archive_script.specs.TarText.{no_tar_output, tar_member_line, IsTarListedBy, IsTarMembers}
 use Rattle.archive_script.specs.SingleText.{no_packed_output, Says}
 use Rattle.archive_script.proofs.GateTexts.{says_wrote, says_broke}
-use Rattle.archive_script.specs.MembersText.{member_line, members_output, refusal_output, IsArchiveMembers, packed_member_line, packed_output, IsPackedMembers, IsMembersBy, IsMembersText, AnswersMembers}
+use Rattle.archive_script.specs.MembersText.{member_line, members_output, refusal_output, IsArchiveMembers, packed_member_line, packed_output, IsPackedMembers, IsMembersBy, IsMembersAs, IsMembersText, AnswersMembers}
 use Rattle.pickle_script.specs.declared.stop.Stop.{Stop}
 use Rattle.pickle_script.specs.declared.stop.Stop.TheVariants as stop
 
@@ -65,8 +70,31 @@ unopened p bytes r is = inl (r, sym is, refl)
 
 -- ---- a file
 
-pub answers_members : {S : Type 0} (bytes : List ℕ) (shown o : Option Packing) (told : S → Told) (a b : S) (answer : Result ℕ Stop) → shown ≡ packing_of bytes → shown ≡ o
-    → Says (IsMembersBy o bytes) (told a) (told b) answer → AnswersMembers bytes told a b answer
-answers_members bytes shown o told a b answer same is s =
-    let all : Says (IsMembersText bytes) (told a) (told b) answer = subst (λ (x : Option Packing). Says (IsMembersBy x bytes) (told a) (told b) answer) (sym is ∙ same) s in
+pub by_packing : (bytes : List ℕ) (shown o : Option Packing) (a b : Told) (answer : Result ℕ Stop) → shown ≡ packing_of bytes → shown ≡ o → Says (IsMembersBy o bytes) a b answer
+    → Says (IsMembersBy (packing_of bytes) bytes) a b answer
+by_packing bytes shown o a b answer same is s = subst (λ (x : Option Packing). Says (IsMembersBy x bytes) a b answer) (sym is ∙ same) s
+
+pub answers_members : {S : Type 0} (bytes : List ℕ) (shown tar : Bool) (told : S → Told) (a b : S) (answer : Result ℕ Stop) → shown ≡ begins_as_tar bytes → shown ≡ tar
+    → Says (IsMembersAs tar bytes) (told a) (told b) answer → AnswersMembers bytes told a b answer
+answers_members bytes shown tar told a b answer same is s =
+    let all : Says (IsMembersText bytes) (told a) (told b) answer = subst (λ (t : Bool). Says (IsMembersAs t bytes) (told a) (told b) answer) (sym is ∙ same) s in
     record { whole = all.whole; stopped = all.stopped; fits = all.fits }
+
+-- ---- a tar archive
+
+pub tar_wrote : (bytes : List ℕ) (ms shown : List Member) (a b : Told) → Ok ms ≡ read_tar bytes → shown ≡ ms → Wrote a b (each (tar_member_line bytes) shown)
+    → Says (IsTarMembers bytes) a b (Ok 0)
+tar_wrote bytes ms shown a b is same w =
+    let o : Output = record { text = each (tar_member_line bytes) ms; status = 0 } in
+    says_wrote (IsTarMembers bytes) o a b (subst (λ (r : Result (List Member) TarRefusal). IsTarListedBy bytes r o) is refl)
+    (subst (λ (l : List Member). Wrote a b (each (tar_member_line bytes) l)) same w)
+
+pub tar_broke : (bytes : List ℕ) (ms shown : List Member) (a b : Told) (answer : Result ℕ Stop) → IsErrAnd answer (λ e. e ≡ stop.Write) → Ok ms ≡ read_tar bytes → shown ≡ ms
+    → Broke a b (each (tar_member_line bytes) shown) → Says (IsTarMembers bytes) a b answer
+tar_broke bytes ms shown a b answer h is same w =
+    let o : Output = record { text = each (tar_member_line bytes) ms; status = 0 } in
+    says_broke (IsTarMembers bytes) o a b answer h (subst (λ (r : Result (List Member) TarRefusal). IsTarListedBy bytes r o) is refl)
+    (subst (λ (l : List Member). Broke a b (each (tar_member_line bytes) l)) same w)
+
+pub no_tar_is : (bytes : List ℕ) (r : TarRefusal) → Err r ≡ read_tar bytes → IsTarMembers bytes (no_tar_output r)
+no_tar_is bytes r is = subst (λ (x : Result (List Member) TarRefusal). IsTarListedBy bytes x (no_tar_output r)) is refl

@@ -1,7 +1,7 @@
 -- The text of whether a file passes a list: a pickle, an array, a packed file, or an archive of members that pass; and what is answered where it was to be written.
 -- Source: own.
-use Rattle.std.specs.Prelude.{◌≡◌, ◌≢◌, ◌⊎◌, ◌≤◌, ◌<◌, ◌↔◌, ℕ, true, false, MatchBool, List, length, codes, decimal, Result, Err, IfOk, IfErr, ⊤}
-use Rattle.pickle_io.specs.Text.{◌⧺◌, quoted}
+use Rattle.std.specs.Prelude.{◌≡◌, ◌⊎◌, ◌≤◌, ◌<◌, ◌↔◌, ℕ, true, false, List, length, codes, decimal, Result, Err, IfOk, IfErr, ⊤}
+use Rattle.pickle_io.specs.Text.{◌⧺◌}
 use Rattle.pickle_io.specs.Device.{Told}
 use Rattle.pickle_doc.specs.Document.{Contents, ReadsAs, AreBytes, size_limit}
 use Rattle.pickle_text.specs.Column.{newline}
@@ -10,21 +10,17 @@ use Rattle.pickle_allow.specs.declared.list.Entry.{Entry as Allowed}
 use Rattle.pickle_allow.specs.declared.listing.Listing.{Listing}
 use Rattle.pickle_allow.specs.declared.listing.Listing.TheVariants as listing
 use Rattle.pickle_allow.specs.Grammar.{IsListing}
-use Rattle.pickle_script.specs.GateText.{line_for, verdict_text, verdict_status, IsVerdictText, WroteText, StopsGate}
+use Rattle.pickle_script.specs.GateText.{line_for, IsVerdictText, WroteText, StopsGate}
 use Rattle.pickle_script.specs.declared.stop.Stop.{Stop}
 use Rattle.pickle_script.specs.declared.stop.Stop.TheVariants as stop
-use Rattle.inflate.specs.declared.refusal.Refusal.{Refusal}
 use Rattle.zip_archive.specs.Entry.{Entry}
 use Rattle.zip_archive.specs.Archive.{IsZip, are_distinct, any_case}
 use Rattle.zip_archive.specs.Reader.{member_of}
-use Rattle.zip_open.specs.declared.broken.Broken.{Broken}
-use Rattle.zip_open.specs.declared.broken.Broken.TheVariants as broken
 use Rattle.archive_gate.specs.declared.fault.Fault.{Fault}
 use Rattle.archive_gate.specs.declared.fault.Fault.TheVariants as fault
 use Rattle.archive_gate.specs.declared.fault.Failing.{Failing}
 use Rattle.zip_open.specs.Opened.{OpensTo, unpacked_total}
 use Rattle.npy_form.specs.Npy.{behind_header}
-use Rattle.archive_gate.specs.declared.fault.ArrayFault.{ArrayFault}
 use Rattle.archive_gate.specs.declared.fault.ArrayFault.TheVariants as array_fault
 use Rattle.archive_gate.specs.declared.kind.Kind.{Kind}
 use Rattle.archive_gate.specs.declared.kind.Kind.TheVariants as kind
@@ -32,49 +28,13 @@ use Rattle.archive_gate.specs.Kind.{kind_of}
 use Rattle.archive_gate.specs.Members.{AllPass, IsFailing}
 use Rattle.archive_gate.specs.File.{PassesFile, HasTooManyWays}
 use Rattle.archive_script.specs.MembersText.{refusal_output, IsUnlisted}
-use Rattle.archive_script.specs.SingleText.{named, passing_output, array_line, behind_text, stream_sentence, too_large_line, single_output, inside_output, no_packed_output, IsArrayText, IsPackedText}
+use Rattle.archive_script.specs.FaultText.{named, passing_output, fault_text, fault_output}
+use Rattle.archive_script.specs.TarText.{IsTarText}
+use Rattle.archive_script.specs.SingleText.{too_large_line, single_output, inside_output, no_packed_output, IsArrayText, IsPackedText}
 use Rattle.archive_script.specs.declared.judged.Judged.{Judged}
 use Rattle.archive_script.specs.declared.judged.Judged.TheVariants as judged
 
 -- ---- what is said of a file
-
-unfoldable pub archive_words : List ℕ
-archive_words = codes "an archive itself: it is not looked at\n"
-
--- what is wrong with the stream of a packed member; the offset counts from its first byte
-unfoldable pub stream_words : List ℕ
-stream_words = codes "not deflated: "
-
-unfoldable pub stream_line : Refusal → List ℕ
-stream_line r = stream_words ⧺ decimal r.offset ⧺ codes ": " ⧺ stream_sentence r.why ⧺ newline
-
-unfoldable pub size_words : List ℕ
-size_words = codes "not deflated: fewer bytes than are told\n"
-
-unfoldable pub rest_words : List ℕ
-rest_words = codes "not deflated: bytes behind the stream\n"
-
-unfoldable pub checksum_words : List ℕ
-checksum_words = codes "another checksum than is told\n"
-
--- of a member that does not open
-abbrev pub broken_text : Broken → List ℕ
-broken_text (broken.Stream r) = stream_line r
-broken_text broken.Size = size_words
-broken_text broken.Rest = rest_words
-broken_text broken.Checksum = checksum_words
-
--- of an array that does not pass
-abbrev pub array_fault_text : List ℕ → ArrayFault → List ℕ
-array_fault_text line (array_fault.Form r) = array_line r
-array_fault_text line (array_fault.Refused v) = behind_text (verdict_text line v)
-
--- of a member that does not pass
-abbrev pub fault_text : List ℕ → Fault → List ℕ
-fault_text line (fault.Broken b) = broken_text b
-fault_text line fault.Archive = archive_words
-fault_text line (fault.Refused v) = verdict_text line v
-fault_text line (fault.Array f) = array_fault_text line f
 
 unfoldable pub same_names_words : List ℕ
 same_names_words = codes "two names that differ in case alone: it is not looked at\n"
@@ -98,9 +58,6 @@ IsLineIn e fault.Archive line = ⊤
 IsLineIn e (fault.Refused v) line = (bytes : List ℕ) → OpensTo (member_of e) bytes → (d : Contents) → ReadsAs false bytes d → line ≡ line_for d v
 IsLineIn e (fault.Array (array_fault.Form r)) line = ⊤
 IsLineIn e (fault.Array (array_fault.Refused v)) line = (bytes : List ℕ) → OpensTo (member_of e) bytes → (d : Contents) → ReadsAs false (behind_header bytes) d → line ≡ line_for d v
-
-abbrev pub fault_output : List ℕ → List ℕ → Fault → Output
-fault_output name line f = record { text = named name (fault_text line f); status = 1 }
 
 -- of the first member that does not pass
 pub record IsFailingText (list : List Allowed) (es : List Entry) (o : Output) : Type 0 where
@@ -143,6 +100,7 @@ IsArchiveText list bytes o = IsUnlisted bytes o ⊎ ((es : List Entry) × IsZip 
 
 -- by what it begins as
 abbrev pub IsTextAs : List Allowed → List ℕ → Kind → Output → Type 0
+IsTextAs list bytes kind.Tar o = IsTarText list bytes o
 IsTextAs list bytes kind.Archive o = IsArchiveText list bytes o
 IsTextAs list bytes (kind.Packed p) o = IsPackedText list bytes p o
 IsTextAs list bytes kind.Array o = IsArrayText list bytes o

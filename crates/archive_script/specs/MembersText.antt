@@ -1,6 +1,6 @@
--- The text of the members of a zip archive, or of what a packed file opens to; or of why bytes are none in the form in which usual writers write.
+-- The text of the members of a zip archive or of a tar archive, or of what a packed file opens to; or of why bytes are none in the form in which usual writers write.
 -- Source: own.
-use Rattle.std.specs.Prelude.{◌≡◌, ◌≢◌, ◌⊎◌, ◌≤◌, ℕ, ◌+◌, ◌-◌, ◌==◌, if◌then◌else◌, List, codes, decimal, length, Option, Some, None, Result, Err, IfOk, IfErr}
+use Rattle.std.specs.Prelude.{◌≡◌, ◌≢◌, ◌⊎◌, ◌≤◌, ℕ, ◌+◌, ◌-◌, ◌==◌, if◌then◌else◌, Bool, true, false, List, codes, decimal, length, Option, Some, None, Result, Err, IfOk, IfErr}
 use Rattle.pickle_io.specs.Text.{◌⧺◌, quoted}
 use Rattle.pickle_io.specs.Device.{Told, each}
 use Rattle.pickle_text.specs.Column.{newline}
@@ -17,7 +17,10 @@ use Rattle.packed_stream.specs.declared.reason.Packing.{Packing}
 use Rattle.packed_stream.specs.declared.reason.Refusal.{Refusal as PackedRefusal}
 use Rattle.packed_stream.specs.Header.{packing_of}
 use Rattle.packed_stream.specs.Packed.{end_size, IsPacked, opened}
-use Rattle.archive_script.specs.SingleText.{refusal_words, packing_word, no_packed_output}
+use Rattle.archive_script.specs.FaultText.{refusal_words}
+use Rattle.tar_archive.specs.Begins.{begins_as_tar}
+use Rattle.archive_script.specs.TarText.{IsTarMembers}
+use Rattle.archive_script.specs.SingleText.{packing_word, no_packed_output}
 use Rattle.pickle_script.specs.declared.stop.Stop.{Stop}
 use Rattle.pickle_script.specs.declared.stop.Stop.TheVariants as stop
 
@@ -83,9 +86,13 @@ abbrev pub IsMembersBy : Option Packing → List ℕ → Output → Type 0
 IsMembersBy (Some p) bytes o = IsPackedMembers p bytes o
 IsMembersBy None bytes o = IsArchiveMembers bytes o
 
--- of what begins as a packed file, and of other bytes as of an archive
+-- of what begins as a tar archive or as a packed file, and of other bytes as of a zip archive
+abbrev pub IsMembersAs : Bool → List ℕ → Output → Type 0
+IsMembersAs true bytes o = IsTarMembers bytes o
+IsMembersAs false bytes o = IsMembersBy (packing_of bytes) bytes o
+
 abbrev pub IsMembersText : List ℕ → Output → Type 0
-IsMembersText bytes o = IsMembersBy (packing_of bytes) bytes o
+IsMembersText bytes o = IsMembersAs (begins_as_tar bytes) bytes o
 
 -- what is answered where the text was to be written to a sink, of which `told` says what it reports
 pub record AnswersMembers (bytes : List ℕ) {S : Type 0} (told : S → Told) (old new : S) (answer : Result ℕ Stop) : Type 0 where

@@ -1,7 +1,7 @@
--- What is said of a file that holds one thing, a pickle or an array, and of a packed file.
+-- What is said of a file that is a pickle, an array or a tar archive, and of a packed file.
 -- Source: own.
 use Rattle.std.specs.Prelude.{◌≡◌, ◌≢◌, ◌⊎◌, ◌≤◌, ℕ, ◌==◌, if◌then◌else◌, Bool, true, false, List, length, codes, decimal, Result, Ok, Err, IfOk, IfErr}
-use Rattle.pickle_io.specs.Text.{◌⧺◌, quoted}
+use Rattle.pickle_io.specs.Text.{◌⧺◌}
 use Rattle.pickle_io.specs.Device.{Told}
 use Rattle.pickle_doc.specs.Document.{AreBytes, size_limit}
 use Rattle.pickle_text.specs.Column.{newline}
@@ -11,7 +11,6 @@ use Rattle.pickle_gate.specs.declared.verdict.Verdict.{Verdict}
 use Rattle.pickle_script.specs.GateText.{verdict_text, verdict_status, IsVerdictText, WroteText, StopsGate}
 use Rattle.pickle_script.specs.declared.stop.Stop.{Stop}
 use Rattle.pickle_script.specs.declared.stop.Stop.TheVariants as stop
-use Rattle.inflate.specs.declared.refusal.Reason.{Reason as StreamReason}
 use Rattle.inflate.specs.declared.refusal.Reason.TheVariants as stream
 use Rattle.packed_stream.specs.declared.reason.Packing.{Packing}
 use Rattle.packed_stream.specs.declared.reason.Packing.TheVariants as packing
@@ -19,8 +18,6 @@ use Rattle.packed_stream.specs.declared.reason.Reason.{Reason as PackedReason}
 use Rattle.packed_stream.specs.declared.reason.Reason.TheVariants as packed
 use Rattle.packed_stream.specs.declared.reason.Refusal.{Refusal as PackedRefusal}
 use Rattle.packed_stream.specs.Packed.{IsPacked, opened}
-use Rattle.npy_form.specs.declared.reason.Reason.{Reason as ArrayReason}
-use Rattle.npy_form.specs.declared.reason.Reason.TheVariants as array
 use Rattle.npy_form.specs.declared.reason.Refusal.{Refusal as ArrayRefusal}
 use Rattle.npy_form.specs.declared.array.Held.{Held}
 use Rattle.npy_form.specs.declared.array.Held.TheVariants as held
@@ -28,43 +25,15 @@ use Rattle.npy_form.specs.Npy.{behind_header, read_array}
 use Rattle.archive_gate.specs.declared.kind.Kind.{Kind}
 use Rattle.archive_gate.specs.declared.kind.Kind.TheVariants as kind
 use Rattle.archive_gate.specs.Kind.{kind_of}
+use Rattle.archive_script.specs.FaultText.{named, passing_output, refusal_words, array_line, behind_text, stream_sentence, fault_output}
+use Rattle.archive_script.specs.TarText.{no_tar_output, unclear_output, two_kinds_output, IsTarText}
 use Rattle.archive_script.specs.declared.judged.Single.{Single}
 use Rattle.archive_script.specs.declared.judged.Single.TheVariants as single
 
--- what is said of something, with its name in front
-unfoldable pub named : List ℕ → List ℕ → List ℕ
-named name said = quoted name ⧺ codes ": " ⧺ said
-
-abbrev pub passing_output : Output
-passing_output = record { text = codes "passes\n"; status = 0 }
-
-unfoldable pub refusal_words : List ℕ
-refusal_words = codes "not in form: "
-
 -- ---- an array
-
-unfoldable pub array_sentence : ArrayReason → List ℕ
-array_sentence array.Cut = codes "the header of an array that is cut"
-array_sentence array.Version = codes "an array of a version that numpy does not write"
-array_sentence array.Length = codes "a header of an array that ends at no multiple of 16"
-array_sentence array.Text = codes "a header of an array that numpy does not write"
-array_sentence array.Item = codes "items of an array that are no plain numbers, texts, times, bytes or objects"
-array_sentence array.Number = codes "a number that is too large for an array"
-array_sentence array.Axes = codes "more than 64 axes"
-array_sentence array.Size = codes "more or fewer bytes than the header of the array tells"
-
-unfoldable pub array_line : ArrayRefusal → List ℕ
-array_line r = refusal_words ⧺ decimal r.offset ⧺ codes ": " ⧺ array_sentence r.why ⧺ newline
 
 abbrev pub no_array_output : ArrayRefusal → Output
 no_array_output r = record { text = array_line r; status = 1 }
-
-unfoldable pub behind_words : List ℕ
-behind_words = codes "behind its header: "
-
--- what is said of what is behind the header of an array; offsets count from there
-unfoldable pub behind_text : List ℕ → List ℕ
-behind_text said = behind_words ⧺ said
 
 -- where it does not pass
 abbrev pub behind_output : Output → Output
@@ -91,6 +60,7 @@ abbrev pub nested_output : Output
 nested_output = record { text = nested_words; status = 1 }
 
 abbrev pub IsSingleText : List Allowed → List ℕ → Kind → Output → Type 0
+IsSingleText list bytes kind.Tar o = IsTarText list bytes o
 IsSingleText list bytes kind.Archive o = o ≡ nested_output
 IsSingleText list bytes (kind.Packed p) o = o ≡ nested_output
 IsSingleText list bytes kind.Array o = IsArrayText list bytes o
@@ -106,6 +76,11 @@ single_output single.Numbers = passing_output
 single_output (single.NoArray r) = no_array_output r
 single_output (single.Behind v line) = record { text = held_text line.items v; status = verdict_status v }
 single_output single.Nested = nested_output
+single_output single.Tar = passing_output
+single_output (single.NoTar r) = no_tar_output r
+single_output single.Unclear = unclear_output
+single_output single.TwoKinds = two_kinds_output
+single_output (single.Member name f line) = fault_output name.items line.items f
 
 -- ---- a packed file
 
@@ -117,14 +92,6 @@ packing_word packing.Zlib = codes "(zlib)"
 -- where that does not pass, it is named
 abbrev pub inside_output : Packing → Output → Output
 inside_output p said = record { text = if said.status == 0 then said.text else named (packing_word p) said.text; status = said.status }
-
--- what is wrong with a stream
-unfoldable pub stream_sentence : StreamReason → List ℕ
-stream_sentence stream.TooLarge = codes "more bytes than are told"
-stream_sentence stream.CutShort = codes "it ends too early"
-stream_sentence stream.BadBlock = codes "no block"
-stream_sentence stream.BadCode = codes "no code"
-stream_sentence stream.BadDistance = codes "a copy from before the first byte"
 
 unfoldable pub packed_sentence : PackedReason → List ℕ
 packed_sentence packed.Cut = codes "the header of a packed file that is cut"

@@ -3,128 +3,23 @@
 ghost use Rattle.std.specs.Prelude.{◌≡◌, ◌≤◌, length};
 ghost use Rattle.pickle_io.specs.Device.{Writes};
 ghost use Rattle.pickle_doc.specs.Document.{size_limit};
-ghost use Rattle.archive_script.specs.SingleText.{named, Says};
-ghost use Rattle.archive_script.specs.GateText.{stream_words, stream_line, size_words, rest_words, checksum_words, broken_text, same_names_words, archive_words, array_fault_text, fault_text, judged_output, IsFileText, IsNamedText, no_list_words, no_entry_words, no_list_line, IsNoList, IsGateText, AnswersWith};
+ghost use Rattle.archive_script.specs.FaultText.{named};
+ghost use Rattle.archive_script.specs.SingleText.{Says};
+ghost use Rattle.archive_script.specs.GateText.{same_names_words, judged_output, IsFileText, IsNamedText, no_list_words, no_entry_words, no_list_line, IsNoList, IsGateText, AnswersWith};
 
+use crate::fault::write_failing;
 use crate::judged::Judged;
 use crate::judging::judge;
 use crate::members::write_refusal;
-use crate::single::{
-    single_status, stream_sentence, write_array_line, write_behind, write_inside, write_no_packed,
-    write_single, write_too_large,
-};
-use archive_gate::{ArrayFault, Fault};
-use inflate::Refusal;
+use crate::single::{single_status, write_inside, write_no_packed, write_single, write_too_large};
 use pickle_allow::{Entry, Listing, read_list};
 use pickle_doc::LIMIT;
 use pickle_io::{Failed, Page, write_all, write_decimal, write_quoted};
-use pickle_script::{Stop, write_verdict};
+use pickle_script::Stop;
 use std::alloc::Global;
-use zip_open::Broken;
 
 /// The status where a list is none: nothing is said of the file.
 const NO_ANSWER: u8 = 2;
-
-/// Words of a line.
-#[tactic(auto, unfolding(crate::specs::GateText::stream_words))]
-fn stream_words() -> &'static str
-    ensures { result.now ≡ stream_words }
-{
-    "not deflated: "
-}
-
-/// Writes why a packed member is no stream of deflate, and where.
-#[tactic(auto, using(pickle_io::proofs::Devices::text_steps), unfolding(crate::specs::GateText::stream_line))]
-fn write_stream<S: Page>(refusal: Refusal, page: &mut S) -> Result<(), Failed>
-    ensures { Writes (S.told page.old) (S.told page.new) result (stream_line refusal) }
-{
-    write_all(page, stream_words().as_bytes())?;
-    write_decimal(refusal.offset as u64, page)?;
-    write_all(page, b": ")?;
-    write_all(page, stream_sentence(refusal.why).as_bytes())?;
-    write_all(page, b"\n")
-}
-
-/// Words of a line.
-#[tactic(auto, unfolding(crate::specs::GateText::size_words))]
-fn size_words() -> &'static str
-    ensures { result.now ≡ size_words }
-{
-    "not deflated: fewer bytes than are told\n"
-}
-
-/// Words of a line.
-#[tactic(auto, unfolding(crate::specs::GateText::rest_words))]
-fn rest_words() -> &'static str
-    ensures { result.now ≡ rest_words }
-{
-    "not deflated: bytes behind the stream\n"
-}
-
-/// Words of a line.
-#[tactic(auto, unfolding(crate::specs::GateText::checksum_words))]
-fn checksum_words() -> &'static str
-    ensures { result.now ≡ checksum_words }
-{
-    "another checksum than is told\n"
-}
-
-/// Writes why a member does not open.
-fn write_broken<S: Page>(broken: Broken, page: &mut S) -> Result<(), Failed>
-    ensures { Writes (S.told page.old) (S.told page.new) result (broken_text broken) }
-{
-    match broken {
-        Broken::Stream(refusal) => write_stream(refusal, page),
-        Broken::Size => write_all(page, size_words().as_bytes()),
-        Broken::Rest => write_all(page, rest_words().as_bytes()),
-        Broken::Checksum => write_all(page, checksum_words().as_bytes()),
-    }
-}
-
-/// Words of a line.
-#[tactic(auto, unfolding(crate::specs::GateText::archive_words))]
-fn archive_words() -> &'static str
-    ensures { result.now ≡ archive_words }
-{
-    "an archive itself: it is not looked at\n"
-}
-
-/// Writes why an array does not pass.
-fn write_array_fault<S: Page>(fault: ArrayFault, line: &[u8], page: &mut S) -> Result<(), Failed>
-    ensures { Writes (S.told page.old) (S.told page.new) result (array_fault_text line.now fault) }
-{
-    match fault {
-        ArrayFault::Form(refusal) => write_array_line(refusal, page),
-        ArrayFault::Refused(verdict) => write_behind(verdict, line, page),
-    }
-}
-
-/// Writes why a member does not pass.
-fn write_fault<S: Page>(fault: Fault, line: &[u8], page: &mut S) -> Result<(), Failed>
-    ensures { Writes (S.told page.old) (S.told page.new) result (fault_text line.now fault) }
-{
-    match fault {
-        Fault::Broken(broken) => write_broken(broken, page),
-        Fault::Archive => write_all(page, archive_words().as_bytes()),
-        Fault::Refused(verdict) => write_verdict(verdict, line, page),
-        Fault::Array(fault) => write_array_fault(fault, line, page),
-    }
-}
-
-/// Writes the same with the name of the member in front.
-#[tactic(auto, using(pickle_io::proofs::Devices::text_steps), unfolding(crate::specs::SingleText::named))]
-fn write_failing<S: Page>(
-    name: &[u8],
-    fault: Fault,
-    line: &[u8],
-    page: &mut S,
-) -> Result<(), Failed>
-    ensures { Writes (S.told page.old) (S.told page.new) result (named name.now (fault_text line.now fault)) }
-{
-    write_quoted(name, page)?;
-    write_all(page, b": ")?;
-    write_fault(fault, line, page)
-}
 
 /// Words of a line.
 #[tactic(auto, unfolding(crate::specs::GateText::same_names_words))]
@@ -183,7 +78,7 @@ pub fn write_file<S: Page>(
 }
 
 /// Writes what is said of a file, with its name in front.
-#[tactic(auto, using(pickle_io::proofs::Devices::text_steps), unfolding(crate::specs::SingleText::named))]
+#[tactic(auto, using(pickle_io::proofs::Devices::text_steps), unfolding(crate::specs::FaultText::named))]
 fn write_named<S: Page>(name: &[u8], judged: &Judged<'_>, page: &mut S) -> Result<(), Failed>
     ensures { Writes (S.told page.old) (S.told page.new) result (named name.now (judged_output judged.now).text) }
 {

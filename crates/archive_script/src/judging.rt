@@ -12,6 +12,7 @@ ghost use Rattle.archive_script.specs.SingleText.{single_output, IsBehindText, I
 ghost use Rattle.archive_script.specs.GateText.{judged_output, IsLineIn, IsMembersVerdict, IsEntriesText, IsArchiveText, IsFileText};
 
 use crate::judged::{Judged, Single};
+use crate::tar::judge_tar;
 use archive_gate::{ArrayFault, Fault, Kind, first_failing, kind_of};
 use npy_form::{Held, behind_header, read_array};
 use packed_stream::{Packing, open_packed};
@@ -62,6 +63,7 @@ fn judge_inside(alloc: Global, list: &[Entry<'_>], bytes: &[u8]) -> Result<Singl
     ensures small { AreBytes bytes.now }
 {
     match kind_of(bytes) {
+        Kind::Tar => judge_tar(alloc, list, bytes),
         Kind::Archive => Ok(Single::Nested),
         Kind::Packed(_) => Ok(Single::Nested),
         Kind::Array => judge_array(alloc, list, bytes),
@@ -175,8 +177,8 @@ fn judge_archive<'a>(
     }
 }
 
-/// What is said of a file by these entries: of bytes that begin as a zip archive does, whether each member passes; of bytes that begin as a packed
-/// file, whether what they open to passes; and of other bytes, whether they are an array of numbers, an array with one pickle that passes, or one
+/// What is said of a file by these entries: of bytes that begin as a tar archive or a zip archive does, whether each member passes; of bytes that
+/// begin as a packed file, whether what they open to passes; and of other bytes, whether they are an array of numbers, an array with one pickle that passes, or one
 /// pickle that passes. There are to be no more bytes than the limit. It fails only where memory runs out.
 pub fn judge<'a>(
     alloc: Global,
@@ -187,6 +189,7 @@ pub fn judge<'a>(
     ensures { IfOk result (λ j. IsFileText list.now bytes.now (judged_output j)) }
 {
     match kind_of(bytes) {
+        Kind::Tar => Ok(Judged::Single(judge_tar(alloc, list, bytes)?)),
         Kind::Archive => judge_archive(alloc, list, bytes),
         Kind::Packed(packing) => judge_packed(alloc, list, bytes, packing),
         Kind::Array => Ok(Judged::Single(judge_array(alloc, list, bytes)?)),

@@ -1,20 +1,23 @@
-//! The text of the members of a zip archive, or of what a packed file opens to.
+//! The text of the members of a zip archive or a tar archive, or of what a packed file opens to.
 
 ghost use Rattle.std.specs.Prelude.{◌≡◌, ◌<◌, ◌≤◌, ◌+◌, ◌-◌, ◌^◌, ℕ, length, Ok};
 ghost use Rattle.pickle_io.specs.Device.{Writes, each};
-ghost use Rattle.packed_stream.specs.Header.{header_of};
+ghost use Rattle.packed_stream.specs.Header.{header_of, packing_of};
 ghost use Rattle.packed_stream.specs.Packed.{end_size};
 ghost use Rattle.archive_script.specs.SingleText.{Says};
 ghost use Rattle.zip_archive.specs.Entry.{data_place};
 ghost use Rattle.zip_archive.specs.Archive.{ArePlaced};
-ghost use Rattle.archive_script.specs.MembersText.{deflated_text, packed_text, member_line, refusal_line, IsArchiveMembers, packed_member_line, IsPackedMembers, AnswersMembers};
+ghost use Rattle.archive_script.specs.MembersText.{deflated_text, packed_text, member_line, refusal_line, IsArchiveMembers, packed_member_line, IsPackedMembers, IsMembersBy, AnswersMembers};
 
-use crate::single::{packing_word, refusal_words, write_no_packed};
+use crate::fault::refusal_words;
+use crate::single::{packing_word, write_no_packed};
+use crate::tar_text::write_tar;
 use packed_stream::{Packing, end_size, header_of, open_packed, packing_of};
 use pickle_doc::LIMIT;
 use pickle_io::{Failed, Page, write_all, write_decimal, write_quoted};
 use pickle_script::Stop;
 use std::alloc::Global;
+use tar_archive::begins_as_tar;
 use zip_archive::{EntryRef, Refusal, read_zip};
 
 /// The number of the method that packs by deflate.
@@ -163,17 +166,28 @@ fn write_packed_file<S: Page>(
     }
 }
 
-/// Writes the members of the zip archive in writers' form that the bytes are, a line for each; or the line of what they open to, if they are packed
-/// by gzip or zlib; or the first rule that they break. Answers the status: 0 where they are one of these, else 1. No member of an archive is
-/// unpacked.
+/// Writes what the packed file that the bytes are opens to; or, of other bytes, the members of the zip archive that they are.
+fn write_packed_or_zip<S: Page>(alloc: Global, bytes: &[u8], page: &mut S) -> Result<u8, Stop>
+    ensures { Says (IsMembersBy (packing_of bytes.now) bytes.now) (S.told page.old) (S.told page.new) result }
+{
+    match packing_of(bytes) {
+        Some(packing) => write_packed_file(alloc, packing, bytes, page),
+        None => write_archive(alloc, bytes, page),
+    }
+}
+
+/// Writes the members of the tar archive or the zip archive in writers' form that the bytes are, a line for each; or the line of what they open to, if
+/// they are packed by gzip or zlib; or the first rule that they break. Answers the status: 0 where they are one of these, else 1. No member of an
+/// archive is unpacked.
 ///
 /// `Stop::Memory` where there is no room for the list of members, or for what is unpacked: nothing was written then. `Stop::Write` where the sink
 /// fails: what was written then is a beginning of the text. The sink is to be flushed as in `write_text`.
 pub fn write_members<S: Page>(alloc: Global, bytes: &[u8], page: &mut S) -> Result<u8, Stop>
     ensures { AnswersMembers bytes.now S.told page.old page.new result }
 {
-    match packing_of(bytes) {
-        Some(packing) => write_packed_file(alloc, packing, bytes, page),
-        None => write_archive(alloc, bytes, page),
+    if begins_as_tar(bytes) {
+        write_tar(alloc, bytes, page)
+    } else {
+        write_packed_or_zip(alloc, bytes, page)
     }
 }

@@ -1,77 +1,18 @@
-//! The text of whether a file passes that holds one thing, and of a packed file.
+//! The text of whether a file passes that is neither packed nor a zip archive, and of a packed file.
 
 ghost use Rattle.std.specs.Prelude.{◌≡◌};
 ghost use Rattle.pickle_io.specs.Device.{Writes};
-ghost use Rattle.pickle_script.specs.GateText.{verdict_text};
-ghost use Rattle.archive_script.specs.SingleText.{named, refusal_words, array_sentence, array_line, behind_words, behind_text, held_text, nested_words, single_output, packing_word, inside_output, stream_sentence, packed_sentence, packed_line, too_large_front, too_large_back, too_large_line, is_too_large, no_packed_output};
+ghost use Rattle.archive_script.specs.FaultText.{named, refusal_words, stream_sentence};
+ghost use Rattle.archive_script.specs.SingleText.{held_text, nested_words, single_output, packing_word, inside_output, packed_sentence, packed_line, too_large_front, too_large_back, too_large_line, is_too_large, no_packed_output};
 
+use crate::fault::{refusal_words, stream_sentence, write_array_line, write_behind, write_failing};
 use crate::judged::Single;
-use npy_form::{Reason as ArrayReason, Refusal as ArrayRefusal};
+use crate::tar_text::{two_kinds_words, unclear_words, write_tar_line};
 use packed_stream::{Packing, Reason as PackedReason, Refusal as PackedRefusal};
 use pickle_doc::LIMIT;
 use pickle_gate::Verdict;
 use pickle_io::{Failed, Page, write_all, write_decimal, write_quoted};
 use pickle_script::{verdict_status, write_verdict};
-
-/// Words of a line.
-#[tactic(auto, unfolding(crate::specs::SingleText::refusal_words))]
-pub(crate) fn refusal_words() -> &'static str
-    ensures { result.now ≡ refusal_words }
-{
-    "not in form: "
-}
-
-/// What is wrong with an array.
-#[tactic(auto, unfolding(crate::specs::SingleText::array_sentence))]
-pub fn array_sentence(why: ArrayReason) -> &'static str
-    ensures { result.now ≡ array_sentence why }
-{
-    match why {
-        ArrayReason::Cut => "the header of an array that is cut",
-        ArrayReason::Version => "an array of a version that numpy does not write",
-        ArrayReason::Length => "a header of an array that ends at no multiple of 16",
-        ArrayReason::Text => "a header of an array that numpy does not write",
-        ArrayReason::Item => {
-            "items of an array that are no plain numbers, texts, times, bytes or objects"
-        }
-        ArrayReason::Number => "a number that is too large for an array",
-        ArrayReason::Axes => "more than 64 axes",
-        ArrayReason::Size => "more or fewer bytes than the header of the array tells",
-    }
-}
-
-/// Writes the first rule that an array breaks, and where.
-#[tactic(auto, using(pickle_io::proofs::Devices::text_steps), unfolding(crate::specs::SingleText::array_line))]
-pub(crate) fn write_array_line<S: Page>(refusal: ArrayRefusal, page: &mut S) -> Result<(), Failed>
-    ensures { Writes (S.told page.old) (S.told page.new) result (array_line refusal) }
-{
-    write_all(page, refusal_words().as_bytes())?;
-    write_decimal(refusal.offset as u64, page)?;
-    write_all(page, b": ")?;
-    write_all(page, array_sentence(refusal.why).as_bytes())?;
-    write_all(page, b"\n")
-}
-
-/// Words of a line.
-#[tactic(auto, unfolding(crate::specs::SingleText::behind_words))]
-fn behind_words() -> &'static str
-    ensures { result.now ≡ behind_words }
-{
-    "behind its header: "
-}
-
-/// Writes what is said of what is behind the header of an array.
-#[tactic(auto, using(pickle_io::proofs::Devices::text_steps), unfolding(crate::specs::SingleText::behind_text))]
-pub(crate) fn write_behind<S: Page>(
-    verdict: Verdict,
-    line: &[u8],
-    page: &mut S,
-) -> Result<(), Failed>
-    ensures { Writes (S.told page.old) (S.told page.new) result (behind_text (verdict_text line.now verdict)) }
-{
-    write_all(page, behind_words().as_bytes())?;
-    write_verdict(verdict, line, page)
-}
 
 /// Writes the same, where it does not pass.
 fn write_held<S: Page>(verdict: Verdict, line: &[u8], page: &mut S) -> Result<(), Failed>
@@ -102,6 +43,13 @@ pub(crate) fn write_single<S: Page>(single: &Single, page: &mut S) -> Result<(),
         Single::NoArray(refusal) => write_array_line(*refusal, page),
         Single::Behind(verdict, line) => write_held(*verdict, line.as_slice(), page),
         Single::Nested => write_all(page, nested_words().as_bytes()),
+        Single::Tar => write_all(page, b"passes\n"),
+        Single::NoTar(refusal) => write_tar_line(*refusal, page),
+        Single::Unclear => write_all(page, unclear_words().as_bytes()),
+        Single::TwoKinds => write_all(page, two_kinds_words().as_bytes()),
+        Single::Member(name, fault, line) => {
+            write_failing(name.as_slice(), *fault, line.as_slice(), page)
+        }
     }
 }
 
@@ -115,6 +63,11 @@ pub fn single_status(single: &Single) -> u8
         Single::NoArray(_) => 1,
         Single::Behind(verdict, _) => verdict_status(*verdict),
         Single::Nested => 1,
+        Single::Tar => 0,
+        Single::NoTar(_) => 1,
+        Single::Unclear => 1,
+        Single::TwoKinds => 1,
+        Single::Member(_, _, _) => 1,
     }
 }
 
@@ -129,7 +82,7 @@ pub fn packing_word(packing: Packing) -> &'static [u8]
 }
 
 /// Writes what is said of what a packed file opens to, with its address in front.
-#[tactic(auto, using(pickle_io::proofs::Devices::text_steps), unfolding(crate::specs::SingleText::named))]
+#[tactic(auto, using(pickle_io::proofs::Devices::text_steps), unfolding(crate::specs::FaultText::named))]
 fn write_addressed<S: Page>(packing: Packing, single: &Single, page: &mut S) -> Result<(), Failed>
     ensures { Writes (S.told page.old) (S.told page.new) result (named (packing_word packing) (single_output single.now).text) }
 {
@@ -150,20 +103,6 @@ pub(crate) fn write_inside<S: Page>(
         write_single(single, page)
     } else {
         write_addressed(packing, single, page)
-    }
-}
-
-/// What is wrong with a stream.
-#[tactic(auto, unfolding(crate::specs::SingleText::stream_sentence))]
-pub fn stream_sentence(why: inflate::Reason) -> &'static str
-    ensures { result.now ≡ stream_sentence why }
-{
-    match why {
-        inflate::Reason::TooLarge => "more bytes than are told",
-        inflate::Reason::CutShort => "it ends too early",
-        inflate::Reason::BadBlock => "no block",
-        inflate::Reason::BadCode => "no code",
-        inflate::Reason::BadDistance => "a copy from before the first byte",
     }
 }
 

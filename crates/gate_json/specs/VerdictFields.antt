@@ -1,11 +1,10 @@
 -- What is said of a file that the gate was asked about, as fields.
 -- Source: own; what the words say is said where the texts for people are defined.
-use Rattle.std.specs.Prelude.{ℕ, ◌-◌, ◌==◌, if◌then◌else◌, List, true, codes, length, take, Option, None}
+use Rattle.std.specs.Prelude.{ℕ, ◌-◌, ◌==◌, if◌then◌else◌, List, true, codes, length, take, None}
 use Rattle.json.specs.Json.{string, boolean}
 use Rattle.inflate.specs.declared.refusal.Refusal.{Refusal as StreamRefusal}
 use Rattle.json_lines.specs.Line.{Field, field, ◌⊕◌, whole, bytes_field}
 use Rattle.line_buffer.specs.Line.{line_text}
-use Rattle.pickle_machine.specs.declared.refusal.Refusal.{Refusal}
 use Rattle.pickle_text.specs.declared.closing.Closing.{Closing}
 use Rattle.pickle_text.specs.declared.closing.Closing.TheVariants as closing
 use Rattle.pickle_calls.specs.declared.end.Ending.{Ending}
@@ -21,6 +20,7 @@ use Rattle.packed_stream.specs.declared.reason.Packing.{Packing}
 use Rattle.packed_stream.specs.declared.reason.Refusal.{Refusal as PackedRefusal}
 use Rattle.zip_archive.specs.declared.reason.Refusal.{Refusal as ZipRefusal}
 use Rattle.zip_archive.specs.Sentence.{sentence_of}
+use Rattle.tar_archive.specs.declared.reason.Refusal.{Refusal as TarRefusal}
 use Rattle.zip_open.specs.declared.broken.Broken.{Broken}
 use Rattle.zip_open.specs.declared.broken.Broken.TheVariants as broken
 use Rattle.archive_gate.specs.declared.fault.Fault.{Fault}
@@ -31,7 +31,9 @@ use Rattle.archive_script.specs.declared.judged.Judged.{Judged}
 use Rattle.archive_script.specs.declared.judged.Judged.TheVariants as judged
 use Rattle.archive_script.specs.declared.judged.Single.{Single}
 use Rattle.archive_script.specs.declared.judged.Single.TheVariants as single
-use Rattle.archive_script.specs.SingleText.{array_sentence, single_output, packing_word, stream_sentence, packed_sentence, is_too_large}
+use Rattle.archive_script.specs.FaultText.{array_sentence, stream_sentence}
+use Rattle.archive_script.specs.TarText.{tar_sentence}
+use Rattle.archive_script.specs.SingleText.{single_output, packing_word, packed_sentence, is_too_large}
 use Rattle.archive_script.specs.GateText.{judged_output, no_list_line}
 
 -- ---- fields that several have
@@ -90,30 +92,11 @@ verdict_fields line (verdict.Forbidden place offset) = forbidden_fields offset (
 verdict_fields line (verdict.Other o) = other_fields o
 verdict_fields line (verdict.Ends e) = ending_fields e
 
--- ---- a file that holds one thing
+-- ---- an array
 
 -- the first rule that an array breaks
 unfoldable pub array_fields : ArrayRefusal → List Field
 array_fields r = placed_fields (codes "not_in_form") r.offset (array_sentence r.why)
-
-abbrev pub held_fields : List ℕ → Verdict → List Field
-held_fields line v = if verdict_status v == 0 then verdict_fields line v else behind_fields ⊕ verdict_fields line v
-
-abbrev pub single_fields : Single → List Field
-single_fields (single.Pickle v line) = verdict_fields line.items v
-single_fields single.Numbers = how_fields (codes "passes")
-single_fields (single.NoArray r) = array_fields r
-single_fields (single.Behind v line) = held_fields line.items v
-single_fields single.Nested = how_fields (codes "container")
-
--- ---- a packed file
-
--- where what it opens to does not pass, its address stands in front
-abbrev pub inside_fields : Packing → Single → List Field
-inside_fields p s = if (single_output s).status == 0 then single_fields s else member_fields (packing_word p) ⊕ single_fields s
-
-abbrev pub no_packed_fields : PackedRefusal → List Field
-no_packed_fields r = if is_too_large r.why then how_fields (codes "too_large") else placed_fields (codes "not_in_form") r.offset (packed_sentence r.why)
 
 -- ---- a member that does not pass
 
@@ -148,6 +131,44 @@ fault_fields line (fault.Broken b) = unopened_fields b
 fault_fields line fault.Archive = how_fields (codes "archive")
 fault_fields line (fault.Refused v) = verdict_fields line v
 fault_fields line (fault.Array f) = array_fault_fields line f
+
+-- ---- a file that is neither packed nor a zip archive
+
+-- the first rule that a tar archive breaks
+unfoldable pub no_tar_fields : TarRefusal → List Field
+no_tar_fields r = placed_fields (codes "not_in_form") r.offset (tar_sentence r.why)
+
+abbrev pub held_fields : List ℕ → Verdict → List Field
+held_fields line v = if verdict_status v == 0 then verdict_fields line v else behind_fields ⊕ verdict_fields line v
+
+abbrev pub single_fields : Single → List Field
+single_fields (single.Pickle v line) = verdict_fields line.items v
+single_fields single.Numbers = how_fields (codes "passes")
+single_fields (single.NoArray r) = array_fields r
+single_fields (single.Behind v line) = held_fields line.items v
+single_fields single.Nested = how_fields (codes "container")
+single_fields single.Tar = how_fields (codes "passes")
+single_fields (single.NoTar r) = no_tar_fields r
+single_fields single.Unclear = how_fields (codes "unclear_names")
+single_fields single.TwoKinds = how_fields (codes "two_kinds")
+single_fields (single.Member name f line) = member_fields name.items ⊕ fault_fields line.items f
+
+-- ---- a packed file
+
+-- the address of what it opens to; that of a tar archive, of which a member has a name of its own
+unfoldable pub packing_fields : List ℕ → List Field
+packing_fields name = bytes_field (codes "archive") (codes "archive_hex") name
+
+abbrev pub address_fields : Packing → Single → List Field
+address_fields p (single.Member name f line) = packing_fields (packing_word p)
+address_fields p s = member_fields (packing_word p)
+
+-- where what it opens to does not pass, its address stands in front
+abbrev pub inside_fields : Packing → Single → List Field
+inside_fields p s = if (single_output s).status == 0 then single_fields s else address_fields p s ⊕ single_fields s
+
+abbrev pub no_packed_fields : PackedRefusal → List Field
+no_packed_fields r = if is_too_large r.why then how_fields (codes "too_large") else placed_fields (codes "not_in_form") r.offset (packed_sentence r.why)
 
 -- ---- a file
 

@@ -2,7 +2,7 @@
 
 ghost use Rattle.pickle_io.specs.Device.{Writes};
 ghost use Rattle.json_lines.specs.Line.{fields_text};
-ghost use Rattle.gate_json.specs.VerdictFields.{offset_fields, words_fields, placed_fields, broken_fields, member_fields, behind_fields};
+ghost use Rattle.gate_json.specs.VerdictFields.{offset_fields, words_fields, placed_fields, broken_fields, member_fields, packing_fields, behind_fields};
 
 use json_lines::{write_bool_field, write_bytes_field, write_number_field, write_text_field};
 use pickle_io::{Failed, Page};
@@ -54,6 +54,14 @@ pub(crate) fn write_member<P: Page>(name: &[u8], page: &mut P) -> Result<(), Fai
     ensures { Writes (P.told page.old) (P.told page.new) result (fields_text (member_fields name.now)) }
 {
     write_bytes_field("member", "member_hex", name, page)
+}
+
+/// Writes the address of a tar archive in a packed file.
+#[tactic(auto, unfolding(crate::specs::VerdictFields::packing_fields))]
+pub(crate) fn write_packing<P: Page>(name: &[u8], page: &mut P) -> Result<(), Failed>
+    ensures { Writes (P.told page.old) (P.told page.new) result (fields_text (packing_fields name.now)) }
+{
+    write_bytes_field("archive", "archive_hex", name, page)
 }
 
 /// Writes that the pickle behind the header of an array is meant.

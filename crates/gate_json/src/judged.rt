@@ -4,14 +4,14 @@ ghost use Rattle.std.specs.Prelude.{◌≡◌};
 ghost use Rattle.pickle_io.specs.Device.{Writes};
 ghost use Rattle.json_lines.specs.Line.{fields_text, ◌⊕◌};
 ghost use Rattle.archive_script.specs.SingleText.{packing_word};
-ghost use Rattle.gate_json.specs.VerdictFields.{array_fields, held_fields, single_fields, inside_fields, no_packed_fields, no_archive_fields, stream_fields, size_words, rest_words, checksum_words, unopened_fields, array_fault_fields, fault_fields, member_fields, judged_fields};
+ghost use Rattle.gate_json.specs.VerdictFields.{array_fields, held_fields, no_tar_fields, single_fields, packing_fields, address_fields, inside_fields, no_packed_fields, no_archive_fields, stream_fields, size_words, rest_words, checksum_words, unopened_fields, array_fault_fields, fault_fields, member_fields, judged_fields};
 
-use crate::fields::{write_broken_words, write_member, write_placed};
+use crate::fields::{write_broken_words, write_member, write_packing, write_placed};
 use crate::verdict::{write_verdict, write_verdict_behind};
 use archive_gate::{ArrayFault, Fault};
 use archive_script::{
     Judged, Single, array_sentence, is_too_large, packed_sentence, packing_word, single_status,
-    stream_sentence,
+    stream_sentence, tar_sentence,
 };
 use packed_stream::Packing;
 use pickle_gate::Verdict;
@@ -44,7 +44,20 @@ fn write_held<P: Page>(verdict: Verdict, line: &[u8], page: &mut P) -> Result<()
     }
 }
 
-/// Writes what is said of a file that holds one thing.
+/// Writes the first rule that a tar archive breaks, and where.
+#[tactic(auto, unfolding(crate::specs::VerdictFields::no_tar_fields))]
+fn write_no_tar<P: Page>(refusal: tar_archive::Refusal, page: &mut P) -> Result<(), Failed>
+    ensures { Writes (P.told page.old) (P.told page.new) result (fields_text (no_tar_fields refusal)) }
+{
+    write_placed(
+        "not_in_form",
+        refusal.offset as u64,
+        tar_sentence(refusal.why),
+        page,
+    )
+}
+
+/// Writes what is said of a file that is neither packed nor a zip archive.
 fn write_single<P: Page>(single: &Single, page: &mut P) -> Result<(), Failed>
     ensures { Writes (P.told page.old) (P.told page.new) result (fields_text (single_fields single.now)) }
 {
@@ -54,15 +67,40 @@ fn write_single<P: Page>(single: &Single, page: &mut P) -> Result<(), Failed>
         Single::NoArray(refusal) => write_array(*refusal, page),
         Single::Behind(verdict, line) => write_held(*verdict, line.as_slice(), page),
         Single::Nested => write_how("container", page),
+        Single::Tar => write_how("passes", page),
+        Single::NoTar(refusal) => write_no_tar(*refusal, page),
+        Single::Unclear => write_how("unclear_names", page),
+        Single::TwoKinds => write_how("two_kinds", page),
+        Single::Member(name, fault, line) => {
+            write_failing(name.as_slice(), *fault, line.as_slice(), page)
+        }
+    }
+}
+
+/// Writes the address of what a packed file opens to.
+fn write_address<P: Page>(packing: Packing, single: &Single, page: &mut P) -> Result<(), Failed>
+    ensures { Writes (P.told page.old) (P.told page.new) result (fields_text (address_fields packing single.now)) }
+{
+    match single {
+        Single::Pickle(_, _) => write_member(packing_word(packing), page),
+        Single::Numbers => write_member(packing_word(packing), page),
+        Single::NoArray(_) => write_member(packing_word(packing), page),
+        Single::Behind(_, _) => write_member(packing_word(packing), page),
+        Single::Nested => write_member(packing_word(packing), page),
+        Single::Tar => write_member(packing_word(packing), page),
+        Single::NoTar(_) => write_member(packing_word(packing), page),
+        Single::Unclear => write_member(packing_word(packing), page),
+        Single::TwoKinds => write_member(packing_word(packing), page),
+        Single::Member(_, _, _) => write_packing(packing_word(packing), page),
     }
 }
 
 /// Writes what is said of what a packed file opens to, with its address.
 #[tactic(auto, using(json_lines::proofs::Lines::fields_steps))]
 fn write_addressed<P: Page>(packing: Packing, single: &Single, page: &mut P) -> Result<(), Failed>
-    ensures { Writes (P.told page.old) (P.told page.new) result (fields_text (member_fields (packing_word packing) ⊕ single_fields single.now)) }
+    ensures { Writes (P.told page.old) (P.told page.new) result (fields_text (address_fields packing single.now ⊕ single_fields single.now)) }
 {
-    write_member(packing_word(packing), page)?;
+    write_address(packing, single, page)?;
     write_single(single, page)
 }
 

@@ -1,6 +1,6 @@
 -- What the status 0 of the gate means for CPython's unpicklers.
 -- Source: own.
-use Rattle.std.specs.Prelude.{◌≡◌, ◌⊎◌, ◌≤◌, ℕ, ◌-◌, true, false, List, [], length, Contains, Ok}
+use Rattle.std.specs.Prelude.{◌≡◌, ◌⊎◌, ◌≤◌, ℕ, ◌-◌, true, false, List, [], length, All, Contains, ⊤, Some, Ok}
 use Rattle.pickle_doc.specs.Document.{AreBytes, size_limit}
 use Rattle.pickle_text.specs.Output.{Output}
 use Rattle.pickle_further.specs.declared.way.Pickles.TheVariants as pickles
@@ -18,6 +18,7 @@ use Rattle.pickle_reach.specs.Reach.{first_spot, NothingFrom}
 use Rattle.zip_archive.specs.Archive.{Counts}
 use Rattle.zip_archive.specs.Reader.{Member, by_directory, told_by_locator, told_before}
 use Rattle.zip_open.specs.Opened.{IsReadAs}
+use Rattle.tar_archive.specs.Tarfile.{Found, tarfile_reads}
 use Rattle.packed_stream.specs.declared.reason.Packing.{Packing}
 use Rattle.packed_stream.specs.Reader.{ReadsOn}
 use Rattle.npy_form.specs.declared.array.Held.TheVariants as held
@@ -26,6 +27,7 @@ use Rattle.archive_gate.specs.declared.kind.Kind.{Kind}
 use Rattle.archive_gate.specs.declared.kind.Kind.TheVariants as kind
 use Rattle.archive_gate.specs.Kind.{kind_of}
 use Rattle.archive_gate.specs.Members.{alone, GivesNothing}
+use Rattle.archive_gate.specs.Itself.{GivesNothingItself}
 use Rattle.archive_gate.specs.File.{ReachesNothing}
 use Rattle.archive_script.specs.GateText.{IsGateText}
 use Rattle.gate_laws.specs.Permitted.{permits_all}
@@ -53,10 +55,23 @@ pub record PermitsArray (list : List Entry) (bytes : List ℕ) : Type 0 where
   pub held : PermitsHeld (Permits list) bytes
   pub itself : ReachesNothing bytes
 
+-- ---- tar archives
+
+-- what is read of a member, as a whole, and as an array
+pub record PermitsRead (list : List Entry) (read : List ℕ) : Type 0 where
+  pub whole : PermitsGiven list read
+  pub array : begins_as_array read ≡ true → PermitsHeld (PermitsGiven list) read
+
+-- of each member that the reader of `tarfile` finds; and no loader reaches anything in the archive itself that was given nothing else
+pub record PermitsTar (list : List Entry) (bytes : List ℕ) : Type 0 where
+  pub by_header : (found : List Found) → tarfile_reads bytes ≡ Some found → All (λ (f : Found). PermitsRead list f.content) found
+  pub itself : GivesNothingItself bytes
+
 -- ---- packed files
 
--- what they open to is an array or a pickle
+-- what they open to is a tar archive, an array or a pickle
 abbrev pub PermitsSingle : List Entry → List ℕ → Kind → Type 0
+PermitsSingle list bytes kind.Tar = PermitsTar list bytes
 PermitsSingle list bytes kind.Archive = ⊥
 PermitsSingle list bytes (kind.Packed p) = ⊥
 PermitsSingle list bytes kind.Array = PermitsArray list bytes
@@ -67,12 +82,7 @@ pub record PermitsPacked (list : List Entry) (bytes : List ℕ) : Type 0 where
   pub inside : (p : Packing) (n : ℕ) (read : List ℕ) → ReadsOn n p bytes read → PermitsSingle list read (kind_of read)
   pub itself : ReachesNothing bytes
 
--- ---- archives
-
--- what is read of a member, as a whole, and as an array
-pub record PermitsRead (list : List Entry) (read : List ℕ) : Type 0 where
-  pub whole : PermitsGiven list read
-  pub array : begins_as_array read ≡ true → PermitsHeld (PermitsGiven list) read
+-- ---- zip archives
 
 -- of each member that a reader by the directory finds, and of whatever it reads there
 abbrev pub PermitsMembers : (List ℕ → ℕ → Counts) → List Entry → List ℕ → Type 0
@@ -86,15 +96,22 @@ pub record PermitsArchive (list : List Entry) (bytes : List ℕ) : Type 0 where
 
 -- ---- the law
 
+-- in a file that is no tar archive the reader of `tarfile` finds no member
+abbrev pub HasNoTar : List ℕ → Kind → Type 0
+HasNoTar bytes kind.Tar = ⊤
+HasNoTar bytes k = (found : List Found) → tarfile_reads bytes ≡ Some found → found ≡ []
+
 -- of what a file begins as
 abbrev pub PermitsAs : List Entry → List ℕ → Kind → Type 0
+PermitsAs list bytes kind.Tar = PermitsTar list bytes
 PermitsAs list bytes kind.Archive = PermitsArchive list bytes
 PermitsAs list bytes (kind.Packed p) = PermitsPacked list bytes
 PermitsAs list bytes kind.Array = PermitsArray list bytes
 PermitsAs list bytes kind.Pickle = Permits list bytes
 
-abbrev pub PermitsFile : List Entry → List ℕ → Type 0
-PermitsFile list bytes = PermitsAs list bytes (kind_of bytes)
+pub record PermitsFile (list : List Entry) (bytes : List ℕ) : Type 0 where
+  pub as_it_begins : PermitsAs list bytes (kind_of bytes)
+  pub no_tar : HasNoTar bytes (kind_of bytes)
 
 -- by what a text of a list is read as
 abbrev pub PermitsListed : Listing → List ℕ → Type 0

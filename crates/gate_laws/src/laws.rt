@@ -68,7 +68,8 @@ pub fn nothing_is_touched_in_a_file()
 {}
 
 /// Where the gate ends with status 0, its list permits all that CPython's unpicklers do with the file: with the pickle that it is, or that stands
-/// behind the header of an array; with whatever a reader by the directory gives them of an archive; or with what a reader unpacks of a packed file.
+/// behind the header of an array; with whatever a reader by the directory gives them of a zip archive, or the reader of `tarfile` of a tar archive; or
+/// with what a reader unpacks of a packed file.
 pub fn status_zero_permits()
     ensures { StatusZeroPermits }
 {}

@@ -1,9 +1,7 @@
-use Rattle.std.proofs.Common.{◌≤◌, List, ℕ, length, sym, subst, ◌∙◌, ap}
+use Rattle.std.proofs.Common.{◌∙◌, ap}
 use Rattle.std.specs.Prelude.{vec_items}
-use Rattle.pickle_doc.specs.Document.{size_limit}
 use Rattle.zip_archive.specs.Reader.{member_of}
 use Rattle.zip_open.specs.Opened.{OpensTo, IsBroken, opened_bytes}
-use Rattle.zip_open.proofs.Opening.{small_opened}
 use Rattle.npy_form.specs.Npy.{behind_header}
 use Rattle.archive_script.proofs.GateTexts.{behind_few, line_behind, no_line_behind}
 use Rattle.archive_script.proofs.judging.line_behind.Goals as goal

@@ -1,4 +1,4 @@
-use Rattle.std.proofs.Common.{◌≡◌, ◌≤◌, List, ℕ, length, Err, arith}
+use Rattle.std.proofs.Common.{◌≡◌, ◌≤◌, List, ℕ, Err, arith}
 use Rattle.std.specs.Prelude.{Result}
 use Rattle.pickle_doc.specs.Document.{size_limit}
 use Rattle.packed_stream.specs.declared.reason.Refusal.{Refusal}
