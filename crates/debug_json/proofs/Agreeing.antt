@@ -1,11 +1,10 @@
 -- Codes, and which answers are refusals.
-use Rattle.std.proofs.Common.{◌≡◌, ◌∙◌, ℕ, Bool, true, false, List, length, Option, None, Some, Result, Ok, Err, refl, sym, ap, inl, inr}
+use Rattle.std.proofs.Common.{◌≡◌, ℕ, Bool, true, false, length, Option, None, Some, Result, Ok, Err, refl, subst}
 use Rattle.std.specs.Prelude.{codes, nat_lt, if◌then◌else◌, MatchOption}
 use Rattle.pickle_io.specs.Text.{◌⧺◌}
 use Rattle.pickle_doc.specs.declared.edit.EditFault.{EditFault}
 use Rattle.pickle_doc.specs.declared.edit.EditFault.TheVariants as edit
 use Rattle.pickle_doc.specs.declared.fault.End.{End}
-use Rattle.pickle_doc.specs.declared.fault.TailFault.TheVariants as tail
 use Rattle.pickle_doc.specs.Place.{end_of}
 use Rattle.pickle_ops.specs.declared.fault.FrontFault.TheVariants as at_front
 use Rattle.pickle_ops.specs.declared.fault.OpFault.{OpFault}
@@ -28,17 +27,18 @@ use Rattle.pickle_script.specs.declared.conversation.line.Syntax.TheVariants as 
 use Rattle.pickle_script.specs.FaultText.{op_fault_text}
 use Rattle.pickle_script.specs.Grammar.{command_at}
 use Rattle.pickle_script.specs.ReplyText as text
-use Rattle.pickle_script.specs.Query.{query_text}
 use Rattle.pickle_script.specs.Transcript.{is_refusal}
 use Rattle.pickle_script.proofs.Refusals.{line_refuses, command_refuses, at_accepts, ran_accepts, broke_accepts, cleared_accepts, edited_accepts, undone_accepts, redone_accepts, missing_refuses, no_item_refuses, stack_accepts, memo_accepts, where_accepts, objects_accept, items_accept, show_accepts}
 use Rattle.pickle_json.specs.EndFields as ends
+use Rattle.debug_json.specs.declared.asked.Asked.{Asked}
+use Rattle.debug_json.specs.Asked.{as_line}
 use Rattle.debug_json.specs.declared.said.Said.{Said}
 use Rattle.debug_json.specs.declared.said.Said.TheVariants as said
 use Rattle.debug_json.specs.RefusedFields.{edit_code, edit_words, fault_code, op_code, syntax_code}
-use Rattle.debug_json.specs.Answer.{Answer, said_text, refuses}
-use Rattle.debug_json.specs.Says.{SaysOnly, SaysReply, SaysBy, Says, shown, IsShown}
+use Rattle.debug_json.specs.Answer.{said_text, refuses}
+use Rattle.debug_json.specs.Says.{SaysOnly, SaysReply, SaysLine, SaysBy, shown}
 use Rattle.debug_json.specs.Agreeing.{BeginsWith, CodesAgree, RefusalsAgree}
-use Rattle.debug_json.proofs.Printed.{same_state}
+use Rattle.debug_json.proofs.Printed.{same_state, read_as_line}
 
 -- ---- codes
 
@@ -128,23 +128,28 @@ shown_refuses query.Where s t = where_accepts s t
 is_said : (is what : Said) (s : Session) (t : State) → what ≡ is → refuses is ≡ is_refusal (said_text is s t) → refuses what ≡ is_refusal (said_text what s t)
 is_said is what s t e h = rw e h
 
-asked_refuses : (asked : Query) (s : Session) (t : State) (what : Said) → IsShown asked t what → refuses what ≡ is_refusal (said_text what s t)
-asked_refuses asked s t what (inl e) = is_said (shown asked t) what s t e (shown_refuses asked s t)
-asked_refuses asked s t what (inr e) = is_said (said.Bad syntax.Memory) what s t e.1 (line_refuses syntax.Memory)
+asked_refuses : (asked : Query) (s : Session) (t : State) (what : Said) → what ≡ shown asked t → refuses what ≡ is_refusal (said_text what s t)
+asked_refuses asked s t what e = is_said (shown asked t) what s t e (shown_refuses asked s t)
 
-refuses_by : (says : Result Line Syntax) (p q : SessionState) (s : Session) (t : State) (what : Said) → state_at q.session.document q.session.cursor ≡ Some t
-    → SaysBy says p what q → refuses what ≡ is_refusal (said_text what s t)
-refuses_by (Ok line.Nothing) p q s t what r w = is_said said.Nothing what s t w.said_is refl
-refuses_by (Ok (line.Command c)) p q s t what r w = is_said (said.Replied w.answer) what s t w.said_is (reply_refuses (end_of s.document) w.answer)
-refuses_by (Ok (line.At (place.Number k) a)) p q s t what r w = is_said (said.Replied w.answer) what s t w.said_is (reply_refuses (end_of s.document) w.answer)
-refuses_by (Ok (line.At (place.Offset offset) a)) p q s t what r w = go w.found w.says
+refuses_line : (l : Line) (p q : SessionState) (s : Session) (t : State) (what : Said) → state_at q.session.document q.session.cursor ≡ Some t
+    → SaysLine l p what q → refuses what ≡ is_refusal (said_text what s t)
+refuses_line line.Nothing p q s t what r w = is_said said.Nothing what s t w.said_is refl
+refuses_line (line.Command c) p q s t what r w = is_said (said.Replied w.answer) what s t w.said_is (reply_refuses (end_of s.document) w.answer)
+refuses_line (line.At (place.Number k) a) p q s t what r w = is_said (said.Replied w.answer) what s t w.said_is (reply_refuses (end_of s.document) w.answer)
+refuses_line (line.At (place.Offset offset) a) p q s t what r w = go w.found w.says
   where
     go : (found : Option ℕ) → MatchOption found (SaysOnly p (said.NoItem offset) what q) (λ k. SaysReply (command_at a k) p what q) → refuses what ≡ is_refusal (said_text what s t)
     go None x = is_said (said.NoItem offset) what s t x.said_is (no_item_refuses offset)
     go (Some k) x = is_said (said.Replied x.answer) what s t x.said_is (reply_refuses (end_of s.document) x.answer)
-refuses_by (Ok (line.Query asked)) p q s t what r w = asked_refuses asked s t what (rw (same_state asked p q t what r w) at w.is_shown)
-refuses_by (Ok line.Quit) p q s t what r w = is_said said.Quit what s t w.said_is refl
+refuses_line (line.Query asked) p q s t what r w = asked_refuses asked s t what (rw (same_state asked p q t what r w) at w.is_shown)
+refuses_line line.Quit p q s t what r w = is_said said.Quit what s t w.said_is refl
+
+refuses_by : (says : Result Line Syntax) (p q : SessionState) (s : Session) (t : State) (what : Said) → state_at q.session.document q.session.cursor ≡ Some t
+    → SaysBy (as_line says) p what q → refuses what ≡ is_refusal (said_text what s t)
+refuses_by (Ok l) p q s t what r w = refuses_line l p q s t what r w
 refuses_by (Err f) p q s t what r w = is_said (said.Bad f) what s t w.said_is (line_refuses f)
 
 pub refusals_agree : RefusalsAgree
-refusals_agree p q bytes a w = refuses_by w.says p q a.session a.state a.said w.reached w.said_by
+refusals_agree p q bytes a shared w =
+    let r = read_as_line bytes w.says shared w.is_asked in
+    refuses_by r.0 p q a.session a.state a.said w.reached (subst (λ (x : Result Asked Syntax). SaysBy x p a.said q) r.2 w.said_by)

@@ -1,5 +1,5 @@
 -- Objects and arrays, value by value.
-use Rattle.std.proofs.Common.{◌≡◌, ℕ, zero, suc, List, [], ◌∷◌, ◌++◌, length, Option, Some, None, Result, Ok, Err, refl, sym, ap, subst, ◌∙◌, append-nil, append_assoc, arith}
+use Rattle.std.proofs.Common.{◌≡◌, ℕ, zero, suc, List, [], ◌∷◌, ◌++◌, length, Some, None, Result, refl, sym, ap, subst, ◌∙◌, append-nil, append_assoc, arith}
 use Rattle.std.specs.Prelude.{codes, slice_get}
 use Rattle.std.specs.Option.{option_map_or}
 use Rattle.json.specs.Json.{Json}
@@ -111,7 +111,7 @@ module _ {X : Type 0} where
       below-shift (nth_text json (x ∷ xs)) (length xs)
       ∙ ap (λ (t : List ℕ). value_text (json 0 x) ++ t) (nexts (λ i. json (suc i)) xs)
 
-  array_is : (json : ℕ → X → Json) (xs : List X) → codes "[" ⧺ each_below (nth_text json xs) (length xs) ⧺ codes "]" ≡ value_text (array_json json xs)
+  pub array_is : (json : ℕ → X → Json) (xs : List X) → codes "[" ⧺ each_below (nth_text json xs) (length xs) ⧺ codes "]" ≡ value_text (array_json json xs)
   unfolding ◌⧺◌ array_json
   array_is json xs = ap (λ (t : List ℕ). (codes "[" ++ t) ++ codes "]") (values json xs)
 

@@ -1,5 +1,5 @@
 -- The argument of an item, and how many items there are.
-use Rattle.std.proofs.Common.{◌≡◌, ℕ, List, length, Result, refl, ap}
+use Rattle.std.proofs.Common.{◌≡◌, ℕ, Result, refl}
 use Rattle.std.specs.Prelude.{pos}
 use Rattle.json_lines.specs.Line.{whole, integer, fields_text}
 use Rattle.pickle_io.specs.Device.{Told, Writes}

@@ -1,5 +1,9 @@
 -- Lemmas that the proofs of several functions cite.
+pub mod Askings
 pub mod Arrays
+pub mod Ranges
+pub mod Offsets
+pub mod Picks
 pub mod Memos
 pub mod Itemized
 pub mod Obeyed

@@ -1,15 +1,13 @@
 -- The fields of each line can be read back, and so the line is.
-use Rattle.std.proofs.Common.{◌≡◌, ◌∙◌, ℕ, zero, suc, ◌<◌, ◌≤◌, Bool, true, false, List, [], ◌∷◌, length, Option, None, Some, Result, Ok, Err, refl, sym, ap, subst, inl, inr, arith}
+use Rattle.std.proofs.Common.{◌≡◌, ℕ, zero, suc, ◌+◌, ◌<◌, ◌≤◌, Bool, true, false, List, [], ◌∷◌, length, Option, None, Some, Result, Ok, Err, refl, arith}
 use Rattle.std.specs.Prelude.{codes, map, nat_lt, slice_get, if◌then◌else◌, MatchOption, ⊤}
-use Rattle.std.specs.Option.{option_map_or}
 use Rattle.std.specs.List.{list_all}
-use Rattle.std.specs.Str.{IsUtf8}
 use Rattle.std.proofs.lemmas.Bool.{ltb-true}
 use Rattle.json.specs.Json.{Json, document}
 use Rattle.json.specs.Tree.{depth, items_depth, members_depth}
 use Rattle.json.specs.Value.{items_of}
 use Rattle.json_lines.specs.Json.{is_plain}
-use Rattle.json_lines.specs.Line.{Field, field, ◌⊕◌, members_of, whole, numbers_json, line_object, line}
+use Rattle.json_lines.specs.Line.{Field, field, ◌⊕◌, members_of, whole, numbers_json, line}
 use Rattle.json_lines.specs.Readable.{HasTexts, ItemsHaveTexts, MembersHaveTexts, ArePlain, LinesReadBack}
 use Rattle.json_lines.proofs.Fields.{fields_are_plain, plain_texts, plain_depth}
 use Rattle.pickle_doc.specs.declared.edit.EditFault.{EditFault}
@@ -30,7 +28,7 @@ use Rattle.pickle_session.specs.declared.reply.Why.{Why}
 use Rattle.pickle_session.specs.declared.reply.Why.TheVariants as why
 use Rattle.pickle_session.specs.declared.reply.Reply.{Reply}
 use Rattle.pickle_session.specs.declared.reply.Reply.TheVariants as reply
-use Rattle.pickle_session.specs.Session.{Session, state_at, has_break, len_of}
+use Rattle.pickle_session.specs.Session.{Session, state_at, len_of}
 use Rattle.pickle_session.specs.Allowed.{SessionState}
 use Rattle.pickle_script.specs.declared.conversation.line.Line.{Line}
 use Rattle.pickle_script.specs.declared.conversation.line.Line.TheVariants as line_says
@@ -46,18 +44,22 @@ use Rattle.pickle_json.proofs.Readable.{word, ended, refused, truth, head, argum
 use Rattle.pickle_json.proofs.Readable.{fault as fault_told}
 use Rattle.objects_json.specs.ObjectFields.{object_line}
 use Rattle.objects_json.specs.Objects.{item_refused_fields}
-use Rattle.objects_json.proofs.Readable.{Nested, object, item_refused, numbers_texts, numbers_depth, number_texts, number_flat, object_lines_read_back}
+use Rattle.objects_json.proofs.Readable.{object, item_refused, numbers_texts, numbers_depth, number_texts, number_flat}
+use Rattle.debug_json.specs.declared.asked.Own.{Own}
+use Rattle.debug_json.specs.declared.asked.Own.TheVariants as own
+use Rattle.debug_json.specs.declared.asked.Asked.{Asked}
+use Rattle.debug_json.specs.declared.asked.Asked.TheVariants as asking
 use Rattle.debug_json.specs.declared.said.Said.{Said}
 use Rattle.debug_json.specs.declared.said.Said.TheVariants as said
-use Rattle.debug_json.specs.Array.{object_json, numbered, array_json}
+use Rattle.debug_json.specs.Array.{object_json, numbered, array_json, between, range_json, picked, picked_json}
 use Rattle.debug_json.specs.RefusedFields.{end_fields, end_field, item_field, place_field, edit_code, edit_words, fault_code, fault_words, fault_rest, fault_fields, op_code, op_words, syntax_code, syntax_words, syntax_rest, syntax_fields, no_object_words, no_object_fields, no_item_words, no_item_fields, refused_command, refused_syntax, no_object_line, no_item_line}
 use Rattle.debug_json.specs.ReplyFields.{why_fields, ran_fields, ran_line, placed_line, reply_line}
 use Rattle.debug_json.specs.WhereFields.{cursor_fields, count_fields, reached_fields, where_fields, where_line}
 use Rattle.debug_json.specs.ShownFields.{id_json, mark_fields, mark_json, ids_field, marks_field, stack_fields, stack_line, entry_fields, entry_value, entry_json, memo_fields, memo_line, heap_json, heap_fields, heap_line, show_line}
 use Rattle.debug_json.specs.ItemsFields.{sign_fields, item_fields, item_json, items_fields, items_line}
-use Rattle.debug_json.specs.Lines.{nothing_line, quit_line, shown_line, said_line}
-use Rattle.debug_json.specs.Answer.{Answer}
-use Rattle.debug_json.specs.Says.{SaysOnly, SaysReply, SaysBy, Says, shown, IsShown}
+use Rattle.debug_json.specs.OwnFields.{break_at, breaks_fields, breaks_line, some_items_fields, some_items_line, some_heap_fields, some_heap_line}
+use Rattle.debug_json.specs.Lines.{nothing_line, quit_line, said_line}
+use Rattle.debug_json.specs.Says.{SaysOnly, SaysReply, SaysLine, SaysOwn, SaysBy, shown}
 use Rattle.debug_json.specs.Readable.{ReadsBack, AnswersReadBack}
 use Rattle.debug_json.proofs.Printed.{same_state}
 
@@ -369,6 +371,42 @@ unfolding items_line items_fields
 items_is law s =
     reads law (codes "items") _ refl (wide 2 _ (omega arith) (alone 2 (codes "items") _ refl (values 1 (item_json s) (ops_of s.document) (item_fits s))))
 
+-- ---- what is told in JSON alone
+
+mapped_texts : {X : Type 0} (n : ℕ) (json : X → Json) (xs : List X) → ((x : X) → Fits n (json x)) → ItemsHaveTexts (items_of (map json xs))
+mapped_texts n json [] f = tt
+mapped_texts n json (x ∷ xs) f = ((f x).texts, mapped_texts n json xs f)
+
+mapped_depth : {X : Type 0} (n : ℕ) (json : X → Json) (xs : List X) → ((x : X) → Fits n (json x)) → items_depth (items_of (map json xs)) ≤ n
+mapped_depth n json [] f = omega arith
+mapped_depth n json (x ∷ xs) f = omega (arith, (f x).shallow, mapped_depth n json xs f)
+
+found_values : {X : Type 0} (n : ℕ) (json : X → Json) (find : ℕ → Option X) (k : ℕ) → ((x : X) → Fits n (json x)) → Fits (suc n) (picked_json json find k)
+unfolding picked_json
+found_values n json find k f = record { texts = mapped_texts n json (picked find k) f; shallow = omega (arith, mapped_depth n json (picked find k) f) }
+
+number_fits : (k : ℕ) → Fits 0 (whole k)
+number_fits k = record { texts = number_texts k; shallow = omega (arith, number_flat k) }
+
+breaks_is : LinesReadBack → (s : Session) → ReadsBack (breaks_line s)
+unfolding breaks_line breaks_fields
+breaks_is law s =
+    reads law (codes "breaks") _ refl (wide 1 _ (omega arith) (alone 1 (codes "places") _ refl (found_values 0 whole (break_at s) (len_of s.document) number_fits)))
+
+range : {X : Type 0} (n : ℕ) (json : ℕ → X → Json) (a b : ℕ) (xs : List X) → ((i : ℕ) (x : X) → Fits n (json i x)) → Fits (suc n) (range_json json a b xs)
+unfolding range_json
+range n json a b xs f = values n (λ (i : ℕ). json (a + i)) (between a b xs) (λ i x. f (a + i) x)
+
+some_items_is : LinesReadBack → (s : Session) (a b : ℕ) → ReadsBack (some_items_line s a b)
+unfolding some_items_line some_items_fields
+some_items_is law s a b =
+    reads law (codes "items") _ refl (wide 2 _ (omega arith) (alone 2 (codes "items") _ refl (range 1 (item_json s) a b (ops_of s.document) (item_fits s))))
+
+some_heap_is : LinesReadBack → (heap : List Object) (a b : ℕ) → ReadsBack (some_heap_line heap a b)
+unfolding some_heap_line some_heap_fields
+some_heap_is law heap a b =
+    reads law (codes "objects") _ refl (wide 4 _ (omega arith) (alone 4 (codes "objects") _ refl (range 3 heap_json a b heap heap_fits)))
+
 -- ---- answers
 
 -- an object that is shown is there
@@ -393,6 +431,9 @@ said_reads law (said.Shown query.Stack) s t h = stack_is law t
 said_reads law (said.Shown query.Memo) s t h = memo_is law t.memo
 said_reads law (said.Shown (query.Show n)) s t h = show_is law t.heap n h
 said_reads law (said.Shown query.Where) s t h = where_is law s t
+said_reads law said.Breaks s t h = breaks_is law s
+said_reads law (said.SomeItems a b) s t h = some_items_is law s a b
+said_reads law (said.SomeObjects a b) s t h = some_heap_is law t.heap a b
 
 by_number : (b : Bool) (n : ℕ) (t : State) → nat_lt n (length t.heap) ≡ b → IsThere (if b then said.Shown (query.Show n) else said.NoObject n) t
 by_number true n t e = ltb-true n (length t.heap) e
@@ -409,22 +450,30 @@ shown_there query.Where t = tt
 is_there : (is what : Said) (t : State) → what ≡ is → IsThere is t → IsThere what t
 is_there is what t e h = rw e h
 
-asked_there : (asked : Query) (t : State) (what : Said) → IsShown asked t what → IsThere what t
-asked_there asked t what (inl e) = is_there (shown asked t) what t e (shown_there asked t)
-asked_there asked t what (inr e) = is_there (said.Bad syntax.Memory) what t e.1 tt
+asked_there : (asked : Query) (t : State) (what : Said) → what ≡ shown asked t → IsThere what t
+asked_there asked t what e = is_there (shown asked t) what t e (shown_there asked t)
 
-there_by : (says : Result Line Syntax) (p q : SessionState) (t : State) (what : Said) → state_at q.session.document q.session.cursor ≡ Some t
-    → SaysBy says p what q → IsThere what t
-there_by (Ok line_says.Nothing) p q t what r w = is_there said.Nothing what t w.said_is tt
-there_by (Ok (line_says.Command c)) p q t what r w = is_there (said.Replied w.answer) what t w.said_is tt
-there_by (Ok (line_says.At (place.Number k) a)) p q t what r w = is_there (said.Replied w.answer) what t w.said_is tt
-there_by (Ok (line_says.At (place.Offset offset) a)) p q t what r w = go w.found w.says
+there_line : (l : Line) (p q : SessionState) (t : State) (what : Said) → state_at q.session.document q.session.cursor ≡ Some t → SaysLine l p what q → IsThere what t
+there_line line_says.Nothing p q t what r w = is_there said.Nothing what t w.said_is tt
+there_line (line_says.Command c) p q t what r w = is_there (said.Replied w.answer) what t w.said_is tt
+there_line (line_says.At (place.Number k) a) p q t what r w = is_there (said.Replied w.answer) what t w.said_is tt
+there_line (line_says.At (place.Offset offset) a) p q t what r w = go w.found w.says
   where
     go : (found : Option ℕ) → MatchOption found (SaysOnly p (said.NoItem offset) what q) (λ k. SaysReply (command_at a k) p what q) → IsThere what t
     go None x = is_there (said.NoItem offset) what t x.said_is tt
     go (Some k) x = is_there (said.Replied x.answer) what t x.said_is tt
-there_by (Ok (line_says.Query asked)) p q t what r w = asked_there asked t what (rw (same_state asked p q t what r w) at w.is_shown)
-there_by (Ok line_says.Quit) p q t what r w = is_there said.Quit what t w.said_is tt
+there_line (line_says.Query asked) p q t what r w = asked_there asked t what (rw (same_state asked p q t what r w) at w.is_shown)
+there_line line_says.Quit p q t what r w = is_there said.Quit what t w.said_is tt
+
+there_own : (o : Own) (p q : SessionState) (t : State) (what : Said) → SaysOwn o p what q → IsThere what t
+there_own own.Breaks p q t what w = is_there said.Breaks what t w.said_is tt
+there_own (own.Items a b) p q t what w = is_there (said.SomeItems a b) what t w.said_is tt
+there_own (own.Objects a b) p q t what w = is_there (said.SomeObjects a b) what t w.said_is tt
+
+there_by : (says : Result Asked Syntax) (p q : SessionState) (t : State) (what : Said) → state_at q.session.document q.session.cursor ≡ Some t
+    → SaysBy says p what q → IsThere what t
+there_by (Ok (asking.Line l)) p q t what r w = there_line l p q t what r w
+there_by (Ok (asking.Own o)) p q t what r w = there_own o p q t what w
 there_by (Err f) p q t what r w = is_there (said.Bad f) what t w.said_is tt
 
 pub answers_read_back : LinesReadBack → AnswersReadBack

@@ -11,6 +11,7 @@ use Rattle.pickle_script.specs.FaultText.{op_fault_text}
 use Rattle.pickle_script.specs.ReplyText as text
 use Rattle.pickle_script.specs.Transcript.{is_refusal}
 use Rattle.debug_json.specs.RefusedFields.{edit_code, edit_words, fault_code, op_code, syntax_code}
+use Rattle.debug_json.specs.Asked.{IsShared}
 use Rattle.debug_json.specs.Answer.{Answer, answer_text, refuses}
 use Rattle.debug_json.specs.Says.{Says}
 
@@ -26,5 +27,6 @@ pub record CodesAgree : Type 0 where
   pub objects : BeginsWith (codes "refused: V1") text.no_object_line
   pub items : BeginsWith (codes "V2") text.no_item_words
 
+-- of the lines of the texts
 abbrev pub RefusalsAgree : Type 0
-RefusalsAgree = (p q : SessionState) (bytes : List ℕ) (a : Answer) → Says p bytes a q → refuses a.said ≡ is_refusal (answer_text a)
+RefusalsAgree = (p q : SessionState) (bytes : List ℕ) (a : Answer) → IsShared bytes → Says p bytes a q → refuses a.said ≡ is_refusal (answer_text a)

@@ -16,7 +16,7 @@ pub record Answer : Type 0 where
   pub session : Session
   pub state : State
 
--- the text for people
+-- the text for people; none of what is told in JSON alone
 abbrev pub said_text : Said → Session → State → List ℕ
 said_text said.Nothing s t = []
 said_text said.Quit s t = []
@@ -25,6 +25,9 @@ said_text (said.NoItem offset) s t = no_item_line offset
 said_text (said.NoObject number) s t = no_object_line
 said_text (said.Bad f) s t = syntax_line f
 said_text (said.Shown query) s t = query_text query s t
+said_text said.Breaks s t = []
+said_text (said.SomeItems a b) s t = []
+said_text (said.SomeObjects a b) s t = []
 
 abbrev pub answer_text : Answer → List ℕ
 answer_text a = said_text a.said a.session a.state
@@ -38,3 +41,6 @@ refuses (said.NoItem offset) = true
 refuses (said.NoObject number) = true
 refuses (said.Bad f) = true
 refuses (said.Shown query) = false
+refuses said.Breaks = false
+refuses (said.SomeItems a b) = false
+refuses (said.SomeObjects a b) = false

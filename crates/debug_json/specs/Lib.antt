@@ -1,4 +1,5 @@
 -- The definitions that contracts cite.
+pub mod Asked
 pub mod Says
 pub mod Answer
 pub mod Array
@@ -7,6 +8,7 @@ pub mod ReplyFields
 pub mod WhereFields
 pub mod ShownFields
 pub mod ItemsFields
+pub mod OwnFields
 pub mod Lines
 pub mod Answered
 pub mod Agreeing

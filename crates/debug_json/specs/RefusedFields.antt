@@ -1,7 +1,7 @@
 -- Why a line is refused, as fields: its code apart from its words, and the numbers that it is about.
 -- Source: own. The codes are those of the texts for people.
 use Rattle.std.specs.Prelude.{ℕ, List, [], codes, None}
-use Rattle.json.specs.Json.{Json, string}
+use Rattle.json.specs.Json.{string}
 use Rattle.json_lines.specs.Line.{Field, field, ◌⊕◌, whole, line}
 use Rattle.pickle_doc.specs.declared.edit.EditFault.{EditFault}
 use Rattle.pickle_doc.specs.declared.edit.EditFault.TheVariants as edit

@@ -1,6 +1,6 @@
 -- The lines that commands are answered with.
 -- Source: own. Why a run stopped has the fields of the last line of a listing.
-use Rattle.std.specs.Prelude.{ℕ, List, [], codes, None}
+use Rattle.std.specs.Prelude.{ℕ, List, codes, None}
 use Rattle.json_lines.specs.Line.{Field, ◌⊕◌, line}
 use Rattle.pickle_doc.specs.declared.fault.End.{End}
 use Rattle.pickle_session.specs.declared.reply.Why.{Why}

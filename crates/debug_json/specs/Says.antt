@@ -1,6 +1,6 @@
 -- What the lines of a script may be answered: as in a transcript for people, but for what is said in the place of its text.
 -- Source: own. It is a relation, since a line may also be answered by running out of memory.
-use Rattle.std.specs.Prelude.{◌≡◌, ◌≢◌, ℕ, List, length, nat_lt, true, false, if◌then◌else◌, ◌⊎◌, MatchOption, Option, Some, Result, Ok, Err}
+use Rattle.std.specs.Prelude.{◌≡◌, ◌≢◌, ℕ, List, length, nat_lt, true, false, if◌then◌else◌, MatchOption, Option, Some, Result, Ok, Err}
 use Rattle.pickle_doc.specs.Place.{IsPlaceAt}
 use Rattle.pickle_machine.specs.State.{State}
 use Rattle.pickle_session.specs.declared.command.Command.{Command}
@@ -18,13 +18,16 @@ use Rattle.pickle_script.specs.declared.conversation.line.Place.{Place}
 use Rattle.pickle_script.specs.declared.conversation.line.Place.TheVariants as place
 use Rattle.pickle_script.specs.declared.conversation.line.Action.{Action}
 use Rattle.pickle_script.specs.declared.conversation.line.Syntax.{Syntax}
-use Rattle.pickle_script.specs.declared.conversation.line.Syntax.TheVariants as syntax
 use Rattle.pickle_script.specs.Grammar.{command_at}
-use Rattle.pickle_script.specs.Query.{asks_memory}
-use Rattle.pickle_script.specs.Transcript.{IsRead, Prints}
+use Rattle.pickle_script.specs.Transcript.{Prints}
+use Rattle.debug_json.specs.declared.asked.Own.{Own}
+use Rattle.debug_json.specs.declared.asked.Own.TheVariants as own
+use Rattle.debug_json.specs.declared.asked.Asked.{Asked}
+use Rattle.debug_json.specs.declared.asked.Asked.TheVariants as asked
+use Rattle.debug_json.specs.Asked.{IsAsked, IsShared}
 use Rattle.debug_json.specs.declared.said.Said.{Said}
 use Rattle.debug_json.specs.declared.said.Said.TheVariants as said
-use Rattle.debug_json.specs.Answer.{Answer, answer_text, refuses}
+use Rattle.debug_json.specs.Answer.{Answer, answer_text}
 
 -- this is said, and the session stays as it is
 pub record SaysOnly (p : SessionState) (is what : Said) (q : SessionState) : Type 0 where
@@ -53,7 +56,7 @@ abbrev pub SaysPlaced : Place → Action → SessionState → Said → SessionSt
 SaysPlaced (place.Number k) a p what q = SaysReply (command_at a k) p what q
 SaysPlaced (place.Offset offset) a p what q = SaysAt offset a p what q
 
--- what is shown with ample memory; a number may be no object's
+-- what is shown; a number may be no object's. What an object contains is named by number, so that no memory is asked for
 abbrev pub shown : Query → State → Said
 shown query.Items t = said.Shown query.Items
 shown query.Objects t = said.Shown query.Objects
@@ -62,35 +65,40 @@ shown query.Memo t = said.Shown query.Memo
 shown (query.Show n) t = if nat_lt n (length t.heap) then said.Shown (query.Show n) else said.NoObject n
 shown query.Where t = said.Shown query.Where
 
--- that, or that memory runs out
-abbrev pub IsShown : Query → State → Said → Type 0
-IsShown query t what = (what ≡ shown query t) ⊎ ((asks_memory query t ≡ true) × (what ≡ said.Bad syntax.Memory))
-
 -- what is shown of the session and of the state that running the items before the cursor on an empty machine gives
 pub record SaysShown (query : Query) (p : SessionState) (what : Said) (q : SessionState) : Type 0 where
   pub state : State
   pub reached : state_at p.session.document p.session.cursor ≡ Some state
-  pub is_shown : IsShown query state what
+  pub is_shown : what ≡ shown query state
   pub unchanged : q ≡ p
 
-abbrev pub SaysBy : Result Line Syntax → SessionState → Said → SessionState → Type 0
-SaysBy (Ok line.Nothing) p what q = SaysOnly p said.Nothing what q
-SaysBy (Ok (line.Command c)) p what q = SaysReply c p what q
-SaysBy (Ok (line.At place a)) p what q = SaysPlaced place a p what q
-SaysBy (Ok (line.Query query)) p what q = SaysShown query p what q
-SaysBy (Ok line.Quit) p what q = SaysOnly p said.Quit what q
+abbrev pub SaysLine : Line → SessionState → Said → SessionState → Type 0
+SaysLine line.Nothing p what q = SaysOnly p said.Nothing what q
+SaysLine (line.Command c) p what q = SaysReply c p what q
+SaysLine (line.At place a) p what q = SaysPlaced place a p what q
+SaysLine (line.Query query) p what q = SaysShown query p what q
+SaysLine line.Quit p what q = SaysOnly p said.Quit what q
+
+abbrev pub SaysOwn : Own → SessionState → Said → SessionState → Type 0
+SaysOwn own.Breaks p what q = SaysOnly p said.Breaks what q
+SaysOwn (own.Items a b) p what q = SaysOnly p (said.SomeItems a b) what q
+SaysOwn (own.Objects a b) p what q = SaysOnly p (said.SomeObjects a b) what q
+
+abbrev pub SaysBy : Result Asked Syntax → SessionState → Said → SessionState → Type 0
+SaysBy (Ok (asked.Line l)) p what q = SaysLine l p what q
+SaysBy (Ok (asked.Own o)) p what q = SaysOwn o p what q
 SaysBy (Err f) p what q = SaysOnly p (said.Bad f) what q
 
 -- what a line says is obeyed, and answered of the session after it
 pub record Says (p : SessionState) (bytes : List ℕ) (a : Answer) (q : SessionState) : Type 0 where
-  pub says : Result Line Syntax
-  pub is_read : IsRead bytes says
+  pub says : Result Asked Syntax
+  pub is_asked : IsAsked bytes says
   pub said_by : SaysBy says p a.said q
   pub session : a.session ≡ q.session
   pub reached : state_at q.session.document q.session.cursor ≡ Some a.state
 
 -- ---- laws
 
--- what is said in JSON is what the text of a transcript tells
+-- what is said in JSON to a line of the texts is what the text of a transcript tells
 abbrev pub SaidIsPrinted : Type 0
-SaidIsPrinted = (p q : SessionState) (bytes : List ℕ) (a : Answer) → Says p bytes a q → Prints p bytes (answer_text a) q
+SaidIsPrinted = (p q : SessionState) (bytes : List ℕ) (a : Answer) → IsShared bytes → Says p bytes a q → Prints p bytes (answer_text a) q

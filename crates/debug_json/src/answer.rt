@@ -6,10 +6,12 @@ ghost use Rattle.pickle_session.specs.Session.{state_at};
 ghost use Rattle.debug_json.specs.Lines.{nothing_line, quit_line, shown_line, said_line};
 ghost use Rattle.debug_json.specs.Answered.{AnswersSaying, AnswersJsonLine};
 
-use crate::items::write_items;
+use crate::asked::{Asked, read_asked};
+use crate::breaks::write_breaks;
+use crate::items::{write_items, write_some_items};
 use crate::memo::write_memo;
 use crate::obey::obey;
-use crate::objects::{write_objects, write_show};
+use crate::objects::{write_objects, write_show, write_some_objects};
 use crate::place::write_where;
 use crate::refused::{write_no_item, write_no_object, write_refused_syntax};
 use crate::reply::write_reply;
@@ -18,7 +20,7 @@ use crate::stack::write_stack;
 use json_lines::{begin_line, end_line};
 use pickle_io::{Failed, Page};
 use pickle_machine::Machine;
-use pickle_script::{Line, Query, Syntax, read_command};
+use pickle_script::{Query, Syntax};
 use pickle_session::{Past, Session};
 use std::alloc::Global;
 
@@ -78,16 +80,20 @@ fn write_said<A: Past, P: Page>(
         Said::NoObject(number) => write_no_object(number, page),
         Said::Bad(syntax) => write_refused_syntax(syntax, page),
         Said::Shown(query) => write_shown(session, machine, query, page),
+        Said::Breaks => write_breaks(session, page),
+        Said::SomeItems(from, to) => write_some_items(session, from, to, page),
+        Said::SomeObjects(from, to) => write_some_objects(machine.heap(), from, to, page),
     }
 }
 
-/// Obeys what a line says, and answers it by one line of JSON, which tells what the text of `answer_line` tells. Answers whether it is a refusal.
+/// Obeys what a line asks for, and answers it by one line of JSON, which tells what the text of `answer_line` tells where the line is one of the
+/// texts. Answers whether it is a refusal.
 /// `Failed` where the sink fails: the line is obeyed then, too, and a beginning of the line of JSON was written.
 #[tactic(auto, using(crate::proofs::Answering::answer_steps))]
 pub fn answer_json<A: Past, P: Page>(
     alloc: Global,
     session: &mut Session<A>,
-    says: Result<Line, Syntax>,
+    says: Result<Asked, Syntax>,
     page: &mut P,
 ) -> Result<bool, Failed>
     ensures { AnswersSaying says session.old session.new (P.told page.old) (P.told page.new) result }
@@ -106,6 +112,6 @@ pub fn answer_json_line<A: Past, P: Page>(
 ) -> Result<bool, Failed>
     ensures { AnswersJsonLine line.now session.old session.new (P.told page.old) (P.told page.new) result }
 {
-    let says = read_command(alloc, line);
+    let says = read_asked(alloc, line);
     answer_json(alloc, session, says, page)
 }

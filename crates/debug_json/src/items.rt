@@ -1,6 +1,6 @@
-//! The line of the items of a session's document. `Failed` where the sink fails; a beginning of the text was written then.
+//! The lines of the items of a session's document, and of those of a range. `Failed` where the sink fails; a beginning of the text was written then.
 
-ghost use Rattle.std.specs.Prelude.{◌≡◌, ◌+◌, ◌≤◌, length, IfOk};
+ghost use Rattle.std.specs.Prelude.{◌≡◌, ◌+◌, ◌-◌, ◌≤◌, length, IfOk};
 ghost use Rattle.pickle_io.specs.Device.{Writes, each_below};
 ghost use Rattle.pickle_io.specs.Text.{◌⧺◌};
 ghost use Rattle.json_lines.specs.Json.{value_text};
@@ -9,10 +9,13 @@ ghost use Rattle.pickle_ops.specs.Table.{form_of};
 ghost use Rattle.pickle_ops.specs.Text.{is_long};
 ghost use Rattle.pickle_doc.specs.Document.{document_bytes, size_limit};
 ghost use Rattle.pickle_doc.specs.Place.{ops_of, offset_of};
+ghost use Rattle.pickle_session.specs.Session.{len_of};
 ghost use Rattle.pickle_json.specs.ItemFields.{form_fields, arg_fields, head_fields};
-ghost use Rattle.debug_json.specs.Array.{array_json, lead, nth_text};
+ghost use Rattle.debug_json.specs.Array.{array_json, range_json, lead, placed_text, range_text};
 ghost use Rattle.debug_json.specs.ItemsFields.{sign_fields, item_fields, item_json, items_fields, items_line};
+ghost use Rattle.debug_json.specs.OwnFields.{some_items_fields, some_items_line};
 
+use crate::offset::offset_at;
 use crate::refused::write_place;
 use crate::value::write_lead;
 use json_lines::{
@@ -128,69 +131,107 @@ fn write_item<A: Past, P: Page>(
     write_all(page, b"}")
 }
 
-/// Writes the same behind the items before it.
+/// Writes the same behind so many items before it.
 #[tactic(auto, using(pickle_io::proofs::Devices::text_steps))]
 fn write_next<A: Past, P: Page>(
     session: &Session<A>,
+    i: usize,
     place: usize,
     offset: u64,
     op: &Op,
     page: &mut P,
 ) -> Result<(), Failed>
     requires { offset ≡ offset_of session.now.session.document place }
-    ensures { Writes (P.told page.old) (P.told page.new) result (lead place ⧺ value_text (item_json session.now.session place op.now)) }
+    ensures { Writes (P.told page.old) (P.told page.new) result (lead i ⧺ value_text (item_json session.now.session place op.now)) }
 {
-    write_lead(place, page)?;
+    write_lead(i, page)?;
     write_item(session, place, offset, op, page)
 }
 
-/// Writes the item at a place, if there is one, and answers the offset of the place after it.
-#[tactic(auto, using(crate::proofs::Arrays::nth_steps, pickle_script::proofs::PlaceLemmas::offset_steps))]
-fn write_nth<A: Past, P: Page>(
+/// Writes the item at a place behind so many items, if there is one, and answers the offset of the place after it.
+#[tactic(auto, using(crate::proofs::Ranges::placed_steps, pickle_script::proofs::PlaceLemmas::offset_steps))]
+fn write_placed<A: Past, P: Page>(
     session: &Session<A>,
+    i: usize,
     place: usize,
     offset: u64,
     page: &mut P,
 ) -> Result<u64, Failed>
     requires small { length (document_bytes session.now.session.document) ≤ size_limit }
     requires offset { offset ≡ offset_of session.now.session.document place }
-    ensures line { Writes (P.told page.old) (P.told page.new) result (nth_text (item_json session.now.session) (ops_of session.now.session.document) place) }
+    ensures line { Writes (P.told page.old) (P.told page.new) result (placed_text (item_json session.now.session) (ops_of session.now.session.document) i place) }
     ensures next { IfOk result (λ next. next ≡ offset_of session.now.session.document (place + 1)) }
 {
     match session.document().item(place) {
         None => Ok(offset),
         Some(op) => {
             let next = offset + op.size() as u64;
-            write_next(session, place, offset, op, page)?;
+            write_next(session, i, place, offset, op, page)?;
             Ok(next)
         }
     }
 }
 
-/// Writes the items.
-#[tactic(auto, using(pickle_io::proofs::Devices::below_steps))]
-fn write_all_items<A: Past, P: Page>(session: &Session<A>, page: &mut P) -> Result<(), Failed>
-    ensures { Writes (P.told page.old) (P.told page.new) result (each_below (nth_text (item_json session.now.session) (ops_of session.now.session.document)) (length (ops_of session.now.session.document))) }
+/// Writes the items from one place on and before another.
+#[tactic(auto, using(pickle_io::proofs::Devices::below_steps, crate::proofs::Offsets::range_steps))]
+fn write_items_between<A: Past, P: Page>(
+    session: &Session<A>,
+    from: usize,
+    to: usize,
+    page: &mut P,
+) -> Result<(), Failed>
+    requires small { length (document_bytes session.now.session.document) ≤ size_limit }
+    requires order { from ≤ to }
+    ensures { Writes (P.told page.old) (P.told page.new) result (each_below (range_text (item_json session.now.session) (ops_of session.now.session.document) from) (to - from)) }
 {
-    let mut offset: u64 = 0;
-    let len = session.document().len();
-    for place in 0..len {
-        offset = write_nth(session, place, offset, page)?;
+    let mut offset = offset_at(session, from);
+    for i in 0..to - from {
+        offset = write_placed(session, i, from + i, offset, page)?;
     }
     Ok(())
 }
 
-/// Writes an array of the items.
-#[tactic(auto, using(crate::proofs::Arrays::array_steps))]
-fn write_array<A: Past, P: Page>(session: &Session<A>, page: &mut P) -> Result<(), Failed>
-    ensures { Writes (P.told page.old) (P.told page.new) result (value_text (array_json (item_json session.now.session) (ops_of session.now.session.document))) }
+/// Writes an array of the items from one place on and before another, which are all there.
+#[tactic(auto, using(crate::proofs::Ranges::range_steps, crate::proofs::Offsets::within_ops))]
+fn write_whole_range<A: Past, P: Page>(
+    session: &Session<A>,
+    from: usize,
+    to: usize,
+    page: &mut P,
+) -> Result<(), Failed>
+    requires small { length (document_bytes session.now.session.document) ≤ size_limit }
+    requires order { from ≤ to }
+    requires within { to ≤ len_of session.now.session.document }
+    ensures { Writes (P.told page.old) (P.told page.new) result (value_text (range_json (item_json session.now.session) from to (ops_of session.now.session.document))) }
 {
     write_all(page, b"[")?;
-    write_all_items(session, page)?;
+    write_items_between(session, from, to, page)?;
     write_all(page, b"]")
 }
 
-/// Writes the field of the items.
+/// Writes an array of the items from one place on and before another, as far as there are any.
+#[tactic(auto, using(crate::proofs::Ranges::cut_steps, crate::proofs::Offsets::ops_steps))]
+fn write_range<A: Past, P: Page>(
+    session: &Session<A>,
+    from: usize,
+    to: usize,
+    page: &mut P,
+) -> Result<(), Failed>
+    ensures { Writes (P.told page.old) (P.told page.new) result (value_text (range_json (item_json session.now.session) from to (ops_of session.now.session.document))) }
+{
+    let end = to.min(session.document().len());
+    write_whole_range(session, from.min(end), end, page)
+}
+
+/// Writes an array of all items.
+#[tactic(auto, using(crate::proofs::Ranges::cut_steps, crate::proofs::Offsets::ops_steps))]
+fn write_array<A: Past, P: Page>(session: &Session<A>, page: &mut P) -> Result<(), Failed>
+    ensures { Writes (P.told page.old) (P.told page.new) result (value_text (array_json (item_json session.now.session) (ops_of session.now.session.document))) }
+{
+    write_whole_range(session, 0, session.document().len(), page)
+}
+
+/// Writes the field of all items.
 #[tactic(auto, using(json_lines::proofs::Lines::field_steps), unfolding(crate::specs::ItemsFields::items_fields))]
 fn write_field<A: Past, P: Page>(session: &Session<A>, page: &mut P) -> Result<(), Failed>
     ensures { Writes (P.told page.old) (P.told page.new) result (fields_text (items_fields session.now.session)) }
@@ -199,7 +240,7 @@ fn write_field<A: Past, P: Page>(session: &Session<A>, page: &mut P) -> Result<(
     write_array(session, page)
 }
 
-/// Writes the line of the items, in time linear in them.
+/// Writes the line of all items, in time linear in them.
 #[tactic(auto, using(json_lines::proofs::Lines::line_steps), unfolding(crate::specs::ItemsFields::items_line))]
 pub(crate) fn write_items<A: Past, P: Page>(
     session: &Session<A>,
@@ -209,5 +250,34 @@ pub(crate) fn write_items<A: Past, P: Page>(
 {
     begin_line("items", page)?;
     write_field(session, page)?;
+    end_line(page)
+}
+
+/// Writes the field of a range of items.
+#[tactic(auto, using(json_lines::proofs::Lines::field_steps), unfolding(crate::specs::OwnFields::some_items_fields))]
+fn write_some_field<A: Past, P: Page>(
+    session: &Session<A>,
+    from: usize,
+    to: usize,
+    page: &mut P,
+) -> Result<(), Failed>
+    ensures { Writes (P.told page.old) (P.told page.new) result (fields_text (some_items_fields session.now.session from to)) }
+{
+    write_name("items", page)?;
+    write_range(session, from, to, page)
+}
+
+/// Writes the line of the items from one place on and before another. This goes over these items, and over those that `offset_at` goes over.
+#[tactic(auto, using(json_lines::proofs::Lines::line_steps), unfolding(crate::specs::OwnFields::some_items_line))]
+pub(crate) fn write_some_items<A: Past, P: Page>(
+    session: &Session<A>,
+    from: usize,
+    to: usize,
+    page: &mut P,
+) -> Result<(), Failed>
+    ensures { Writes (P.told page.old) (P.told page.new) result (some_items_line session.now.session from to) }
+{
+    begin_line("items", page)?;
+    write_some_field(session, from, to, page)?;
     end_line(page)
 }

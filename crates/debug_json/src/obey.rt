@@ -1,8 +1,9 @@
 //! A line is obeyed, and what is said of it.
 
-ghost use Rattle.std.specs.Prelude.{◌≡◌, Ok, Err};
-ghost use Rattle.debug_json.specs.Says.{SaysBy};
+ghost use Rattle.std.specs.Prelude.{◌≡◌};
+ghost use Rattle.debug_json.specs.Says.{SaysLine, SaysOwn, SaysBy};
 
+use crate::asked::{Asked, Own};
 use crate::said::Said;
 use pickle_script::{Action, Line, Place, Query, Syntax};
 use pickle_session::{Command, Past, Session};
@@ -10,7 +11,7 @@ use std::alloc::Global;
 
 /// Obeys a command.
 fn obey_command<P: Past>(alloc: Global, session: &mut Session<P>, command: &Command) -> Said
-    ensures { SaysBy (Ok (Line.Command command.now)) session.old result session.new }
+    ensures { SaysLine (Line.Command command.now) session.old result session.new }
 {
     Said::Replied(session.obey(alloc, command))
 }
@@ -18,7 +19,7 @@ fn obey_command<P: Past>(alloc: Global, session: &mut Session<P>, command: &Comm
 /// Obeys a command at the place that a line names, or says that there is none.
 #[tactic(auto, using(crate::proofs::Obeyed::placing_steps))]
 fn obey_at<P: Past>(alloc: Global, session: &mut Session<P>, place: Place, action: Action) -> Said
-    ensures { SaysBy (Ok (Line.At place action)) session.old result session.new }
+    ensures { SaysLine (Line.At place action) session.old result session.new }
 {
     let k = match place {
         Place::Number(k) => k,
@@ -33,7 +34,7 @@ fn obey_at<P: Past>(alloc: Global, session: &mut Session<P>, place: Place, actio
 /// What is shown where that is asked.
 #[tactic(auto, using(crate::proofs::Obeyed::showing_steps))]
 fn show<P: Past>(session: &Session<P>, query: Query) -> Said
-    ensures { SaysBy (Ok (Line.Query query)) session.now result session.now }
+    ensures { SaysLine (Line.Query query) session.now result session.now }
 {
     let objects = session.machine().objects() as u64;
     match query {
@@ -52,20 +53,41 @@ fn show<P: Past>(session: &Session<P>, query: Query) -> Said
     }
 }
 
-/// Obeys what a line says.
+/// Obeys a line of the texts.
+fn obey_line<P: Past>(alloc: Global, session: &mut Session<P>, line: Line) -> Said
+    ensures { SaysLine line session.old result session.new }
+{
+    match line {
+        Line::Nothing => Said::Nothing,
+        Line::Command(command) => obey_command(alloc, session, &command),
+        Line::At(place, action) => obey_at(alloc, session, place, action),
+        Line::Query(query) => show(session, query),
+        Line::Quit => Said::Quit,
+    }
+}
+
+/// What is told in JSON alone.
+fn tell<P: Past>(session: &Session<P>, own: Own) -> Said
+    ensures { SaysOwn own session.now result session.now }
+{
+    match own {
+        Own::Breaks => Said::Breaks,
+        Own::Items(from, to) => Said::SomeItems(from, to),
+        Own::Objects(from, to) => Said::SomeObjects(from, to),
+    }
+}
+
+/// Obeys what a line asks for.
 pub(crate) fn obey<P: Past>(
     alloc: Global,
     session: &mut Session<P>,
-    says: Result<Line, Syntax>,
+    says: Result<Asked, Syntax>,
 ) -> Said
     ensures { SaysBy says session.old result session.new }
 {
     match says {
-        Ok(Line::Nothing) => Said::Nothing,
-        Ok(Line::Command(command)) => obey_command(alloc, session, &command),
-        Ok(Line::At(place, action)) => obey_at(alloc, session, place, action),
-        Ok(Line::Query(query)) => show(session, query),
-        Ok(Line::Quit) => Said::Quit,
+        Ok(Asked::Line(line)) => obey_line(alloc, session, line),
+        Ok(Asked::Own(own)) => tell(session, own),
         Err(syntax) => Said::Bad(syntax),
     }
 }

@@ -24,6 +24,12 @@ pub enum Said {
     Bad(Syntax),
     /// What is asked about the session is shown.
     Shown(Query),
+    /// The places that have a breakpoint are shown.
+    Breaks,
+    /// The items from one place on and before another are shown.
+    SomeItems(usize, usize),
+    /// The objects from one number on and before another are shown.
+    SomeObjects(usize, usize),
 }
 
 /// Whether a reply is a refusal.
@@ -54,5 +60,8 @@ pub(crate) fn refuses(said: Said) -> bool
         Said::NoObject(_) => true,
         Said::Bad(_) => true,
         Said::Shown(_) => false,
+        Said::Breaks => false,
+        Said::SomeItems(_, _) => false,
+        Said::SomeObjects(_, _) => false,
     }
 }

@@ -7,14 +7,15 @@ use Rattle.pickle_io.specs.declared.sink.Failed.{Failed}
 use Rattle.pickle_io.specs.Device.{Told, KeepsOrForgets, Broke}
 use Rattle.pickle_io.proofs.Devices.{Wrote-none}
 use Rattle.pickle_session.specs.Allowed.{SessionState}
-use Rattle.pickle_script.specs.declared.conversation.line.Line.{Line}
 use Rattle.pickle_script.specs.declared.conversation.line.Syntax.{Syntax}
 use Rattle.pickle_script.specs.Script.{last_line, lines_of}
-use Rattle.pickle_script.specs.Transcript.{IsRead, up_to_quit}
+use Rattle.pickle_script.specs.Transcript.{up_to_quit}
 use Rattle.pickle_script.specs.Conversation.{Gave, most_at_once}
 use Rattle.pickle_script.specs.Inside.Progress.{Pending, line_start}
 use Rattle.pickle_script.proofs.Cuts.{nothing, IsCut-none}
 use Rattle.pickle_script.proofs.Feeding.{pend, shortened-nil, nil-shortened, up_to_quit-none, up_to_quit-last, up_to_quit-more}
+use Rattle.debug_json.specs.declared.asked.Asked.{Asked}
+use Rattle.debug_json.specs.Asked.{IsAsked}
 use Rattle.debug_json.specs.Answered.{AnswersSaying}
 use Rattle.json_conversation.specs.Transcript.{SaysAll}
 use Rattle.json_conversation.specs.Conversation.{Finishes, StopsReading, BrokeSince, StopsWriting}
@@ -55,8 +56,8 @@ ends_at_line s q old new given held answer w n e =
     }
 
 -- the last line has no newline
-pub ends_after_last : (s q r : SessionState) (old a b : Told) (given : List ℕ) (held next : Pending) (says : Result Line Syntax) (this : Bool) (answer : ℕ)
-    → SoFar s old given q a held → held.line ≢ [] → IsRead held.line says → AnswersSaying says q r a b (Ok this) → next ≡ pend [] (held.refused || this) → answer ≡ status next.refused
+pub ends_after_last : (s q r : SessionState) (old a b : Told) (given : List ℕ) (held next : Pending) (says : Result Asked Syntax) (this : Bool) (answer : ℕ)
+    → SoFar s old given q a held → held.line ≢ [] → IsAsked held.line says → AnswersSaying says q r a b (Ok this) → next ≡ pend [] (held.refused || this) → answer ≡ status next.refused
     → IsComplete s old given r b answer
 ends_after_last s q r old a b given held next says this answer w n e x is st =
     let all = rest_some s q old a given held w n in
@@ -71,8 +72,8 @@ ends_after_last s q r old a b given held next says this answer w n e x is st =
       status_is = st ∙ ap (λ (y : Pending). status y.refused) is ∙ ap status (refused_so s q r old a b given held says this w x);
     }
 
-pub breaks_in_last : (s q r : SessionState) (old a b : Told) (given : List ℕ) (held : Pending) (says : Result Line Syntax) (e : Failed)
-    → SoFar s old given q a held → held.line ≢ [] → IsRead held.line says → AnswersSaying says q r a b (Err e) → IsBroken s old given r b
+pub breaks_in_last : (s q r : SessionState) (old a b : Told) (given : List ℕ) (held : Pending) (says : Result Asked Syntax) (e : Failed)
+    → SoFar s old given q a held → held.line ≢ [] → IsAsked held.line says → AnswersSaying says q r a b (Err e) → IsBroken s old given r b
 breaks_in_last s q r old a b given held says e w n is x = record {
   cut = w.cut;
   is_cut = w.is_cut;

@@ -1,6 +1,6 @@
 -- A conversation in JSON, line by line and byte by byte.
-use Rattle.std.proofs.Common.{◌≡◌, ◌≢◌, ℕ, ◌+◌, ◌<◌, ◌≤◌, Bool, true, false, ◌||◌, List, [], ◌∷◌, ◌++◌, length, take, drop, Option, Some, None, Result, Ok, Err, refl, sym, ap, subst, ◌∙◌, append_assoc, append-nil, arith}
-use Rattle.std.specs.List.{concat, list_any}
+use Rattle.std.proofs.Common.{◌≡◌, ◌≢◌, ℕ, Bool, true, false, ◌||◌, List, [], ◌∷◌, ◌++◌, Option, Some, None, Result, Ok, Err, refl, sym, ap, subst, ◌∙◌, append_assoc, append-nil, arith}
+use Rattle.std.specs.List.{list_any}
 use Rattle.std.specs.Io.KnownBytes.{Appends}
 use Rattle.pickle_io.proofs.Devices.{Wrote-trans, Broke-after}
 use Rattle.std.proofs.lemmas.List.Folds.{list_any-append}
@@ -11,18 +11,22 @@ use Rattle.pickle_script.specs.declared.conversation.line.Line.{Line}
 use Rattle.pickle_script.specs.declared.conversation.line.Line.TheVariants as line
 use Rattle.pickle_script.specs.declared.conversation.line.Syntax.{Syntax}
 use Rattle.pickle_script.specs.Grammar.{AnswersWords, line_says}
-use Rattle.pickle_script.specs.Transcript.{IsRead, quits, is_quit, has_quit, up_to_quit}
+use Rattle.pickle_script.specs.Transcript.{quits, is_quit, has_quit}
 use Rattle.pickle_script.specs.Conversation.{AppendsBeyond, BrokeBeyond}
 use Rattle.pickle_script.specs.Inside.Progress.{Pending, line_start, longer}
 use Rattle.pickle_script.proofs.Cuts.{after, ended, lengthened, IsCut-more, IsCut-newline, IsCut-byte, some_cut}
 use Rattle.pickle_script.proofs.Feeding.{longer-shortened, line_says-shortened, nil-shortened, any-push, up_to_quit-last, up_to_quit-more, pend}
+use Rattle.debug_json.specs.declared.asked.Own.{Own}
+use Rattle.debug_json.specs.declared.asked.Asked.{Asked}
+use Rattle.debug_json.specs.Asked.{AsksBy, IsAsked, line_asks, as_own, as_line}
+use Rattle.debug_json.proofs.Askings.{own_stays, line_asks-shortened}
 use Rattle.debug_json.specs.Answer.{Answer}
-use Rattle.debug_json.specs.Says.{SaysBy, Says}
+use Rattle.debug_json.specs.Says.{Says}
 use Rattle.debug_json.specs.Lines.{answer_line}
 use Rattle.debug_json.specs.Answered.{AnswersSaying}
 use Rattle.json_conversation.specs.declared.talk.Flow.{Flow}
 use Rattle.json_conversation.specs.declared.talk.Flow.TheVariants as flow
-use Rattle.json_conversation.specs.Transcript.{SaysAll, lines_text, is_refusal}
+use Rattle.json_conversation.specs.Transcript.{asks_quit, SaysAll, lines_text, is_refusal}
 use Rattle.json_conversation.specs.Inside.Progress.{SoFar, HasQuit, BreaksInLine, HasBroken, Fed}
 
 -- ---- one line more
@@ -70,11 +74,13 @@ same_pending : (l m : List ℕ) (b c : Bool) → l ≡ m → b ≡ c → pend l 
 same_pending l m b c e f = ap (λ (x : List ℕ). pend x b) e ∙ ap (λ (x : Bool). pend m x) f
 
 -- the line is read as what is held of it
-read_so : (s q : SessionState) (old a : Told) (given : List ℕ) (held : Pending) (says : Result Line Syntax)
-    → (w : SoFar s old given q a held) → IsRead held.line says → IsRead w.cut.rest says
+read_so : (s q : SessionState) (old a : Told) (given : List ℕ) (held : Pending) (says : Result Asked Syntax)
+    → (w : SoFar s old given q a held) → IsAsked held.line says → IsAsked w.cut.rest says
 read_so s q old a given held says w e =
     let same : line_says held.line ≡ line_says w.cut.rest = ap (λ (x : Pending). line_says x.line) w.holds ∙ line_says-shortened w.cut.rest in
-    subst (λ (x : Result Line Syntax). AnswersWords x says) same e
+    let asks : line_asks held.line ≡ line_asks w.cut.rest = ap (λ (x : Pending). line_asks x.line) w.holds ∙ line_asks-shortened w.cut.rest in
+    subst (λ (x : Result Line Syntax). AsksBy (line_asks w.cut.rest) x says) same
+    (subst (λ (x : Option (Result Own Syntax)). AsksBy x (line_says held.line) says) asks e)
 
 -- no other answer to a line quits, and none to a line that quits does not
 same_quits : (said says : Result Line Syntax) → AnswersWords said says → quits said ≡ quits says
@@ -86,22 +92,35 @@ same_quits (Ok (line.At p a)) (Err f) e = refl
 same_quits (Ok (line.Query x)) (Err f) e = refl
 same_quits (Ok line.Quit) (Err f) e = absurd e
 
-quits_so : (s q : SessionState) (old a : Told) (given : List ℕ) (held : Pending) (says : Result Line Syntax)
-    → (w : SoFar s old given q a held) → IsRead held.line says → is_quit w.cut.rest ≡ quits says
-quits_so s q old a given held says w e = same_quits (line_says w.cut.rest) says (read_so s q old a given held says w e)
+quits-line : (says : Result Line Syntax) → quits says ≡ asks_quit (as_line says)
+quits-line (Ok l) = refl
+quits-line (Err f) = refl
+
+own-quits : (own : Result Own Syntax) → false ≡ asks_quit (as_own own)
+own-quits (Ok o) = refl
+own-quits (Err f) = refl
+
+quits_by : (asks : Option (Result Own Syntax)) (bytes : List ℕ) (says : Result Asked Syntax) → line_asks bytes ≡ asks → AsksBy asks (line_says bytes) says
+    → is_quit bytes ≡ asks_quit says
+quits_by (Some own) bytes says h e = own_stays bytes own h ∙ own-quits own ∙ ap asks_quit (sym e)
+quits_by None bytes says h e = same_quits (line_says bytes) e.0 e.1 ∙ quits-line e.0 ∙ ap asks_quit (sym e.2)
+
+quits_so : (s q : SessionState) (old a : Told) (given : List ℕ) (held : Pending) (says : Result Asked Syntax)
+    → (w : SoFar s old given q a held) → IsAsked held.line says → is_quit w.cut.rest ≡ asks_quit says
+quits_so s q old a given held says w e = quits_by (line_asks w.cut.rest) w.cut.rest says refl (read_so s q old a given held says w e)
 
 -- the line that was not ended is answered so
-pub gives_so : (s q r : SessionState) (old a b : Told) (given : List ℕ) (held : Pending) (says : Result Line Syntax) (x : Result Bool Failed)
-    → (w : SoFar s old given q a held) → IsRead held.line says → (y : AnswersSaying says q r a b x) → Says q w.cut.rest y.answer r
-gives_so s q r old a b given held says x w e y = record { says = says; is_read = read_so s q old a given held says w e; said_by = y.said_by; session = y.session; reached = y.reached }
+pub gives_so : (s q r : SessionState) (old a b : Told) (given : List ℕ) (held : Pending) (says : Result Asked Syntax) (x : Result Bool Failed)
+    → (w : SoFar s old given q a held) → IsAsked held.line says → (y : AnswersSaying says q r a b x) → Says q w.cut.rest y.answer r
+gives_so s q r old a b given held says x w e y = record { says = says; is_asked = read_so s q old a given held says w e; said_by = y.said_by; session = y.session; reached = y.reached }
 
-pub refused_so : (s q r : SessionState) (old a b : Told) (given : List ℕ) (held : Pending) (says : Result Line Syntax) (this : Bool)
+pub refused_so : (s q r : SessionState) (old a b : Told) (given : List ℕ) (held : Pending) (says : Result Asked Syntax) (this : Bool)
     → (w : SoFar s old given q a held) → (y : AnswersSaying says q r a b (Ok this)) → (held.refused || this) ≡ list_any is_refusal (w.answers ++ y.answer ∷ [])
 refused_so s q r old a b given held says this w y =
     ap (λ (x : Pending). x.refused || this) w.holds ∙ ap (λ (x : Bool). list_any is_refusal w.answers || x) y.is_refusal ∙ sym (refused-push w.answers y.answer)
 
-pub line_ends : (s q r : SessionState) (old a b : Told) (given : List ℕ) (held next : Pending) (says : Result Line Syntax) (this : Bool)
-    → SoFar s old given q a held → IsRead held.line says → quits says ≡ false → AnswersSaying says q r a b (Ok this) → next ≡ pend [] (held.refused || this)
+pub line_ends : (s q r : SessionState) (old a b : Told) (given : List ℕ) (held next : Pending) (says : Result Asked Syntax) (this : Bool)
+    → SoFar s old given q a held → IsAsked held.line says → asks_quit says ≡ false → AnswersSaying says q r a b (Ok this) → next ≡ pend [] (held.refused || this)
     → SoFar s old (given ++ 10 ∷ []) r b next
 line_ends s q r old a b given held next says this w e n x is = record {
   cut = ended w.cut;
@@ -113,8 +132,8 @@ line_ends s q r old a b given held next says this w e n x is = record {
   holds = is ∙ same_pending [] (line_start []) (held.refused || this) (list_any is_refusal (w.answers ++ x.answer ∷ [])) (sym nil-shortened) (refused_so s q r old a b given held says this w x);
 }
 
-pub line_quits : (s q r : SessionState) (old a b : Told) (given : List ℕ) (held next : Pending) (says : Result Line Syntax) (this : Bool)
-    → SoFar s old given q a held → IsRead held.line says → quits says ≡ true → AnswersSaying says q r a b (Ok this) → next ≡ pend [] (held.refused || this)
+pub line_quits : (s q r : SessionState) (old a b : Told) (given : List ℕ) (held next : Pending) (says : Result Asked Syntax) (this : Bool)
+    → SoFar s old given q a held → IsAsked held.line says → asks_quit says ≡ true → AnswersSaying says q r a b (Ok this) → next ≡ pend [] (held.refused || this)
     → HasQuit s old (given ++ 10 ∷ []) r b next
 line_quits s q r old a b given held next says this w e h x is =
     let quit : is_quit w.cut.rest ≡ true = quits_so s q old a given held says w e ∙ h in
@@ -130,8 +149,8 @@ line_quits s q r old a b given held next says this w e h x is =
     }
 
 -- the sink fails in the text of the line that was not ended
-pub last_breaks : (s q r : SessionState) (old a b : Told) (given : List ℕ) (held : Pending) (says : Result Line Syntax) (e : Failed)
-    → (w : SoFar s old given q a held) → IsRead held.line says → AnswersSaying says q r a b (Err e) → BreaksInLine s old (w.cut.complete ++ w.cut.rest ∷ []) r b
+pub last_breaks : (s q r : SessionState) (old a b : Told) (given : List ℕ) (held : Pending) (says : Result Asked Syntax) (e : Failed)
+    → (w : SoFar s old given q a held) → IsAsked held.line says → AnswersSaying says q r a b (Err e) → BreaksInLine s old (w.cut.complete ++ w.cut.rest ∷ []) r b
 last_breaks s q r old a b given held says e w is x = record {
   before = w.cut.complete;
   last = w.cut.rest;
@@ -144,8 +163,8 @@ last_breaks s q r old a b given held says e w is x = record {
   broke = BrokeBeyond-front old a b (lines_text w.answers) (answer_line x.answer) w.wrote x.writes;
 }
 
-pub line_breaks : (s q r : SessionState) (old a b : Told) (given : List ℕ) (held : Pending) (says : Result Line Syntax) (e : Failed)
-    → SoFar s old given q a held → IsRead held.line says → AnswersSaying says q r a b (Err e) → HasBroken s old (given ++ 10 ∷ []) r b
+pub line_breaks : (s q r : SessionState) (old a b : Told) (given : List ℕ) (held : Pending) (says : Result Asked Syntax) (e : Failed)
+    → SoFar s old given q a held → IsAsked held.line says → AnswersSaying says q r a b (Err e) → HasBroken s old (given ++ 10 ∷ []) r b
 line_breaks s q r old a b given held says e w is x = record {
   cut = ended w.cut;
   is_cut = IsCut-newline given w.cut w.is_cut;

@@ -1,13 +1,11 @@
 -- A sink that hands on what it holds, after lines that were obeyed: where it fails, it fails in the answer to the last of them.
-use Rattle.std.proofs.Common.{◌≡◌, ◌≢◌, ◌<◌, ◌+◌, length, take, get_or, ℕ, Bool, true, false, ◌||◌, ◌==◌, List, [], ◌∷◌, ◌++◌, Option, Some, None, Result, Ok, Err, refl, sym, ap, subst, ◌∙◌, append-nil, if◌then◌else◌, arith}
-use Rattle.std.specs.List.{concat, list_any}
+use Rattle.std.proofs.Common.{◌≡◌, ◌≢◌, ℕ, Bool, true, false, ◌||◌, ◌==◌, List, [], ◌∷◌, ◌++◌, Option, Some, None, Result, Ok, Err, refl, sym, ap, subst, ◌∙◌, append-nil, if◌then◌else◌, arith}
 use Rattle.std.specs.Io.KnownBytes.{Appends}
 use Rattle.std.proofs.lemmas.List.Folds.{list_any-append}
 use Rattle.pickle_io.specs.declared.sink.Failed.{Failed}
 use Rattle.pickle_io.specs.Device.{Told, AppendsPrefix, Wrote, Broke}
 use Rattle.pickle_io.proofs.Devices.{Wrote-trans, Broke-after}
 use Rattle.pickle_session.specs.Allowed.{SessionState}
-use Rattle.pickle_script.specs.declared.conversation.line.Line.{Line}
 use Rattle.pickle_script.specs.declared.conversation.line.Syntax.{Syntax}
 use Rattle.pickle_script.specs.Script.{Cut, HasNoNewline, IsCut, joined}
 use Rattle.pickle_script.specs.Transcript.{is_quit, has_quit, up_to_quit}
@@ -18,6 +16,7 @@ use Rattle.pickle_script.proofs.Feeding.{up_to-last, up_to_quit-none}
 use Rattle.pickle_script.proofs.Flushes.{has_newline}
 use Rattle.debug_json.specs.Answer.{Answer}
 use Rattle.debug_json.specs.Lines.{answer_line}
+use Rattle.debug_json.specs.declared.asked.Asked.{Asked}
 use Rattle.debug_json.specs.Answered.{AnswersSaying}
 use Rattle.json_conversation.specs.Transcript.{SaysAll, IsTranscript, lines_text}
 use Rattle.json_conversation.specs.Inside.Progress.{SoFar, HasQuit, BreaksInLine, HasBroken}
@@ -54,7 +53,7 @@ so_far_flushed s q old a b given held w f = record {
 pub so_far_none : (s q : SessionState) (old a : Told) (given : List ℕ) (held : Pending) → SoFar s old given q a held → SoFar s old (given ++ []) q a held
 so_far_none s q old a given held w = subst (λ (t : List ℕ). SoFar s old t q a held) (sym (append-nil given)) w
 
-pub line_flushed : (says : Result Line Syntax) (q r : SessionState) (a b c : Told) (this : Bool) → AnswersSaying says q r a b (Ok this) → Wrote b c [] → AnswersSaying says q r a c (Ok this)
+pub line_flushed : (says : Result Asked Syntax) (q r : SessionState) (a b c : Told) (this : Bool) → AnswersSaying says q r a b (Ok this) → Wrote b c [] → AnswersSaying says q r a c (Ok this)
 line_flushed says q r a b c this x f = record {
   answer = x.answer;
   said_by = x.said_by;
@@ -66,7 +65,7 @@ line_flushed says q r a b c this x f = record {
 
 -- ---- the sink fails
 
-pub line_unflushed : (says : Result Line Syntax) (q r : SessionState) (a b c : Told) (this : Bool) (e : Failed) → AnswersSaying says q r a b (Ok this) → Broke b c [] → AnswersSaying says q r a c (Err e)
+pub line_unflushed : (says : Result Asked Syntax) (q r : SessionState) (a b c : Told) (this : Bool) (e : Failed) → AnswersSaying says q r a b (Ok this) → Broke b c [] → AnswersSaying says q r a c (Err e)
 line_unflushed says q r a b c this e x f = record {
   answer = x.answer;
   said_by = x.said_by;

@@ -1,6 +1,7 @@
 //! What a conversation holds between two bytes.
 
-use pickle_script::{LONGEST_LINE, Line, Syntax, read_command};
+use debug_json::{Asked, read_asked};
+use pickle_script::{LONGEST_LINE, Syntax};
 use std::alloc::{AllocError, Global};
 use std::marker::Model;
 
@@ -25,7 +26,7 @@ impl Model for Pending {
 
 impl Pending {
     ghost use Rattle.std.specs.Prelude.{◌≡◌, ◌↔◌, ◌||◌, [], IfOk, IsTrue, false, if◌then◌else◌};
-    ghost use Rattle.pickle_script.specs.Transcript.{IsRead};
+    ghost use Rattle.debug_json.specs.Asked.{IsAsked};
     ghost use Rattle.pickle_script.specs.Inside.Progress.{longer};
 
     /// No byte of a line, and no line refused. All the room that is ever needed is made here; it fails
@@ -56,11 +57,11 @@ impl Pending {
         self.line.is_empty()
     }
 
-    /// What the line says. The bytes of an opcode are read into memory; where there is none the line says `Syntax::Memory`.
-    pub fn says(&self, alloc: Global) -> Result<Line, Syntax>
-        ensures { IsRead self.now.line result }
+    /// What the line asks for. The bytes of an opcode are read into memory; where there is none the line says `Syntax::Memory`.
+    pub fn says(&self, alloc: Global) -> Result<Asked, Syntax>
+        ensures { IsAsked self.now.line result }
     {
-        read_command(alloc, self.line.as_slice())
+        read_asked(alloc, self.line.as_slice())
     }
 
     /// Begins another line; the one that ends may have been refused.

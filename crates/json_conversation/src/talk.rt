@@ -2,12 +2,12 @@
 
 ghost use Rattle.std.specs.Prelude.{◌≡◌, ◌≢◌, ◌∷◌, [], false, IfOk, OnOk, Ok, Err};
 ghost use Rattle.pickle_io.specs.Device.{HasFailed};
-ghost use Rattle.pickle_script.specs.Transcript.{quits};
+ghost use Rattle.json_conversation.specs.Transcript.{asks_quit};
 ghost use Rattle.json_conversation.specs.Conversation.{Finishes, StopsReading, StopsWriting};
 ghost use Rattle.json_conversation.specs.Inside.Progress.{WritesSome, Feeds, Ends};
 
 use crate::pending::Pending;
-use debug_json::answer_json;
+use debug_json::{Asked, answer_json};
 use pickle_io::{Asker, Failed, Page};
 use pickle_script::{Line, Stop, Syntax};
 use pickle_session::{Past, Session};
@@ -26,15 +26,16 @@ pub enum Flow {
 }
 
 /// Whether nothing after a line is obeyed.
-fn quits(says: &Result<Line, Syntax>) -> bool
-    ensures { result ≡ quits says.now }
+fn asks_quit(says: &Result<Asked, Syntax>) -> bool
+    ensures { result ≡ asks_quit says.now }
 {
     match says {
-        Ok(Line::Quit) => true,
-        Ok(Line::Nothing) => false,
-        Ok(Line::Command(_)) => false,
-        Ok(Line::At(_, _)) => false,
-        Ok(Line::Query(_)) => false,
+        Ok(Asked::Line(Line::Quit)) => true,
+        Ok(Asked::Line(Line::Nothing)) => false,
+        Ok(Asked::Line(Line::Command(_))) => false,
+        Ok(Asked::Line(Line::At(_, _))) => false,
+        Ok(Asked::Line(Line::Query(_))) => false,
+        Ok(Asked::Own(_)) => false,
         Err(_) => false,
     }
 }
@@ -50,7 +51,7 @@ fn end_line<P: Past, K: Page>(
     ensures writes { WritesSome (K.told page.old) (K.told page.new) result }
 {
     let says = pending.says(alloc);
-    let quits = quits(&says);
+    let quits = asks_quit(&says);
     let refused = answer_json(alloc, session, says, page)?;
     pending.end_line(refused);
     if quits {

@@ -1,5 +1,5 @@
 -- One slot more, or an end.
-use Rattle.std.proofs.Common.{◌<◌, length, take, true, [], ap, refl, ◌∙◌, arith}
+use Rattle.std.proofs.Common.{true, [], ap, refl, ◌∙◌, arith}
 use Rattle.std.proofs.lemmas.List.{take_all}
 use Rattle.pickle_io.proofs.Devices.{Writes-stop}
 use Rattle.pickle_machine.specs.Kept.{kept}

@@ -1,4 +1,4 @@
-use Rattle.std.proofs.Common.{sym, ◌∙◌, rules}
+use Rattle.std.proofs.Common.{rules}
 use Rattle.std.proofs.lemmas.Result.{err_from_is_err_and}
 use Rattle.debug_json.specs.Lines.{answer_line}
 use Rattle.json_conversation.proofs.Feeding.{line_ends, line_quits, line_breaks}

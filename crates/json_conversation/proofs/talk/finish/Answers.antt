@@ -1,4 +1,4 @@
-use Rattle.std.proofs.Common.{[], ◌++◌, rules}
+use Rattle.std.proofs.Common.{[], rules}
 use Rattle.std.proofs.lemmas.Result.{err_from_is_err_and}
 use Rattle.pickle_io.proofs.Devices.{Wrote-none, Wrote-trans, Broke-after}
 use Rattle.debug_json.specs.Lines.{answer_line}

@@ -2,7 +2,7 @@
 use Rattle.std.proofs.Common.{◌≡◌, Some, arith, rules}
 use Rattle.pickle_doc.specs.Place.{item_at}
 use Rattle.pickle_script.proofs.PlaceLemmas.{offset_fits}
-use Rattle.debug_json.proofs.items.write_nth.Goals as goal
+use Rattle.debug_json.proofs.items.write_placed.Goals as goal
 
 pub overflow_add-next : goal.overflow_add-next
 overflow_add-next g c =
