@@ -1,0 +1,8 @@
+-- What is left decides.
+use Rattle.std.proofs.Common.{◌≡◌, drop}
+use Rattle.std.specs.List.{list_any}
+use Rattle.python_literals.specs.Grammar.{is_mark}
+use Rattle.python_literals.proofs.float.has_mark.Given as goal
+
+abbrev pub invariant-loop-byte : goal.invariant-loop-byte
+invariant-loop-byte l = list_any is_mark (drop l.byte-index l.text) ≡ list_any is_mark l.text
