@@ -1,13 +1,15 @@
--- The bytes that a text is assembled to, or the line that says why there are none.
+-- The bytes that a text is assembled to, with labels or without, or the line that says why there are none.
 -- Source: own.
-use Rattle.std.specs.Prelude.{◌≡◌, ◌≢◌, ◌⊎◌, ℕ, List, codes, decimal, Result, Err, IfOk, IfErr}
+use Rattle.std.specs.Prelude.{◌≡◌, ◌≢◌, ◌⊎◌, ℕ, List, codes, decimal, Option, Some, None, Result, Err, IfOk, IfErr}
 use Rattle.pickle_io.specs.Text.{◌⧺◌}
 use Rattle.pickle_io.specs.Device.{Told}
 use Rattle.pickle_text.specs.Column.{newline}
 use Rattle.pickle_text.specs.Output.{Output}
 use Rattle.opcode_assembler.specs.declared.fault.Reason.{Reason}
 use Rattle.opcode_assembler.specs.declared.fault.Reason.TheVariants as why
-use Rattle.opcode_assembler.specs.Assembly.{Assembles, IsRefused}
+use Rattle.assembly_labels.specs.declared.refusal.LabelRefusal.{LabelRefusal}
+use Rattle.assembly_labels.specs.declared.refusal.LabelRefusal.TheVariants as refusal
+use Rattle.assembly_labels.specs.Labelled.{AssemblesLabelled, RefusesLabelled}
 use Rattle.pickle_script.specs.GateText.{WroteText, StopsGate}
 use Rattle.pickle_script.specs.declared.stop.Stop.{Stop}
 use Rattle.pickle_script.specs.declared.stop.Stop.TheVariants as stop
@@ -24,30 +26,38 @@ sentence_of why.BadArgument = codes "the bytes are no argument of the opcode"
 sentence_of why.ExtraText = codes "the line goes on behind the argument"
 sentence_of why.LeftOut = codes "the listing does not show all bytes of its pickle"
 
+unfoldable pub counting_words : List ℕ
+counting_words = codes "MEMOIZE counts keys by itself, and the text has labels"
+
 unfoldable pub line_words : List ℕ
 line_words = codes "refused: line "
 
-unfoldable pub refused_line : ℕ → Reason → List ℕ
-refused_line number r = line_words ⧺ decimal number ⧺ codes ": " ⧺ sentence_of r ⧺ newline
+unfoldable pub refused_line : ℕ → List ℕ → List ℕ
+refused_line number why = line_words ⧺ decimal number ⧺ codes ": " ⧺ why ⧺ newline
 
 abbrev pub assembled_output : List ℕ → Output
 assembled_output bytes = record { text = bytes; status = 0 }
 
-abbrev pub refused_output : ℕ → Reason → Output
-refused_output number r = record { text = refused_line number r; status = 1 }
+abbrev pub line_output : ℕ → List ℕ → Output
+line_output number why = record { text = refused_line number why; status = 1 }
 
--- each line is one of the definition, and these are their bytes
+-- the line of a refusal
+abbrev pub refused_output : LabelRefusal → Option Output
+refused_output (refusal.Line number r) = Some (line_output number (sentence_of r))
+refused_output (refusal.Counting number) = Some (line_output number counting_words)
+refused_output refusal.Memory = None
+
+-- each line is one of the definition, with keys in place of labels, and these are their bytes
 pub record IsAssembled (text : List ℕ) (o : Output) : Type 0 where
   pub bytes : List ℕ
-  pub assembles : Assembles text bytes
+  pub assembles : AssemblesLabelled text bytes
   pub text_is : o ≡ assembled_output bytes
 
 -- or there is a first line that is none
 pub record IsUnassembled (text : List ℕ) (o : Output) : Type 0 where
-  pub number : ℕ
-  pub reason : Reason
-  pub refused : IsRefused text number reason
-  pub text_is : o ≡ refused_output number reason
+  pub refusal : LabelRefusal
+  pub refused : RefusesLabelled text refusal
+  pub text_is : refused_output refusal ≡ Some o
 
 abbrev pub IsAssemblyText : List ℕ → Output → Type 0
 IsAssemblyText text o = IsAssembled text o ⊎ IsUnassembled text o

@@ -2,12 +2,16 @@
 
 ghost use Rattle.std.specs.Prelude.{◌≡◌};
 ghost use Rattle.pickle_io.specs.Device.{Writes};
-ghost use Rattle.assembler_script.specs.AssemblyText.{sentence_of, line_words, refused_line, AnswersAssembly};
+ghost use Rattle.assembler_script.specs.AssemblyText.{sentence_of, counting_words, line_words, refused_line, AnswersAssembly};
 
-use opcode_assembler::{Reason, Refusal, assemble};
+use assembly_labels::{LabelRefusal, assemble_labelled};
+use opcode_assembler::Reason;
 use pickle_io::{Failed, Page, write_all, write_decimal};
 use pickle_script::Stop;
 use std::alloc::Global;
+
+/// The status where a line is refused.
+const REFUSED: u8 = 1;
 
 /// Why a line gives no bytes.
 #[tactic(auto, unfolding(crate::specs::AssemblyText::sentence_of))]
@@ -28,6 +32,14 @@ fn sentence_of(reason: Reason) -> &'static str
     }
 }
 
+/// Why MEMOIZE is refused.
+#[tactic(auto, unfolding(crate::specs::AssemblyText::counting_words))]
+fn counting_words() -> &'static str
+    ensures { result.now ≡ counting_words }
+{
+    "MEMOIZE counts keys by itself, and the text has labels"
+}
+
 /// Words of a line.
 #[tactic(auto, unfolding(crate::specs::AssemblyText::line_words))]
 fn line_words() -> &'static str
@@ -38,33 +50,37 @@ fn line_words() -> &'static str
 
 /// Writes the number of the first line that gives no bytes, and why.
 #[tactic(auto, using(pickle_io::proofs::Devices::text_steps), unfolding(crate::specs::AssemblyText::refused_line))]
-fn write_refusal<S: Page>(number: u64, reason: Reason, page: &mut S) -> Result<(), Failed>
-    ensures { Writes (S.told page.old) (S.told page.new) result (refused_line number reason) }
+fn write_refusal<S: Page>(number: u64, why: &str, page: &mut S) -> Result<(), Failed>
+    ensures { Writes (S.told page.old) (S.told page.new) result (refused_line number why.now) }
 {
     write_all(page, line_words().as_bytes())?;
     write_decimal(number, page)?;
     write_all(page, b": ")?;
-    write_all(page, sentence_of(reason).as_bytes())?;
+    write_all(page, why.as_bytes())?;
     write_all(page, b"\n")
 }
 
-/// Writes the bytes that the text is assembled to, or the line of the first line that gives none. Answers the status: 0 where they are
-/// the bytes, else 1.
+/// Writes the bytes that the text is assembled to, with labels or without, or the line of the first line that gives none. Answers the status:
+/// 0 where they are the bytes, else 1.
 ///
 /// `Stop::Memory` where there is no room for the bytes: nothing was written then. `Stop::Write` where the sink fails: what was written then
 /// is a beginning of them. The sink is to be flushed as in `write_text`.
 pub fn write_assembled<S: Page>(alloc: Global, text: &[u8], page: &mut S) -> Result<u8, Stop>
     ensures { AnswersAssembly text.now S.told page.old page.new result }
 {
-    match assemble(alloc, text) {
+    match assemble_labelled(alloc, text) {
         Ok(bytes) => {
             write_all(page, bytes.as_slice())?;
             Ok(0)
         }
-        Err(Refusal::Line(number, reason)) => {
-            write_refusal(number, reason, page)?;
-            Ok(1)
+        Err(LabelRefusal::Line(number, reason)) => {
+            write_refusal(number, sentence_of(reason), page)?;
+            Ok(REFUSED)
         }
-        Err(Refusal::Memory) => Err(Stop::Memory),
+        Err(LabelRefusal::Counting(number)) => {
+            write_refusal(number, counting_words(), page)?;
+            Ok(REFUSED)
+        }
+        Err(LabelRefusal::Memory) => Err(Stop::Memory),
     }
 }

@@ -1,0 +1,4 @@
+pub mod Places
+pub mod Lines
+pub mod Lookups
+pub mod Kept

@@ -1,0 +1,5 @@
+pub mod Labels
+pub mod Labelled
+pub mod Numbering
+pub mod Quick
+pub mod Laws

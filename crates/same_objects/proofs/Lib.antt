@@ -1,0 +1,4 @@
+pub mod SameKinds
+pub mod Heaps
+pub mod Endings
+pub mod Wholes
