@@ -183,7 +183,7 @@ pub extern "C" fn picklestep_reach_json(
     lines::fill_reach_lines(alloc, granted, bytes, out, written)
 }
 
-/// The members of the zip archive in writers' form that the bytes are, or the first rule that they break, and where.
+/// The members of the zip archive or tar archive in writers' form that the bytes are, or the first rule that they break, and where.
 #[unsafe(no_mangle)]
 pub extern "C" fn picklestep_members(
     alloc: Global,

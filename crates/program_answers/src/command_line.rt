@@ -36,7 +36,7 @@ fn files_argument<'a>(alloc: Global) -> Arg<'a>
     ensures local { result.global ≡ false }
 {
     Arg::new(alloc, "FILE")
-        .help("a pickle or a zip archive, or several")
+        .help("a pickle or an archive, or several")
         .required(true)
         .action(ArgAction::Append)
 }
@@ -333,13 +333,13 @@ fn reach_command<'a>(alloc: Global) -> Result<Command<'a>, AllocError>
     granted_command(alloc)?.arg(json_argument(alloc))
 }
 
-/// The command that prints the members of a zip archive.
+/// The command that prints the members of an archive.
 fn members_command<'a>(alloc: Global) -> Result<Command<'a>, AllocError>
     ensures { IfOk result (λ c. app_of c ≡ members_app) }
 {
     Command::new(alloc, "members")
         .about(
-            "Prints the members of FILE, if it is a zip archive in the form that writers write, else where it is not and why",
+            "Prints the members of FILE, if it is an archive in the form that writers write, else where it is not and why",
         )
         .arg(file_argument(alloc))
 }

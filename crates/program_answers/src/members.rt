@@ -1,4 +1,4 @@
-//! The members of the zip archive in a file, over any devices and files.
+//! The members of the archive in a file, over any devices and files.
 
 ghost use Rattle.std.specs.Prelude.{◌≡◌, ◌≢◌, Err};
 ghost use Rattle.program_answers.specs.Device.{device_of};

@@ -48,7 +48,7 @@ pub enum Task {
     Gate(GivenFile, GateOptions),
     /// Print whether a loader of the file reaches something that was given this besides, for people or for programs.
     Reach(GivenFile, Granted, Format),
-    /// Print the members of the zip archive in writers' form that the file is.
+    /// Print the members of the archive in writers' form that the file is.
     Members(GivenFile),
     /// Write the bytes of the opcodes that stand in the text that the file is.
     Assemble(GivenFile),
