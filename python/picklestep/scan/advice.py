@@ -28,6 +28,8 @@ ADVICE: Dict[str, str] = {
     'not-allowed': 'Find out which library or program has this name, and what a call of it does. If you expect it, and it runs, loads and opens nothing '
                    'that it is given, write it into a list for --allow.',
     'not-allowed-done': 'The name is allowed, and what is done with it is not. Read the line and compare it with what picklers write.',
+    'not-passed': 'picklestep gate LIST FILE shows the line. A loader may find in the file what the marks of its pickles do not tell. Pack it anew, and leave '
+                  'out what is no part of it.',
     'odd': 'Do not load the file. A library believes what the pickle says here, and memory may be overwritten or code may run.',
     'not-read': 'The pickle is cut off or damaged, or it is written for one loader alone. picklestep calls shows how far it is read, and what '
                 'loaders may do from there.',

@@ -175,7 +175,7 @@ def _is_django_cache(head: bytes) -> bool:
 # --- The table ---
 
 ZIP = Container(
-    'zip', 'opening.zips:look_into', 'torch, zipfile, Info-ZIP and 7-Zip write', b'PK', known_by=_is_zip, endings=('zip', 'npz', 'whl', 'keras'),
+    'zip', 'opening.zips:look_into', 'torch, numpy, zipfile and Info-ZIP write', b'PK', known_by=_is_zip, endings=('zip', 'npz', 'whl', 'keras'),
     opener_at_end='opening.zips:look_at_end', may_be_at_end=_may_end_as_zip, loaders=('torch', 'numpy', 'pandas'))
 ZLIB = Container('zlib', 'opening.packed:look_into', 'zlib.compress writes', sign=rb'[\x08\x18(8HXhx]', known_by=_is_zlib,
                  other_endings=('z', 'zlib'), stream=streams.ZLIB, loaders=('joblib',))

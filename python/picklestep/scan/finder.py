@@ -156,6 +156,7 @@ class _Finder(Looker):
         self.content: Optional[bytes] = None
         self._is_of_several = False
         self.holds_any = False
+        self.is_whole = not address
         self.wants_value = self._wants_value if address else None
         # The containers that were opened, by where they are.
         self._kinds_at: Dict[Place, str] = {(): kind}

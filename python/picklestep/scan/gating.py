@@ -19,7 +19,7 @@ __all__ = ['gate']
 def gate(source: Source, *, allow: Iterable[str] = (), names: Iterable[str] = (), timeout: Optional[float] = None,
          memory: Optional[int] = None) -> GateAnswer:
     r"""Whether a source is one pickle that does nothing but what lists allow; an array of numbers, or of objects with such a pickle; one of these
-    that gzip or zlib packed; or a zip archive each member of which is such a pickle, or gives nothing to a loader. The answer is true where it passes.
+    that gzip or zlib packed; or an archive each member of which is such a pickle, or gives nothing to a loader. The answer is true where it passes.
     At an address, and in a container of another kind, a pickle is opened first, by the readers of `scan`, which are tested and not proved: what is said
     is said of that pickle alone, and `address` of the answer says which it is.
 

@@ -22,6 +22,7 @@ from typing import TYPE_CHECKING, Any, BinaryIO, Callable, Iterator, List, Optio
 
 from ..errors import PicklestepError
 from ..hints import IN_FRAMES, OLD_TORCH
+from ..opens import begins_gated
 from ..patterns import pattern
 from ..sources import LIMIT, is_opened
 from . import stores
@@ -37,10 +38,10 @@ from .names import Names
 from .other_forms import ending, forms_of
 from .other_loaders import another_import
 from .packed import Unpacking
-from .passing import verdicts
+from .passing import MOST_GATED, verdicts, verdicts_of_file
 from .reach import LIKE_IMPORT, Leads, Reach, leads_in, leads_of, reach_of
 from .reading import Asked, Summary, why_unread
-from .results import UNKNOWN, Note, Pickle, Place, Result, Verdict
+from .results import UNKNOWN, FileVerdict, Note, Pickle, Place, Result, Verdict
 from ..unread import kind_by_end
 from .zarr import has_pickles
 
@@ -92,6 +93,9 @@ class Looker:
         self.name = ''
         # What readers take the file itself for.
         self.kinds_of_file: Tuple[str, ...] = ()
+        # Whether all of a file is looked at; and whether a pickle was read in parts: with arrays between its opcodes, or as one of several in a row.
+        self.is_whole = True
+        self._has_parts = False
         # Whether a value is looked at, where not all of them are.
         self.wants_value: Optional[Callable[[bytes, Place], bool]] = None
 
@@ -115,6 +119,21 @@ class Looker:
             self.note(pickle.where, f'whether it passes a list is not known: {error}', missed=True)
             return self.not_judged(pickle)
         return replace(pickle, verdicts=found)
+
+    def judged_whole(self, blob: Blob) -> Tuple[FileVerdict, ...]:
+        """What the gate says of the file as a whole by each list, where it takes all of it: a zip archive or an array of numpy, and what gzip or zlib packed
+        if that is one pickle or an array. (A file that is one pickle was asked about as that.)"""
+        kinds, lists = self.kinds_of_file, self.options.lists
+        takes = kinds in (('zip',), ('npy',)) or kinds in (('gzip',), ('zlib',)) and not self._has_parts and all(
+            pickle.where in ((f'({kinds[0]})',), (f'({kinds[0]})', '(objects)')) for pickle in self.pickles)
+        is_asked = lists and takes and self.is_whole and self.pickles and max(blob.size, self.budget.unpacked) <= MOST_GATED
+        if not is_asked or not begins_gated(blob.read(0, HEAD)):
+            return ()
+        try:
+            return verdicts_of_file(self.pickles, blob, lists, self.options.left, self.budget)
+        except (LimitMet, NotCanonical, PicklestepError) as error:
+            self.note((), f'whether it passes a list is not known: {error}', missed=True)
+            return ()
 
     def not_judged(self, pickle: Pickle) -> Pickle:
         """The same where the gate has not answered."""
@@ -251,6 +270,7 @@ class Looker:
         self.at = where
         layout, layout_note = self._layout(blob, reads, where)
         opcodes = JoinedBlob(blob, layout.raw) if layout is not None and layout.raw else blob
+        self._has_parts = self._has_parts or layout is None or layout.pickles != 1 or opcodes is not blob
         pickle = self._asked(opcodes, blob, where, is_sure or _begins_as_pickle(head, names), calls)
         if pickle is None:
             return False
@@ -591,18 +611,20 @@ def is_url(path: str) -> bool:
 def _gone_through(looker: Looker, blob: Blob, path: str, modified: int = 0, changed: int = 0) -> Result:
     """The result of a file, also where a limit is met or reading fails on the way."""
     error = None
+    gated: Tuple[FileVerdict, ...] = ()
     looker.budget.size = blob.size
     looker.name = path.rpartition('/')[2]
     try:
         if not stores.look_beside(looker, blob, path):
             looker.look_at(blob, (), (looker.name,), 0)
+            gated = looker.judged_whole(blob)
     except LimitMet as limit:
         looker.note(looker.at, str(limit), missed=True)
     except OSError as failure:
         error = failure.strerror or str(failure)
     return Result(path, blob.size, modified, tuple(looker.pickles), looker.others, tuple(looker.notes), error, changed=changed,
                   plain=looker.plain, forms=forms_of(looker.others, looker.forms), kinds=looker.kinds_of_file,
-                  lists=tuple(names.digest for names in looker.options.lists))
+                  lists=tuple(names.digest for names in looker.options.lists), verdicts=gated)
 
 
 def look(path: Union[str, 'os.PathLike[str]'], options: Options = Options()) -> Result:

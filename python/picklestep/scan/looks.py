@@ -10,7 +10,7 @@ from .allow import sets_with
 from .known import known_anywhere, known_note
 from .names import Names
 from .reading import begun_module, is_plain_name, is_worked_out
-from .results import OF_ARGUMENTS, OF_OFFSETS, ODD, OTHER_FORM, Call, Import, Pickle, Place, Result, Verdict
+from .results import OF_ARGUMENTS, OF_OFFSETS, ODD, OTHER_FORM, Call, FileVerdict, Import, Pickle, Place, Result, Verdict
 from .severity import UNREAD, severity_of
 from .through import part_through, why_through
 from .wording import shown, times
@@ -24,6 +24,7 @@ RULES = {
     'denied': 'It imports a name of the list of --deny.',
     'not-allowed': 'It imports a name that no list of --allow has.',
     'not-allowed-done': 'It does something with an allowed name that no list of --allow says may be done with it.',
+    'not-passed': 'The gate, which looks at all that a loader may find in the file, does not let it pass by a list of --allow.',
     'odd': 'It says of kinds of items or arrays what numpy believes and does not write, so that memory may be overwritten; or loaders call '
            'what it imports; or pandas makes an object where a call fails.',
     'not-read': 'It was not read to its end (STOP), and a loader may go on.',
@@ -32,8 +33,11 @@ RULES = {
     'cannot-be-read': 'The file cannot be read.',
 }
 
-# Those about one thing that is done.
+# Those about one thing that is done; and those by which the gate does not let a file pass, if it says that of the pickle.
 OF_CALLS = ('not-allowed-done', 'odd')
+_OF_LISTS = ('not-allowed', 'not-allowed-done')
+# What the gate says of a file that does something which the list does not allow.
+_NOT_ALLOWED = 'not allowed'
 # Calls that show what was done with an object that a marked import led to.
 _OF_OBJECTS = ('call', 'new', 'inst')
 # What makes objects that stand for any number of items.
@@ -251,6 +255,12 @@ class Judge:
         if is_other or not verdict.passes and not found and all(self.mark_in(pickle, each) is None for each in pickle.imports):
             yield Call(_GATE, '', 0, pickle.end.offset or 0, verdict.line)
 
+    def _of_file(self, result: Result) -> List[FileVerdict]:
+        """What the gate said of a file as a whole by the lists, where it does not pass."""
+        lists = [names.digest for names in self.lists()]
+        found = [verdict for verdict in result.verdicts if verdict.list in lists and not verdict.passes]
+        return list({verdict.line: verdict for verdict in found}.values())
+
     # --- Marks ---
 
     def looks(self, result: Result) -> Iterator[Look]:
@@ -258,8 +268,12 @@ class Judge:
         if result.error is not None:
             yield Look((), 'cannot-be-read', f'cannot be read: {shown(result.error)}', severity=UNREAD)
         noted = {note.where for note in result.notes if note.odd and note.text.startswith(_OTHER_FORM)}
-        for pickle in result.pickles:
-            yield from (look for look in self.looks_in(pickle) if look.name or look.where not in noted or OTHER_FORM not in look.text)
+        of_pickles = [look for pickle in result.pickles for look in self.looks_in(pickle)
+                      if look.name or look.where not in noted or OTHER_FORM not in look.text]
+        yield from of_pickles
+        for verdict in self._of_file(result):
+            if not _is_marked(verdict, of_pickles) and not (() in noted and verdict.line.startswith(OTHER_FORM)):
+                yield Look((), 'not-passed', f'no list lets the file pass: {shown(verdict.line)}', severity=severity_of('not-passed'))
         for note in result.notes:
             if note.is_marked:
                 rule = 'not-looked-at' if note.missed else 'unusual-form'
@@ -281,6 +295,11 @@ class Judge:
             # (of what was not read for want of time, memory or the program nobody knows the form)
             severity = UNREAD if pickle.end.how == 'unknown' else severity_of('not-read')
             yield Look(pickle.where, 'not-read', f'end: {end_text(pickle.end)}', offset=pickle.end.offset, severity=severity)
+
+
+def _is_marked(verdict: FileVerdict, looks: List[Look]) -> bool:
+    """Whether what the gate does not allow in a file is marked in the pickle that does it."""
+    return verdict.kind == _NOT_ALLOWED and any(look.rule in _OF_LISTS and (not verdict.member or look.where[:1] == (verdict.member,)) for look in looks)
 
 
 def _with_ranges(pickle: Pickle, allowed: Names) -> Iterator[Call]:

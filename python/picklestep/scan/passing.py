@@ -1,4 +1,4 @@
-"""Whether pickles pass lists: what the program's gate says of each, proved. What is in another form than picklers write passes no list."""
+"""Whether pickles and files pass lists: what the program's gate says of each, proved. What is in another form than picklers write passes no list."""
 
 from __future__ import annotations
 
@@ -14,12 +14,15 @@ from .canonical.forms import NotCanonical, NotKnown
 from .entries import answer_of, text_of
 from .names import Names
 from .reading import Asked, is_plain_name, shown_name
-from .results import OTHER_FORM, Call, Pickle, Verdict
+from .results import OTHER_FORM, Call, FileVerdict, Pickle, Verdict
 
 if TYPE_CHECKING:
     from ..short_records import GateAnswer
 
-__all__ = ['verdicts']
+__all__ = ['MOST_GATED', 'verdicts', 'verdicts_of_file']
+
+# The gate is asked about a file as a whole up to this size, if it unpacks to no more: it reads all of it, where `scan` reads headers and pickles.
+MOST_GATED = 64 << 20
 
 # Of pickles in a row so many bytes are looked at first for the end of one.
 _GLANCE = 1 << 16
@@ -52,6 +55,20 @@ def verdicts(pickle: Pickle, opcodes: Blob, lists: Sequence[Names], more: Sequen
         if isinstance(other, NotKnown):
             raise
         return tuple(Verdict(names.digest, f'{OTHER_FORM}: {other}') for names in lists)
+    return tuple(given)
+
+
+def verdicts_of_file(pickles: Sequence[Pickle], blob: Blob, lists: Sequence[Names], more: Sequence[str], budget: Budget) -> Tuple[FileVerdict, ...]:
+    """What the gate says of a whole file by each list, in which these pickles were found. Raises LimitMet, and NotKnown where there is no answer."""
+    imported = sorted({found.name for pickle in pickles for found in pickle.imports})
+    given: List[FileVerdict] = []
+    answers: Dict[bytes, GateAnswer] = {}
+    for names in lists:
+        entries = text_of([*names.entries_for(imported), *more])
+        if entries not in answers:  # (several lists may say the same of these names)
+            answers[entries] = _ask(entries, blob, budget, budget.unpacked)
+        answer = answers[entries]
+        given.append(FileVerdict(names.digest, '' if answer.passes else answer.line, answer.kind, answer.member or ''))
     return tuple(given)
 
 
@@ -107,16 +124,17 @@ def _offset_in(part: Blob, offset: int) -> int:
     return part.starts[index] + offset - part.offsets[index]
 
 
-def _ask(entries: bytes, blob: Blob, budget: Budget) -> GateAnswer:
-    return answer_of(_said(entries, blob, budget), lambda: _said(entries, blob, budget, is_json=False))
+def _ask(entries: bytes, blob: Blob, budget: Budget, unpacked: int = 0) -> GateAnswer:
+    return answer_of(_said(entries, blob, budget, unpacked), lambda: _said(entries, blob, budget, unpacked, is_json=False))
 
 
-def _said(entries: bytes, blob: Blob, budget: Budget, *, is_json: bool = True) -> bytes:
-    content = content_of(blob)
+def _said(entries: bytes, blob: Blob, budget: Budget, unpacked: int, *, is_json: bool = True) -> bytes:
+    # (What a small file unpacks to may be large, and hostile: in this process there is no limit of time.)
+    content = content_of(blob) if unpacked <= library.MOST_BYTES else None
     said = None if content is None else library.gate(entries, content, budget.memory(), is_json)
     if said is None:
         with Input(entries) as listed:
-            said = answer_of_program(['gate', *['--json'] * is_json, listed.path], blob, budget, listed.files)
+            said = answer_of_program(['gate', *['--json'] * is_json, listed.path], blob, budget, listed.files, unpacked)
     return said
 
 

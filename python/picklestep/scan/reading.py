@@ -468,11 +468,11 @@ class Asked:
             opcodes = Listing(lines)
             return opcodes[item].offset if item < len(opcodes) else None
         from ..program import run_program
-        from ..replies import where_of
+        from ..listed import fields_of
         try:
-            answer = run_program(['debug', self._path(), '--many', '--window', '1'], script=b'goto %d\nwhere\n' % item,
+            answer = run_program(['debug', '--json', self._path(), '--many', '--window', '1'], script=b'goto %d\nwhere\n' % item,
                                  timeout=max(1, budget.seconds), memory=budget.memory())
-            return where_of(answer.decode('ascii').splitlines()[-1]).offset
+            return int(fields_of(answer.splitlines()[-1])['offset'])
         except PicklestepError:
             return None
 

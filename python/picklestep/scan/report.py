@@ -157,6 +157,7 @@ class Report:
             yield from (f'{_mark(look)} {path}: {look.lines[0]}' for look in looks if look.rule == 'cannot-be-read')
         for pickle in result.pickles:
             yield from self._pickle_lines(result, pickle)
+        yield from (f'{_mark(look)} {path}: {look.lines[0]}' for look in looks if look.rule == 'not-passed')
         for note in result.notes:
             look = notes.get((note.where, shown(note.text))) if note.is_marked else None
             yield f'{_mark(look)} {place_of(result.path, note.where)}: {shown(note.text) if look is None else look.lines[0]}'
@@ -198,6 +199,7 @@ class Report:
                             ('not-allowed', 'import not allowed', 'imports not allowed'), ('denied', 'import denied', 'imports denied'),
                             ('known', 'import to look at', 'imports to look at'),
                             ('not-allowed-done', 'thing done that is not allowed', 'things done that are not allowed'),
+                            ('not-passed', 'file that the gate does not let pass', 'files that the gate does not let pass'),
                             ('odd', 'thing that no library writes', 'things that no library writes'),
                             ('worked-out', 'import worked out while loading', 'imports worked out while loading'),
                             ('taken', 'mark that the policy takes', 'marks that the policy takes')):

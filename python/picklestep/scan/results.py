@@ -7,7 +7,7 @@ from typing import Any, Callable, Dict, Optional, Tuple, TypeVar, Union
 
 from ..records import End
 
-__all__ = ['ODD', 'OF_ARGUMENTS', 'OF_OFFSETS', 'OTHER_FORM', 'UNKNOWN', 'Call', 'Import', 'Note', 'Pickle', 'Result', 'Verdict', 'from_json', 'to_json']
+__all__ = ['ODD', 'OF_ARGUMENTS', 'OF_OFFSETS', 'OTHER_FORM', 'UNKNOWN', 'Call', 'Import', 'FileVerdict', 'Note', 'Pickle', 'Result', 'Verdict', 'from_json', 'to_json']
 
 # The word of a `Call` that numpy believes, and that no pickler writes.
 ODD = 'odd'
@@ -78,6 +78,22 @@ class Verdict:
 
 
 @dataclass(frozen=True)
+class FileVerdict:
+    """What the gate says of a whole file by a list, which has this digest. Where it passes, the line is empty. `kind` is as in `GateAnswer`, and `member`
+    the first member that does not pass, if it is that."""
+
+    list: str
+    line: str = ''
+    kind: str = 'passes'
+    member: str = ''
+
+    @property
+    def passes(self) -> bool:
+        """Whether it does."""
+        return not self.line
+
+
+@dataclass(frozen=True)
 class Pickle:
     """A member (or a whole file) that was read as one pickle or as several in a row.
 
@@ -120,7 +136,7 @@ class Result:
     of one server), and 0 where it is about a file. `plain` counts pickles that are values of a store, import and call nothing, and end with STOP:
     there may be millions, so they are not in `pickles`. `forms` says of what is no pickle how many have which ending, are numbers, or are texts in
     which a loader would import something. `kinds` are the kinds of containers that readers take the file for. `lists` are the digests of the lists
-    that the gate was asked by.
+    that the gate was asked by. `verdicts` are what it says of the file as a whole, where it takes that.
     """
 
     path: str
@@ -141,6 +157,7 @@ class Result:
     beside: str = ''
     kinds: Tuple[str, ...] = ()
     lists: Tuple[str, ...] = ()
+    verdicts: Tuple[FileVerdict, ...] = ()
 
     def _repr_html_(self) -> str:
         """The report about the file, for notebooks."""
@@ -154,8 +171,8 @@ def to_json(result: Result) -> Dict[str, Any]:
             'pickles': [_pickle_object(pickle) for pickle in result.pickles], 'not_pickles': result.others, 'forms': dict(result.forms),
             'notes': [dict(vars(note)) for note in result.notes], 'error': result.error, 'skipped': result.left,
             **({'device': result.device, 'inode': result.inode, 'sha256': result.digest} if result.digest else {}),
-            **{name: value for name, value in (('beside', result.beside), ('keys', result.keys), ('plain', result.plain), ('kinds', result.kinds), ('lists', result.lists))
-               if value}}
+            **{name: value for name, value in (('beside', result.beside), ('keys', result.keys), ('plain', result.plain), ('kinds', result.kinds), ('lists', result.lists),
+                                             ('verdicts', [dict(vars(verdict)) for verdict in result.verdicts])) if value}}
 
 
 def _object(each: Union[Import, Call]) -> Dict[str, Any]:
@@ -179,6 +196,7 @@ def from_json(made: Dict[str, Any]) -> Result:
         tuple(Note(tuple(note['where']), note['text'], note['missed'], note.get('odd', False)) for note in made['notes']), made['error'], made['skipped'],
         made['changed'], made.get('keys', 0), made.get('plain', 0), tuple(made['forms'].items()),
         made.get('device', 0), made.get('inode', 0), made.get('sha256', ''), made.get('beside', ''), tuple(made.get('kinds', ())), tuple(made.get('lists', ())),
+        tuple(FileVerdict(**each) for each in made.get('verdicts', ())),
     )
 
 

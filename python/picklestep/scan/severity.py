@@ -31,7 +31,7 @@ FAILING: Tuple[str, ...] = tuple(name for name in STEPS if name != UNREAD)
 
 # The severity of each rule, where no list says what a call of the name does.
 _OF_RULES: Dict[str, str] = {
-    'known': 'high', 'worked-out': 'critical', 'denied': 'high', 'not-allowed': 'medium', 'not-allowed-done': 'medium', 'odd': 'critical',
+    'known': 'high', 'worked-out': 'critical', 'denied': 'high', 'not-allowed': 'medium', 'not-allowed-done': 'medium', 'not-passed': 'medium', 'odd': 'critical',
     'not-read': 'medium', 'unusual-form': 'medium', 'not-looked-at': UNREAD, 'cannot-be-read': UNREAD}
 # What a call does, in the words of known.txt, that is about files, connections and imports alone. All else counts as running code.
 _MILD = pattern(

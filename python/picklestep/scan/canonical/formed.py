@@ -45,15 +45,15 @@ def require_form(blob: Blob, budget: Optional[Budget] = None, begin: int = 0) ->
         raise NotCanonical(other.reason, begin + offset)
 
 
-def answer_of_program(words: Sequence[str], blob: Blob, budget: Optional[Budget], files: Sequence[int] = ()) -> bytes:
+def answer_of_program(words: Sequence[str], blob: Blob, budget: Optional[Budget], files: Sequence[int] = (), unpacked: int = 0) -> bytes:
     """What the program says of some bytes with these words, within the time and the memory that are left. `files` are descriptors that it needs for the
-    words. Raises PartMet where there is too little, and NotKnown where there is no answer."""
+    words, and it unpacks so many bytes. Raises PartMet where there is too little, and NotKnown where there is no answer."""
     path = blob.path() if isinstance(blob, FileBlob) else None
     if path is not None:
-        return _run([*words, path], blob.size, budget, files)
+        return _run([*words, path], blob.size + unpacked, budget, files)
     copy = spooled(blob.chunks())
     with copy.file:
-        return _run([*words, copy.path()], copy.size, budget, files)
+        return _run([*words, copy.path()], copy.size + unpacked, budget, files)
 
 
 def _run(words: Sequence[str], size: int, budget: Optional[Budget], files: Sequence[int]) -> bytes:

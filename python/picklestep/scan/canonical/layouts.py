@@ -11,7 +11,7 @@ from typing import TYPE_CHECKING, List, Optional, Set, Tuple
 from ...hints import OLD_TORCH
 from ..blobs import Blob, Budget
 from .formed import BEHIND, SIGN_OF_ARRAYS, require_form
-from .forms import NotCanonical, require
+from .forms import NotCanonical
 
 if TYPE_CHECKING:
     from .pickles import Pickle
@@ -79,14 +79,6 @@ def alone(blob: Blob, budget: Optional[Budget] = None) -> Layout:
     """The one pickle that all of these bytes are, for a loader that knows no raw arrays (numpy, torch)."""
     require_form(blob, budget)
     return Layout(pickles=1)
-
-
-def of_one(pickle: Pickle, blob: Blob, budget: Optional[Budget] = None) -> Layout:
-    """The same where it is read already."""
-    require(pickle.end == blob.size, f'{blob.size - pickle.end:,} bytes stand behind the pickle', pickle.end)
-    layout = Layout()
-    layout.add(pickle)
-    return layout
 
 
 def of_torch_tar(name: str, blob: Blob, budget: Optional[Budget] = None) -> Layout:

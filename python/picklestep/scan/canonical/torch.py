@@ -9,12 +9,12 @@ from typing import Any, Dict, List, NamedTuple, Optional, Sequence, Tuple
 
 from ...hints import OLD_TORCH as MAGIC
 from ...patterns import pattern
-from ...reaches import plainly_in
+from ...reaches import Fields
 from ..blobs import Blob, Budget
 from .forms import Member, require, wrong
 from .pickles import Global, PDict, PList, Pickle, read_pickle
 
-__all__ = ['MAGIC', 'TAR_MEMBERS', 'Rows', 'Storages', 'legacy', 'storages_in', 'storages_of', 'tar_member', 'with_numbers']
+__all__ = ['MAGIC', 'TAR_MEMBERS', 'Found', 'Rows', 'Storages', 'legacy', 'tar_member', 'with_numbers']
 
 _MAGIC, _VERSION = 0x1950A86A20F9469CFC6C, 1001
 _SYSTEM = {'protocol_version', 'little_endian', 'type_sizes'}
@@ -27,6 +27,8 @@ _ITEMS = {
     'QUInt8Storage': 1, 'QInt32Storage': 4, 'QUInt4x2Storage': 1, 'QUInt2x4Storage': 1, 'UntypedStorage': 1, '_UntypedStorage': 1,
 }
 _MODULES = pattern(r'torch(\.cuda|\.storage)?')
+# Texts, also those that Python 2 wrote.
+_TEXTS = ('text', 'string')
 # How many bytes each storage has, and an item of it.
 Storages = Dict[str, Tuple[int, int]]
 
@@ -49,20 +51,20 @@ def _item(kind: Any) -> int:
     return _ITEMS[kind.name]
 
 
-def _storages(pickle: Pickle, parts: int) -> Storages:
-    """The storages that a pickle names by persistent ids: how many bytes each has, and an item of it.
+def _storages(pickle: Pickle) -> Storages:
+    """The storages that a pickle of the layout before 1.6 names by persistent ids: how many bytes each has, and an item of it.
 
-    Other ids than torch's are refused. The layout before 1.6 has a sixth part (a view), and ids of modules with their source.
+    Other ids than torch's are refused. This layout has a sixth part (a view), and ids of modules with their source.
     """
     found: Storages = {}
     for key in pickle.persistent:
         if not isinstance(key, tuple) or not key:
             wrong('a persistent id that is no tuple')
-        if _text(key[0]) == 'module' and parts == 6:
+        if _text(key[0]) == 'module':
             is_source = len(key) == 4 and isinstance(key[1], Global) and isinstance(_text(key[2]), str)
             require(is_source, 'a persistent id that torch does not write')
             continue
-        require(_text(key[0]) == 'storage' and len(key) == parts, 'a persistent id that torch does not write')
+        require(_text(key[0]) == 'storage' and len(key) == 6, 'a persistent id that torch does not write')
         name, numel = _text(key[2]), key[4]
         is_storage = isinstance(name, str) and isinstance(_text(key[3]), str) and type(numel) is int and 0 <= numel < 2 ** 48
         require(is_storage, 'a persistent id that torch does not write')
@@ -72,28 +74,32 @@ def _storages(pickle: Pickle, parts: int) -> Storages:
     return found
 
 
-def storages_of(pickle: Pickle) -> Storages:
-    """The storages that the pickle of a zip archive names."""
-    return _storages(pickle, 5)
+class Found:
+    """The storages that the pickle of a zip archive names, by the lines of the program about it. Another persistent id than torch's `is_odd`."""
 
+    def __init__(self) -> None:
+        self._sizes: Storages = {}
+        self._is_odd = False
 
-def storages_in(calls: bytes) -> Optional[Storages]:
-    """The same by what the program says of a pickle in its form, where all persistent ids in it are texts and numbers as torch writes them."""
-    found: Storages = {}
-    for fields in plainly_in(calls)[0]:
-        if fields['kind'] != 'persistent':
-            continue
+    def take(self, fields: Fields) -> None:
+        """Reads a line."""
+        if fields['kind'] != 'persistent' or self._is_odd:
+            return
         parts = fields.get('id')
-        if not isinstance(parts, list) or [part['kind'] for part in parts] != ['text', 'global', 'text', 'text', 'int'] or any('more' in part for part in parts):
-            return None
+        if not isinstance(parts, list) or [part['kind'] for part in parts[1:2] + parts[4:]] != ['global', 'int'] or any('more' in part for part in parts):
+            self._is_odd = True
+            return
         word, kind, key, place, count = parts
-        items, name = count.get('value', -1), kind.get('name')
-        if word.get('value') != 'storage' or not _MODULES.fullmatch(kind.get('module', '')) or name not in _ITEMS or not 0 <= items < 2 ** 48:
-            return None
-        size = (items * _ITEMS[name], _ITEMS[name])
-        if 'value' not in key or 'value' not in place or found.setdefault(key['value'], size) != size:
-            return None
-    return found
+        items, name, text = count.get('value', -1), kind.get('name'), key.get('value')
+        is_storage = all(part['kind'] in _TEXTS for part in (word, key, place)) and word.get('value') == 'storage' and 'value' in place
+        is_known = name in _ITEMS and _MODULES.fullmatch(kind.get('module', '')) is not None
+        size = (items * _ITEMS.get(name, 0), _ITEMS.get(name, 0))
+        self._is_odd = not (is_storage and is_known and text is not None and 0 <= items < 2 ** 48 and self._sizes.setdefault(text, size) == size)
+
+    def storages(self) -> Storages:
+        """All of them. Raises NotCanonical where there is another id."""
+        require(not self._is_odd, 'a persistent id that torch does not write, or two sizes for a storage')
+        return self._sizes
 
 
 def with_numbers(sizes: Storages, members: Sequence[Member], prefix: str) -> List[Member]:
@@ -130,7 +136,7 @@ def legacy(blob: Blob, budget: Optional[Budget] = None) -> Rows:
     require(magic == _MAGIC and version == _VERSION, "no magic number and version of torch's old layout")
     require(isinstance(system, PDict) and set(system.by_text()) == _SYSTEM, 'the third pickle does not describe a system')
     require(not any(pickles[index].imports for index in (0, 1, 2, 4)), 'an import in another pickle than the fourth')
-    sizes = _storages(pickles[3], 6)
+    sizes = _storages(pickles[3])
     if not isinstance(keys, PList) or not keys.is_whole:
         wrong('the fifth pickle is no list')
     names = [_text(name) for name in keys]
