@@ -1,9 +1,9 @@
-"""Makes the page that needs no server: one file with the program, the library, the page and its scripts in it.
+"""Makes the page: one file with the program, the library, the page and its scripts in it.
 
     python3 targets/page.py FOLDER          makes FOLDER/picklestep.html of the two modules there, and puts its sum into FOLDER/SHA256SUMS
     python3 targets/page.py --check FOLDER  only compares; status 1 where the page is not the one that would be made
 
-The page is that of `picklestep view` (python/picklestep/view), with a worker in the place of the server. No time and no path is in it. Other
+It is also the page that `picklestep view` serves (python/picklestep/view). No time and no path is in it. Other
 versions of zlib pack a module in another way: what is packed in the page that is there stays, where it is the same module.
 """
 
@@ -29,14 +29,11 @@ NAME = 'picklestep.html'
 MOST = 3_000_000
 # The modules, by the elements that hold them.
 MODULES = {'module': 'picklestep.wasm', 'library': 'libpicklestep.wasm'}
-# The scripts of the worker; those of the page are what page.html names, with these in the place of the server.
-WORKER = ('bytes.js', 'texts.js', 'words.js', *(f'alone/{name}.js' for name in (
-    'wasi', 'library', 'session', 'lines', 'reaches', 'literals', 'source_nodes', 'source_names', 'source_builder', 'source', 'document', 'containers',
+# The scripts of the worker; those of the page are what page.html names, with these behind them.
+WORKER = ('bytes.js', 'words.js', *(f'alone/{name}.js' for name in (
+    'wasi', 'library', 'session', 'lines', 'answers', 'reaches', 'literals', 'source_nodes', 'source_names', 'source_builder', 'source', 'document', 'containers',
     'worker')))
 ALONE = ('alone/examples.js', 'alone/opening.js')
-# What the page has only with a server: scripts, and what stands between these words.
-SERVED = ('sizes.js', 'server.js')
-WITH_SERVER = re.compile(r' *<!-- with a server: -->\n.*?<!-- \. -->\n', re.DOTALL)
 # What the page may do: its own script and style, the module, a worker and a download of its own; no request to anywhere.
 POLICY = ("default-src 'none'; script-src 'sha256-{script}' 'wasm-unsafe-eval'; style-src 'sha256-{style}'; worker-src blob:; img-src data:; "
           "base-uri 'none'; form-action 'none'")
@@ -73,9 +70,9 @@ def packed(name: str, module: bytes, before: str) -> str:
 def make(folder: Path, before: Path) -> bytes:
     """The page of the modules in a folder, where there may be a page `before`."""
     kept = before.read_text(encoding='utf-8', errors='replace') if before.exists() else ''
-    page = WITH_SERVER.sub('', read('page.html'))
-    scripts = [name for name in re.findall(r'<script src="([a-z]+\.js)" defer></script>\n', page) if name not in SERVED]
-    script, style = read(*scripts, *ALONE), read('style.css')
+    page = read('page.html')
+    scripts = re.findall(r'<script src="([a-z]+\.js)" defer></script>\n', page)
+    script, style = read(*scripts, *ALONE), read('style.css', 'sizes.css')
     icon = base64.b64encode((VIEW / 'icon.svg').read_bytes()).decode('ascii')
     policy = POLICY.format(script=digest(script), style=digest(style))
     page = re.sub(r'<script src="[a-z]+\.js" defer></script>\n', '', page)
@@ -85,7 +82,7 @@ def make(folder: Path, before: Path) -> bytes:
             *(packed(name, (folder / file).read_bytes(), kept) for name, file in MODULES.items())]
     for old, new in (('<meta charset="utf-8">', f'<meta charset="utf-8">\n<meta http-equiv="Content-Security-Policy" content="{policy}">'),
                      ('href="icon.svg"', f'href="data:image/svg+xml;base64,{icon}"'),
-                     ('<link rel="stylesheet" href="style.css">', element('style', style)),
+                     ('<link rel="stylesheet" href="style.css">\n<link rel="stylesheet" href="sizes.css">', element('style', style)),
                      ('<!-- opening -->\n', read('alone/opening.html')),
                      ('</body>', '\n'.join([*data, element('script', script), '</body>']))):
         if page.count(old) != 1:

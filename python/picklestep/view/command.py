@@ -13,17 +13,16 @@ import webbrowser
 from pathlib import Path
 from typing import Iterator, List, Optional
 
-from ..addresses import check_out, given, zip_behind
+from ..addresses import Opened, check_out, given, zip_behind
 from ..document import Document
-from ..errors import PicklestepError, reason
-from ..lines import silent
+from ..errors import PicklestepError, ProgramError, reason
 from ..opens import is_at_server
 from ..saving import is_same_file, naming, written_whole
+from ..sources import LIMIT, Input, rereadable
 from ..waiting import Waiting
 from ..wording import shown
 from .export import MOST, write_report
-from .server import IDLE, Viewer
-from .viewed import Viewed
+from .server import IDLE, Served, Viewer
 
 __all__ = ['main']
 
@@ -48,7 +47,7 @@ def _parser() -> argparse.ArgumentParser:
     parser.add_argument('file', metavar='FILE', help='the pickle, or its address')
     parser.add_argument('--many', action='store_true', help='FILE has several pickles that follow one another')
     parser.add_argument('--unframed', action='store_true', help='ignore the lengths of frames, so that a pickle that was cut off is read to the cut')
-    parser.add_argument('--whole', action='store_true', help='read all of a long pickle at once, and not the first opcodes alone')
+    parser.add_argument('--whole', action='store_true', help='read all of a long pickle before anything is shown')
     parser.add_argument('--export', metavar='OUT.html', type=Path, help='write a report into this page, and end')
     parser.add_argument('--force', action='store_true', help='let --export replace a file that is there')
     parser.add_argument('--no-browser', action='store_true', help='print the address, and open no browser')
@@ -66,8 +65,8 @@ def _export(document: Document, path: Path) -> int:
     return int(bool(document.missing))
 
 
-def _serve(document: Viewed, with_browser: bool, idle: float) -> int:
-    with contextlib.suppress(KeyboardInterrupt), Viewer(document, idle) as viewer:
+def _serve(served: Served, with_browser: bool, idle: float) -> int:
+    with contextlib.suppress(KeyboardInterrupt), Viewer(served, idle) as viewer:
         print(f'{viewer.address}\nCtrl-C ends it.', flush=True)
         if not with_browser:
             viewer.serve()
@@ -108,29 +107,44 @@ def _lesson(path: str) -> str:
         return ''
 
 
-def _opened(options: argparse.Namespace) -> Viewed:
-    """The document; for a report the whole pickle. Somebody at a terminal is told how far it is."""
-    pickle, found = given(options.file)
+def _name(options: argparse.Namespace, found: Optional[Opened]) -> str:
+    """What the pickle is called: the name of its file, and where it is in there."""
     path, rest = (options.file, '') if found is None else (found.path, found.address[len(found.path):])
+    return (path if is_at_server(path) else os.path.basename(path)) + rest
+
+
+def _served(options: argparse.Namespace) -> Served:
+    """The pickle that is shown. Raises PicklestepError or OSError where it cannot be read."""
+    pickle, found = given(options.file)
+    source = rereadable(pickle)
+    with Input(source) as opened:
+        if not os.path.isdir(opened.path) and opened.size() > LIMIT:
+            raise ProgramError('too large')
+        next(opened.blocks(0), b'')
+    return Served(source, _name(options, found), options.many, options.unframed, options.whole, _lesson(options.file) if found is None else '',
+                  '' if found is None else found.path)
+
+
+def _reported(options: argparse.Namespace) -> Document:
+    """The whole pickle, for a report. Somebody at a terminal is told how far it is."""
+    pickle, found = given(options.file)
     with Waiting() as waiting:
-        document = Viewed(pickle, (path if is_at_server(path) else os.path.basename(path)) + rest, options.many, waiting.progress,
-                          unframed=options.unframed, whole=options.whole or options.export is not None)
+        document = Document(pickle, _name(options, found), options.many, waiting.progress, unframed=options.unframed)
     document.container = '' if found is None else found.path
-    document.lesson = _lesson(path) if found is None else ''
     document.said = zip_behind(options.file) if found is None else list(found.said)
     return document
 
 
 def _do(options: argparse.Namespace) -> int:
-    if options.export is not None and options.export.is_file() and not options.force:
+    if options.export is None:
+        return _serve(_served(options), not options.no_browser, options.idle)
+    if options.export.is_file() and not options.force:
         raise PicklestepError(f'{shown(str(options.export))} is there; with --force it is written over')
-    if options.export is not None and is_same_file(options.file, str(options.export)):
+    if is_same_file(options.file, str(options.export)):
         raise PicklestepError('OUT.html is FILE, which stays as it is')
-    with contextlib.closing(_opened(options)) as document:
-        if options.export is not None:
-            check_out(str(options.export), document.container)
-            return _export(document, options.export)
-        return _serve(document, not options.no_browser, options.idle)
+    with contextlib.closing(_reported(options)) as document:
+        check_out(str(options.export), document.container)
+        return _export(document, options.export)
 
 
 def main(words: Optional[List[str]] = None) -> int:

@@ -63,37 +63,36 @@ function row() {
   return made;
 }
 
-// The line at a place, where it is known: offset, code, name, argument, marks, kind, whether it has a breakpoint and was edited, and what
-// it reaches.
-function lineAt(place) {
+// The row at a place, where it is known.
+function rowAt(place) {
   const chunk = view.chunks.get(Math.floor(place / CHUNK));
   return chunk && chunk[place % CHUNK];
 }
 
-const NO_LINE = ['', '', '..', '', 0, '', false, false, null];
+const NO_ROW = { offset: '', opcode: '..', marks: 0, kind: '' };
 
 function fill(made, place, top) {
   const state = view.state, isAt = place === state.place;
-  const [at, sign, word, text, marks, kind, broken, edited, reach] = lineAt(place) || (place === state.places ? ['', '', 'the end', ...NO_LINE.slice(3)] : NO_LINE);
+  const shown = rowAt(place) || (place === state.places ? { ...NO_ROW, opcode: 'the end' } : NO_ROW), { kind, isBroken, isEdited } = shown;
   made.style.top = top + 'px';
   made.dataset.place = place;
   made.hidden = place > state.places;
   const [, pointer, offset, code, name, argument] = made.children;
-  const value = shownArgument(text, formOf(word)), reached = reachOfRow(reach);
+  const value = shownOpcode(shown), reached = reachOfRow(shown.reach);
   pointer.textContent = isAt ? '▶' : '';
-  offset.textContent = at;
-  code.textContent = sign;
-  name.textContent = word;
-  name.style.paddingLeft = Math.min(160, 16 * marks) + 'px';
+  offset.textContent = shown.offset;
+  code.textContent = signOf(shown.opcode);
+  name.textContent = shown.opcode;
+  name.style.paddingLeft = Math.min(160, 16 * shown.marks) + 'px';
   argument.children[0].textContent = value;
   argument.children[1].textContent = reached && '→ ' + reached;
   argument.title = [value, reached && '→ ' + reached].filter(Boolean).join(' ');
-  made.className = ['row', kind, isAt && 'at', broken && 'broken', edited && 'edited', place === view.selected && 'selected'].filter(Boolean).join(' ');
+  made.className = ['row', kind, isAt && 'at', isBroken && 'broken', isEdited && 'edited', place === view.selected && 'selected'].filter(Boolean).join(' ');
   made.setAttribute('aria-selected', place === view.selected);
   made.setAttribute('aria-posinset', place + 1);
   made.setAttribute('aria-setsize', state.places);
-  made.setAttribute('aria-label', [isAt && 'cursor', broken && 'breakpoint', edited && 'edited', kind, at, word, value, reached, marks && `${marks} marks open`]
-    .filter((part) => part !== '' && part !== false && part !== 0).join(', '));
+  made.setAttribute('aria-label', [isAt && 'cursor', isBroken && 'breakpoint', isEdited && 'edited', kind, `${shown.offset}`, shown.opcode, value, reached,
+    shown.marks && `${shown.marks} marks open`].filter(Boolean).join(', '));
 }
 
 function fetchChunks(first, end) {
@@ -105,11 +104,11 @@ async function fetchChunk(chunk) {
   const key = chunk + ' ' + state.version + ' ' + state.breaks;
   if (view.chunks.has(chunk) || view.waiting.has(key) || view.waiting.size > 4 || chunk * CHUNK >= state.places) return;
   view.waiting.add(key);
-  const answer = await ask('lines', { start: chunk * CHUNK, count: CHUNK });
+  const answer = await ask('rows', { start: chunk * CHUNK, count: CHUNK });
   view.waiting.delete(key);
-  if (answer.lines && view.state && answer.version === view.state.version && state.breaks === view.state.breaks) {
+  if (answer.rows && view.state && answer.version === view.state.version && state.breaks === view.state.breaks) {
     if (view.chunks.size > 100) view.chunks.clear();
-    view.chunks.set(chunk, answer.lines);
+    view.chunks.set(chunk, answer.rows);
   }
   draw();
 }

@@ -20,13 +20,14 @@ __all__ = ['opcode_table', 'source_facts']
 
 def opcode_table() -> Dict[str, Dict[str, Any]]:
     """All opcodes by their names: the code as a listing shows it, the form of the argument as `pickletools` names it ('' for none), whether
-    it makes an object, what it does in a sentence, and what it takes from the stack and leaves there.
+    it makes an object, what it does in a sentence, and what it takes from the stack and leaves there. What would be empty besides is left out.
 
     >>> opcode_table()['TUPLE2']['takes'], opcode_table()['MEMOIZE']['code']
     ('item, item', '\\\\x94')
     """
-    return {opcode.name: {'code': shown_code(opcode.letter), 'form': opcode.argument, 'makes': opcode.makes, 'says': opcode.sentence,
-                          'takes': opcode.takes, 'leaves': opcode.leaves} for opcode in TABLE}
+    table = {opcode.name: {'code': shown_code(opcode.letter), 'form': opcode.argument, 'makes': opcode.makes, 'says': opcode.sentence, 'takes': opcode.takes,
+                           'leaves': opcode.leaves} for opcode in TABLE}
+    return {name: {what: told for what, told in fields.items() if told or what == 'form'} for name, fields in table.items()}
 
 
 def source_facts() -> Dict[str, Any]:

@@ -1,5 +1,5 @@
 'use strict';
-// The page asks its host (a server, or a worker of its own) for what is seen, and puts every text in as text.
+// The page asks its worker for what is seen, and puts every text in as text.
 
 const SLOW = 300; // milliseconds, after which the page says that it waits
 
@@ -10,13 +10,14 @@ const view = {
 };
 
 const formOf = (name) => (view.opcodes[name] ? view.opcodes[name].form : '');
+const signOf = (name) => (view.opcodes[name] ? view.opcodes[name].code : '');
 
 // --- Asking ---
 
 async function ask(word, asked) {
   view.asks += 1;
   const answer = await host.ask(word, asked).finally(() => { view.asks -= 1; });
-  if (answer.failed) say(answer.said, true);
+  if (answer.failed) say(answer.said, true, answer.code);
   return answer;
 }
 
@@ -26,9 +27,7 @@ function command(word, asked) {
   const done = view.busy.then(async () => {
     const slow = setTimeout(say, SLOW, 'working ..');
     const answer = await host.ask(word, asked).finally(() => clearTimeout(slow));
-    if (answer.said !== undefined) say(answer.said, answer.failed);
-    if (answer.opcodes) [view.opcodes, view.plain] = [answer.opcodes, answer.plain];
-    if (answer.lesson) view.story = lessonOf(answer.lesson);
+    if (answer.said !== undefined) say(answer.said, answer.failed, answer.code);
     if (answer.version !== undefined) await show(answer);
     return answer;
   }).finally(() => { view.pending -= 1; });
@@ -37,8 +36,8 @@ function command(word, asked) {
 }
 
 // What the program says, with what its code means.
-function say(text, failed) {
-  const meaning = view.plain[codeInSaid(text)];
+function say(text, failed, code) {
+  const meaning = view.plain[code];
   by('said').textContent = plain(text) + (meaning ? ` (${meaning})` : '');
   by('said').classList.toggle('failed', Boolean(failed));
 }
@@ -87,9 +86,8 @@ function showHeader(state) {
   by('reached').textContent = `imports ${state.imports[0]} of ${state.imports[1]}, calls ${state.calls[0]} of ${state.calls[1]}` +
     (state.unknown ? ` in this part: ${state.unknown}` : '');
   by('closing').textContent = state.closing.join('; ');
-  by('read-on').hidden = !keptOf(state.closing);
-  by('unframe-all').hidden = !['F6', 'F7', 'F8'].includes(codeOfWords(state.end)) || Boolean(state.part);
-  by('edit').disabled = by('save').disabled = Boolean(state.waits);
+  by('read-on').hidden = !state.kept;
+  by('unframe-all').hidden = !state.isEndOfFrame;
   for (const word of ['undo', 'redo']) {
     by(word).disabled = !state[word];
     by(word).title = state[word] ? `${word === 'undo' ? 'Take back' : 'Make again'}: ${state[word]} (${word[0]})` : `Nothing to ${word} (${word[0]})`;
@@ -103,7 +101,8 @@ const go = (place) => move('goto', Math.min(place, view.state.places));
 const toggle = (place) => { if (place < view.state.places) command('break', { place }); };
 
 async function find(text) {
-  const answer = await ask('find', { text, after: view.selected });
+  const quoted = quotedIn(text);
+  const answer = await ask('find', { text, value: quoted ?? quotedIn(`'${text}'`), isWhole: quoted !== null, numbers: numbersOf(text), after: view.selected });
   if (answer.place === undefined) return;
   if (answer.place === null) { say(`not found${view.state.part ? ' in what is read' : ''}: ${text}`, true); return; }
   select(answer.place);
@@ -128,12 +127,12 @@ async function openEdit(what) {
 // Begins with the opcode and the value that stand at the place. What was typed while these were asked for stays.
 async function fillEdit() {
   const fields = () => ['place', 'name', 'as', 'argument'].map((field) => by(`edit-${field}`).value).join('\n'), before = fields();
-  const place = Number(by('edit-place').value), line = place < view.state.places ? lineAt(place) : undefined;
+  const place = Number(by('edit-place').value), row = place < view.state.places ? rowAt(place) : undefined;
   by('edit-form').setAttribute('aria-busy', 'true');
-  const answer = line ? await ask('argument', { place }) : {};
+  const answer = row ? await ask('argument', { place }) : {};
   by('edit-form').setAttribute('aria-busy', 'false');
   if (fields() !== before) return;
-  by('edit-name').value = line ? line[2] : '';
+  by('edit-name').value = row ? row.opcode : '';
   const form = formOf(by('edit-name').value), typed = form && typeof answer.raw === 'string' ? typedOf(form, answer.raw) : '';
   by('edit-as').value = typed === null ? 'hex' : 'value';
   by('edit-argument').value = typed === null ? answer.raw : typed;
@@ -154,7 +153,7 @@ function shape() {
 // Offers only what may be done at the place, and answers what may not: a STOP stays, and a FRAME is taken off, or others come before it. Where the
 // lengths of frames are ignored, there are none to be put or taken off.
 function offer() {
-  const line = lineAt(Number(by('edit-place').value)), word = line ? line[2] : '';
+  const row = rowAt(Number(by('edit-place').value)), word = row ? row.opcode : '';
   const frames = view.state.unframed ? ['frame', 'unframe'] : word === 'FRAME' ? [] : ['unframe'];
   const never = [...frames, ...({ STOP: ['replace', 'delete'], FRAME: ['replace', 'delete'] }[word] || [])];
   for (const option of by('edit-what').options) option.disabled = never.includes(option.value);

@@ -1,51 +1,95 @@
-"""The server of the page: on 127.0.0.1 alone, at a free port, for those who know the token in its address."""
+"""The server of the page: on 127.0.0.1 alone, at a free port, for those who know the token in its address.
+
+It gives the page and the bytes of one pickle, saves what the page has made of them, and draws where the bytes go. All else the page does itself.
+"""
 
 from __future__ import annotations
 
 import hmac
 import json
-import re
+import os
 import secrets
 import sys
 import threading
 import time
+from dataclasses import dataclass
 from http import HTTPStatus
 from http.server import BaseHTTPRequestHandler, ThreadingHTTPServer
 from pathlib import Path
-from typing import Any, Callable, ContextManager, Dict, Optional
+from typing import Any, Callable, ContextManager, Dict, Iterator, Optional, Tuple
+from urllib.parse import parse_qs, urlsplit
 
-from ..document import Fields
-from ..errors import ProgramError, Refused
+from ..addresses import is_in
+from ..errors import PicklestepError, ProgramError
 from ..patterns import pattern
-from ..plain import PLAIN
-from .opcodes import opcode_table
-from .viewed import Viewed
+from ..saving import written_whole
+from ..sources import LIMIT, Input, Source
+from ..wording import shown
 
-__all__ = ['IDLE', 'Viewer']
+__all__ = ['IDLE', 'Served', 'Viewer']
 
 # After this many seconds without a word from a page the server ends. (A page in the background speaks once a minute.)
 IDLE = 150.0
 # After a page was closed it waits for others, which may speak but once a minute.
 _CLOSED = 75.0
-_HERE = Path(__file__).parent
-SCRIPTS = tuple(re.findall(r'<script src="([a-z]+\.js)"', (_HERE / 'page.html').read_text(encoding='utf-8')))
-_FILES = {'': ('page.html', 'text/html'), 'icon.svg': ('icon.svg', 'image/svg+xml'), **{name: (name, 'text/css') for name in ('style.css', 'sizes.css')},
-          **{name: (name, 'text/javascript') for name in SCRIPTS}}
-_POLICY = ("default-src 'none'; script-src 'self'; style-src 'self'; img-src 'self'; connect-src 'self'; base-uri 'none'; "
-           "form-action 'none'; frame-ancestors 'none'")
-_HEADERS = {'Content-Security-Policy': _POLICY, 'X-Content-Type-Options': 'nosniff', 'Referrer-Policy': 'same-origin',
-            'Cache-Control': 'no-store', 'Cross-Origin-Resource-Policy': 'same-origin', 'Cross-Origin-Opener-Policy': 'same-origin'}
-_LENGTH = pattern('[0-9]{1,9}')
-_MOST_WORDS = 1 << 20
+_PACKAGE = Path(__file__).parent.parent
+_NAME = 'picklestep.html'
+# The page has a policy of its own, which forbids all requests; from here it may ask this server.
+_OWN_POLICY = pattern('<meta http-equiv="Content-Security-Policy" content="([^"]*)">')
+_POLICY = "default-src 'none'; base-uri 'none'; form-action 'none'; frame-ancestors 'none'"
+_HEADERS = {'X-Content-Type-Options': 'nosniff', 'Referrer-Policy': 'same-origin', 'Cache-Control': 'no-store', 'Cross-Origin-Resource-Policy': 'same-origin',
+            'Cross-Origin-Opener-Policy': 'same-origin'}
+_NOT_SERVED = '<script id="served" type="application/json">null</script>'
+_LENGTH = pattern('[0-9]{1,10}')
+_BLOCK = 1 << 20
+
+
+@dataclass(frozen=True)
+class Served:
+    """A pickle that a page shows: its bytes, which can be read again, and how they are read. `container` is the file that it was opened in, if it
+    was: that is not written over."""
+
+    source: Source
+    name: str
+    many: bool = False
+    unframed: bool = False
+    whole: bool = False
+    lesson: str = ''
+    container: str = ''
+
+    def said(self) -> str:
+        """What the page is told, as a text that can stand in a page."""
+        fields = {name: getattr(self, name) for name in ('name', 'many', 'unframed', 'whole', 'lesson')}
+        return json.dumps(fields).replace('<', '\\u003c')
+
+
+def page() -> str:
+    """The page: the package's own copy, or that of the source tree. Raises ProgramError where there is none."""
+    for path in (_PACKAGE / 'bin' / _NAME, _PACKAGE.parent.parent / 'dist' / _NAME):
+        if path.is_file():
+            return path.read_text(encoding='utf-8')
+    raise ProgramError(f'there is no {_NAME}: make it by ./release --page in a clone')
+
+
+def page_of(served: Served) -> Tuple[str, bytes]:
+    """The page of a pickle, and its policy."""
+    text = page()
+    found = _OWN_POLICY.search(text)
+    if found is None or _NOT_SERVED not in text:
+        raise ProgramError(f'{_NAME} is of another version: make it by ./release --page in a clone')
+    policy = f"{found[1]}; connect-src 'self'"
+    text = text.replace(found[1], policy, 1).replace(_NOT_SERVED, _NOT_SERVED.replace('null', served.said()), 1)
+    return f"{policy}; frame-ancestors 'none'", text.encode('utf-8')
 
 
 class Viewer(ContextManager['Viewer']):
-    """Serves the page of a document until it is closed, or until no page was open for a while."""
+    """Serves the page of a pickle until it is closed, or until no page was open for a while."""
 
-    def __init__(self, document: Viewed, idle: float = IDLE) -> None:
-        self.document = document
+    def __init__(self, served: Served, idle: float = IDLE) -> None:
+        self.served = served
+        self.policy, self.page = page_of(served)
         self.token = secrets.token_urlsafe(24)
-        self._lock = threading.Lock()
+        self.lock = threading.Lock()
         self._idle = idle
         self._until = time.monotonic() + idle
         self._is_stopped = False
@@ -71,29 +115,6 @@ class Viewer(ContextManager['Viewer']):
     def heard(self, seconds: Optional[float] = None) -> None:
         """Reports that a page is open, or that it was closed."""
         self._until = time.monotonic() + (self._idle if seconds is None else min(seconds, self._idle))
-
-    def answer(self, word: str, asked: Fields) -> Fields:
-        """Answers a question of the page. Refusals and what cannot be done are answered in words."""
-        if word == 'closed':
-            self.heard(_CLOSED)
-            return {}
-        self.heard()
-        if word == 'alive':
-            return {}
-        if word == 'known':  # (it may take long: others are answered meanwhile)
-            self.document.wait()
-            return {}
-        with self._lock:
-            try:
-                return _ANSWERS[word](self.document, asked)
-            except Refused as error:
-                return {'said': f'refused: {error.text}', 'failed': True}
-            except FileExistsError:
-                return {'said': 'not saved: there is such a file', 'failed': True}
-            except (ProgramError, OSError, ValueError, TypeError, OverflowError, RecursionError) as error:
-                return {'said': f'not done: {error}', 'failed': True}
-            except MemoryError:
-                return {'said': 'not done: out of memory', 'failed': True}
 
 
 class _Server(ThreadingHTTPServer):
@@ -121,57 +142,67 @@ class _Handler(BaseHTTPRequestHandler):
     disable_nagle_algorithm = True
 
     def do_GET(self) -> None:
-        """Gives a file of the page."""
+        """Gives the page, or the bytes of the pickle."""
         word = self._word()
         if word is None or self.headers.get('Origin', self._origin()) != self._origin():
             self._refuse(403, b'refused\n')
-        elif word not in _FILES:
-            self._refuse(404, b'no such page\n')
+        elif word == '':
+            self.viewer.heard()
+            self._send(200, 'text/html; charset=utf-8', self.viewer.page)
+        elif word == 'pickle':
+            self.viewer.heard()
+            self._send_pickle()
         else:
-            name, kind = _FILES[word]
-            self._viewer().heard()
-            self._send(200, f'{kind}; charset=utf-8', (_HERE / name).read_bytes())
+            self._refuse(404, b'no such page\n')
 
     do_HEAD = do_GET
 
     def do_POST(self) -> None:
-        """Answers a question of the page."""
+        """Does what the page asks for with the bytes that it sends."""
         word = self._word()
         length = self.headers.get('Content-Length', '')
         if word is None or self.headers.get('Origin') != self._origin():
             self._refuse(403, b'refused\n')
-        elif word not in _ANSWERS and word not in ('alive', 'closed', 'known'):
+        elif word not in _ANSWERS:
             self._refuse(404, b'no such question\n')
-        elif not _LENGTH.fullmatch(length) or int(length) > _MOST_WORDS:
+        elif not _LENGTH.fullmatch(length) or int(length) > LIMIT:
             self._refuse(413, b'too long\n')
         else:
-            self._answer(word, self.rfile.read(int(length)))
+            self._answer(_ANSWERS[word], _Body(self.rfile, int(length)))
 
-    def _answer(self, word: str, body: bytes) -> None:
+    def _answer(self, act: 'Callable[[Viewer, Dict[str, str], _Body], Dict[str, Any]]', body: '_Body') -> None:
+        """Refusals and what cannot be done are answered in words."""
+        asked = {name: values[-1] for name, values in parse_qs(urlsplit(self.path).query).items()}
         try:
-            asked = json.loads(body or b'{}')
-        except (ValueError, RecursionError):
-            asked = None
-        if not isinstance(asked, dict):
-            self._refuse(400, b'no such question\n')
-            return
-        answer = self._viewer().answer(word, asked)
+            answer = act(self.viewer, asked, body)
+        except FileExistsError:
+            answer = {'said': 'not saved: there is such a file', 'failed': True}
+        except ConnectionError:
+            raise
+        except (PicklestepError, OSError, ValueError, OverflowError, RecursionError) as error:
+            answer = {'said': f'not done: {error}', 'failed': True}
+        except MemoryError:
+            answer = {'said': 'not done: out of memory', 'failed': True}
+        for _ in body.blocks():  # (a browser takes no answer before it has sent all)
+            pass
         self._send(200, 'application/json', json.dumps(answer, separators=(',', ':')).encode('ascii'))
 
-    def _viewer(self) -> Viewer:
+    @property
+    def viewer(self) -> Viewer:
         assert isinstance(self.server, _Server)
         return self.server.viewer
 
     def _origin(self) -> str:
-        return f'http://{self._viewer().host}'
+        return f'http://{self.viewer.host}'
 
     def _word(self) -> Optional[str]:
         """What is asked for, where the host and the token are ours."""
-        _, token, *rest = [*self.path.split('/', 2), '']
+        path = self.path.partition('?')[0]
+        _, token, *rest = [*path.split('/', 2), '']
         host = self.headers.get('Host', '')
-        if host != self._viewer().host or not hmac.compare_digest(token.encode(), self._viewer().token.encode()):
+        if host != self.viewer.host or not hmac.compare_digest(token.encode(), self.viewer.token.encode()):
             return None
-        return rest[0] if '/' in self.path[1:] else 'none'
+        return rest[0] if '/' in path[1:] else 'none'
 
     def send_error(self, code: int, message: Optional[str] = None, explain: Optional[str] = None) -> None:
         """Refuses what is no request of the page, such as a method that there is not, in the server's own words."""
@@ -186,90 +217,96 @@ class _Handler(BaseHTTPRequestHandler):
         self._send(status, 'text/plain; charset=utf-8', text)
 
     def _send(self, status: int, kind: str, body: bytes) -> None:
+        self._send_head(status, kind, len(body))
+        if self.command != 'HEAD':
+            self.wfile.write(body)
+
+    def _send_head(self, status: int, kind: str, size: int) -> None:
         self.request_version = self.protocol_version  # (to a request without a version no headers would be sent)
         self.send_response(status)
-        for name, value in {**_HEADERS, 'Content-Type': kind, 'Content-Length': str(len(body))}.items():
+        policy = self.viewer.policy if kind.startswith('text/html') else _POLICY
+        for name, value in {'Content-Security-Policy': policy, **_HEADERS, 'Content-Type': kind, 'Content-Length': str(size)}.items():
             self.send_header(name, value)
         if self.close_connection:
             self.send_header('Connection', 'close')
         self.end_headers()
-        if self.command != 'HEAD':
-            self.wfile.write(body)
+
+    def _send_pickle(self) -> None:
+        """Gives the bytes of the pickle. Where they became fewer meanwhile, the connection ends, which the browser takes for an error."""
+        try:
+            opened = Input(self.viewer.served.source)
+        except OSError:
+            self._refuse(404, b'the pickle cannot be read\n')
+            return
+        with opened as given:
+            left = given.size()
+            self._send_head(200, 'application/octet-stream', left)
+            if self.command == 'HEAD':
+                return
+            for block in given.blocks(0):
+                self.wfile.write(block[:left])
+                left -= min(left, len(block))
+        self.close_connection = self.close_connection or left > 0
 
     def log_message(self, format: str, *words: Any) -> None:
         """Says nothing on standard error."""
 
 
-# --- The questions ---
+class _Body:
+    """The bytes that come with a request."""
 
-def _number(asked: Fields, name: str) -> int:
-    value = asked.get(name, 0)
-    if not isinstance(value, int) or isinstance(value, bool) or not 0 <= value < 1 << 62:
-        raise ValueError(f'{name} is no number from 0 on')
-    return value
+    def __init__(self, file: Any, size: int) -> None:
+        self._file, self._left = file, size
 
-
-def _text(asked: Fields, name: str) -> str:
-    return str(asked.get(name, ''))
-
-
-def _after(said: str, document: Viewed) -> Fields:
-    return {'said': said, **document.state()}
-
-
-def _open(document: Viewed, asked: Fields) -> Fields:
-    return {'said': 'open', 'opcodes': opcode_table(), 'plain': PLAIN, 'lesson': document.lesson, **document.state()}
+    def blocks(self) -> Iterator[bytes]:
+        """Those that are not read yet, some at a time. Raises ConnectionError where the browser goes away."""
+        while self._left:
+            block = self._file.read(min(self._left, _BLOCK))
+            if not block:
+                raise ConnectionResetError
+            self._left -= len(block)
+            yield block
 
 
-def _rest(document: Viewed, asked: Fields) -> Fields:
-    document.read_whole()
-    return _after(f'all {len(document.lines):,} opcodes are read', document)
+# --- What the page asks for ---
+
+def _alive(viewer: Viewer, asked: Dict[str, str], body: _Body) -> Dict[str, Any]:
+    viewer.heard()
+    return {}
 
 
-def _lines(document: Viewed, asked: Fields) -> Fields:
-    return {'version': document.version, 'lines': document.slice(_number(asked, 'start'), _number(asked, 'count'))}
+def _closed(viewer: Viewer, asked: Dict[str, str], body: _Body) -> Dict[str, Any]:
+    viewer.heard(_CLOSED)
+    return {}
 
 
-def _objects(document: Viewed, asked: Fields) -> Fields:
-    return {'objects': document.objects(_number(asked, 'start'), _number(asked, 'count'))}
+def _save(viewer: Viewer, asked: Dict[str, str], body: _Body) -> Dict[str, Any]:
+    """Writes what the page sends. A file that is there is written over only where that is asked for."""
+    name, container = asked.get('name', ''), viewer.served.container
+    if not name.strip():
+        raise ValueError('a name is wanted')
+    path = Path(os.path.abspath(os.path.expanduser(name)))
+    if is_in(str(path), container) or is_in(name, container):
+        raise ValueError(f'cannot write {shown(name)}: nothing is written into a container')
+    is_new = asked.get('over') != 'true'
+    with viewer.lock:
+        if is_new:
+            os.close(os.open(path, os.O_WRONLY | os.O_CREAT | os.O_EXCL, 0o666))
+        try:
+            with written_whole(path) as file:
+                file.writelines(body.blocks())
+        except BaseException:
+            if is_new:
+                path.unlink()
+            raise
+    return {'said': f'saved {path}'}
 
 
-def _briefs(document: Viewed, asked: Fields) -> Fields:
-    numbers = asked.get('numbers')
-    wanted = [number for number in numbers if isinstance(number, int)] if isinstance(numbers, list) else []
-    return {'briefs': document.briefs(wanted)}
+def _sizes(viewer: Viewer, asked: Dict[str, str], body: _Body) -> Dict[str, Any]:
+    from .sizes import sizes_shown  # (most pages never ask for it)
+    with viewer.lock:
+        return sizes_shown(b''.join(body.blocks()), asked.get('many') == 'true', asked.get('unframed') == 'true',
+                           int(asked.get('width', '0')), int(asked.get('height', '0')))
 
 
-def _move(document: Viewed, asked: Fields) -> Fields:
-    return _after(document.move(_text(asked, 'what'), _number(asked, 'place')), document)
-
-
-def _find(document: Viewed, asked: Fields) -> Fields:
-    return {'place': document.find(_text(asked, 'text'), _number(asked, 'after'))}
-
-
-def _sizes(document: Viewed, asked: Fields) -> Fields:
-    from .sizes import sizes_shown  # (most pages are never asked for it)
-    return sizes_shown(document, _number(asked, 'width'), _number(asked, 'height'))
-
-
-def _edit(document: Viewed, asked: Fields) -> Fields:
-    said = document.edit(_text(asked, 'what'), _number(asked, 'place'), _text(asked, 'name'), _text(asked, 'raw'), _number(asked, 'count'))
-    return _after(said, document)
-
-
-_ANSWERS: Dict[str, Callable[[Viewed, Fields], Fields]] = {
-    'open': _open, 'lines': _lines, 'objects': _objects, 'briefs': _briefs, 'move': _move, 'find': _find, 'edit': _edit,
-    'sizes': _sizes, 'rest': _rest,
-    'state': lambda document, asked: document.state(),
-    'holds': lambda document, asked: document.holds(_number(asked, 'number')),
-    'effect': lambda document, asked: document.effect(),
-    'about': lambda document, asked: document.about(_number(asked, 'number')),
-    'reached': lambda document, asked: {'reached': document.reached(_number(asked, 'start'), _number(asked, 'count'))},
-    'source': lambda document, asked: document.source(),
-    'argument': lambda document, asked: document.argument(_number(asked, 'place')),
-    'again': lambda document, asked: _after(document.read_on(is_unframed=asked.get('unframed') is True), document),
-    'break': lambda document, asked: _after(document.toggle_break(_number(asked, 'place')), document),
-    'undo': lambda document, asked: _after(document.undo(), document),
-    'redo': lambda document, asked: _after(document.redo(), document),
-    'save': lambda document, asked: {'said': document.save(_text(asked, 'name'), asked.get('over') is True)}}
+_ANSWERS: Dict[str, Callable[[Viewer, Dict[str, str], _Body], Dict[str, Any]]] = {'alive': _alive, 'closed': _closed, 'save': _save, 'sizes': _sizes}

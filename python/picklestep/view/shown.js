@@ -3,42 +3,33 @@
 
 // --- Arguments ---
 
-// A quoted text of the program as Python writes it. `kind` is 'text' or 'bytes'. Where a part was cut off, that is said behind it.
-function pythonOfQuoted(quotedText, kind) {
-  const cut = cutOf(quotedText);
-  if (cut) return `${pythonOfCut(cut.left, kind)} .. ${cut.more} bytes more`;
-  const bytes = unquoted(quotedText);
-  const text = kind === 'bytes' ? null : utf8(bytes);
-  return text === null ? pythonBytes(bytes) : pythonText(text);
+// A whole number from its bytes; these as they stand where they are many, or not all.
+const pythonWhole = (hex, isCut) => (hex.length > 128 || isCut ? `le:${hex}` : String(wholeOfHex(hex)));
+
+const behindCut = (more) => (more ? ` .. ${more} bytes more` : '');
+
+// The argument among the fields of an opcode or an object.
+function shownArgument(fields, form) {
+  const { argument, argument_digits: digits, argument_f8_hex: float, argument_le_hex: hex, argument_le_hex_more: more } = fields;
+  if (typeof argument === 'number') return String(argument);
+  if (digits !== undefined) return digits;
+  if (float !== undefined) return pythonFloat(floatOfHex(float));
+  if (hex !== undefined) return pythonWhole(hex, more) + behindCut(more / 2);
+  if (textIn(fields, 'module')) return `${pythonIn(fields, 'module')} ${pythonIn(fields, 'name')}`;
+  if (!textIn(fields, 'argument')) return '';
+  return form === 'stringnl' ? lineAsItStands(fields) : pythonIn(fields, 'argument', form.startsWith('bytes') || form === 'bytearray8');
 }
 
-// The beginning of a text, which may end within a sign.
-function pythonOfCut(beginning, kind) {
-  let bytes = unquoted(beginning);
-  if (kind === 'bytes') return pythonBytes(bytes);
-  for (let less = 0; less < 4; less += 1, bytes = bytes.subarray(0, -1)) {
-    const text = utf8(bytes);
-    if (text !== null) return pythonText(text);
-  }
-  return pythonBytes(unquoted(beginning));
+// A line of STRING has quotes of its own.
+function lineAsItStands(fields) {
+  const { text, bytes, more } = textIn(fields, 'argument');
+  return (text === null ? plain(binary(bytes)) : plain(text)) + behindCut(more);
 }
 
-// A number that is shown by its bytes; as it stands where it is long, or not whole.
-function pythonNumber(text, isCut = false) {
-  const { isFloat, hex } = numberBytes(text);
-  if (isFloat) return pythonFloat(floatOfHex(hex));
-  return hex.length > 128 || isCut ? text : String(wholeOfHex(hex));
-}
-
-// The argument of an opcode, as a row shows it.
-function shownArgument(argument, form) {
-  if (!argument) return '';
-  const kind = form.startsWith('bytes') || form === 'bytearray8' ? 'bytes' : 'text';
-  return withArguments(argument, (quotedText, bytes) => {
-    if (bytes !== undefined) return pythonNumber(bytes);
-    // (a line of STRING is shown as it stands, with its own quotes)
-    return form === 'stringnl' ? plain(withoutQuotes(quotedText)) : pythonOfQuoted(quotedText, kind);
-  });
+// The opcode of a row: its argument, and the mark that it takes, or the key of the memo under which it stores.
+function shownOpcode(row) {
+  const note = 'mark' in row ? `(MARK at ${row.mark})` : 'memo' in row ? `(as ${row.memo})` : '';
+  return [shownArgument(row, formOf(row.opcode)), note].filter(Boolean).join(' ');
 }
 
 function floatOfHex(hex) {
@@ -53,7 +44,7 @@ const DOTTED = /^[\p{L}\p{Nl}_][\p{L}\p{Nl}\p{M}\p{Nd}\p{Pc}]*(\.[\p{L}\p{Nl}_][
 function pythonIn(fields, name, isBytes = false) {
   const { text, bytes, more } = textIn(fields, name);
   const shown = text !== null && !isBytes ? pythonText(text) : pythonBytes(bytes || new TextEncoder().encode(text));
-  return more ? `${shown} .. ${more} bytes more` : shown;
+  return shown + behindCut(more);
 }
 
 // A part of a name. What is no name is shown with quotes, and what is no text is an object.
@@ -73,7 +64,7 @@ function calledIn(fields) {
 
 const VALUES = {
   none: () => 'None', true: () => 'True', false: () => 'False', object: ({ object }) => `#${object}`, extension: ({ number }) => `ext ${number}`,
-  int: ({ value, digits, le_hex: hex, more }) => (hex === undefined ? String(value ?? digits) : pythonNumber(`le:${hex}`, more)),
+  int: ({ value, digits, le_hex: hex, more }) => (hex === undefined ? String(value ?? digits) : pythonWhole(hex, more)),
   float: ({ f8_hex: hex }) => pythonFloat(floatOfHex(hex)), global: (value) => ('object' in value ? `global #${value.object}` : pythonName(value)),
   bytes: (value) => pythonIn(value, 'value', true), bytearray: (value) => pythonIn(value, 'value', true), text: (value) => pythonIn(value, 'value'),
   string: (value) => pythonIn(value, 'value'),
@@ -111,15 +102,15 @@ function reachOfRow(fields) {
 
 // --- Objects ---
 
-// An object in a line: its kind and value, or what it imports or calls, and what was done to it since.
-function shownObject(text, reach) {
-  if (!text) return '';
-  const known = reach ? shownReach(reach) : '';
-  return known ? known + changesIn(text) : pythonOfObject(text);
-}
+const SIGNS = { append: (other) => ` +#${other}`, add: (other) => ` &#${other}`, state: (other) => ` !#${other}`, key: (other) => ` [#${other}]`,
+  value: (other) => `=#${other}` };
+const FORMS = { bytes: 'bytes1', bytearray: 'bytearray8', 'string-line': 'stringnl' };
 
-function pythonOfObject(text) {
-  const { kind, rest } = kindOf(text);
-  const form = kind === 'bytes' || kind === 'bytearray' ? 'bytes' : kind === 'string-line' ? 'stringnl' : 'text';
-  return kind + shownArgument(rest, form);
+// An object in a line: its kind and value, or what it imports or calls, and what was done to it since.
+function shownObject(thing) {
+  if (!thing) return '';
+  const { is, number, held, more, reach } = thing, known = reach ? shownReach(reach) : '';
+  const parts = held.filter(([how]) => !how).map(([, other]) => `#${other}`).join(' '), value = shownArgument(thing, FORMS[is] || '');
+  const made = known || [is, number, value, parts && `(${parts})`].filter((each) => each !== undefined && each !== '').join(' ');
+  return made + held.map(([how, other]) => (how ? SIGNS[how](other) : '')).join('') + (more ? ` .. ${more} more` : '');
 }

@@ -1,11 +1,14 @@
 'use strict';
-// Where the bytes of the pickle go: the drawing that the server makes, in which each object is a rectangle.
+// Where the bytes of the pickle go: the drawing that a server makes, in which each object is a rectangle.
+
+const MOST_MEASURED = 1000000; // opcodes
 
 async function openSizes() {
   by('sizes').replaceChildren();
   by('sizes-said').textContent = 'measuring ..';
   by('sizes-dialog').showModal();
-  const { drawing, heading, isLong, said } = await ask('sizes', { width: by('sizes').clientWidth, height: by('sizes').clientHeight });
+  const isLong = view.state.part || view.state.places > MOST_MEASURED;
+  const { drawing, heading, said } = isLong ? {} : await host.sizes(by('sizes').clientWidth, by('sizes').clientHeight);
   by('sizes-said').textContent = isLong ? 'Too long for this page: picklestep size FILE --svg OUT draws it.' : plain((heading || [said]).join('; '));
   if (!drawing) return;
   by('sizes').replaceChildren(treeOf(new DOMParser().parseFromString(drawing, 'image/svg+xml').documentElement));
@@ -58,10 +61,13 @@ function goToMaker(item) {
   by('listing').focus();
 }
 
-KEYS.z = openSizes;
-by('measure').addEventListener('click', () => { if (view.state) openSizes(); });
-by('sizes').addEventListener('keydown', pressedInSizes);
-by('sizes').addEventListener('click', (event) => {
-  const item = event.target.closest('[role=treeitem]');
-  if (item) goToMaker(item);
-});
+function wireSizes() {
+  KEYS.z = openSizes;
+  by('measure').hidden = false;
+  by('measure').addEventListener('click', () => { if (view.state) openSizes(); });
+  by('sizes').addEventListener('keydown', pressedInSizes);
+  by('sizes').addEventListener('click', (event) => {
+    const item = event.target.closest('[role=treeitem]');
+    if (item) goToMaker(item);
+  });
+}

@@ -7,8 +7,8 @@ const isSlow = () => by('slow').checked;
 
 // The rows of the stack with what they show, the top first.
 function stackRows() {
-  const words = view.state.stack.words.slice().reverse();
-  return words.map((word, at) => ({ word, shown: by('stack').children[at], box: by('stack').children[at].getBoundingClientRect() }));
+  const entries = view.state.stack.entries.slice().reverse();
+  return entries.map((entry, at) => ({ entry, shown: by('stack').children[at], box: by('stack').children[at].getBoundingClientRect() }));
 }
 
 // Steps, and shows which rows of the stack came and went. The next key waits until that is seen.
@@ -19,7 +19,7 @@ async function slowStep(what) {
   if (!view.state) return; // (another pickle is being opened)
   const after = stackRows();
   let kept = 0; // (how many rows from the bottom are the same)
-  while (kept < Math.min(before.length, after.length) && before.at(-1 - kept).word === after.at(-1 - kept).word) kept += 1;
+  while (kept < Math.min(before.length, after.length) && before.at(-1 - kept).entry === after.at(-1 - kept).entry) kept += 1;
   const gone = before.slice(0, before.length - kept), come = after.slice(0, after.length - kept);
   view.pending += 1;
   await Promise.all([...gone.map((row) => leave(row, after[0])), ...come.map(arrive)]);

@@ -5,22 +5,21 @@ const PAGE = 200;
 const MOST_DEEP_STACK = 20000; // words of a stack, above which it is not asked for once more at each step
 const MOST_HERE = 28; // letters of an object in About
 
-const described = (thing) => (thing ? shownObject(thing[0], thing[1]) : '');
+// A mark on the stack is a number below zero, by the place of its opcode.
+const isMark = (entry) => entry < 0;
+const placeOfMark = (entry) => -1 - entry;
 
 async function things() {
   const state = view.state;
-  const numbers = [...new Set([...numbersIn([...state.stack.words, ...state.memo.words]), ...state.results])];
+  const numbers = [...new Set([...state.stack.entries.filter((entry) => !isMark(entry)), ...state.memo.entries.map(({ object }) => object), ...state.results])];
   const [named, made] = await Promise.all([ask('briefs', { numbers }), ask('objects', { start: view.objects, count: PAGE }), reaches()]);
   if (state !== view.state || !named.briefs || !made.objects) return;
-  const stack = state.stack.words.map((word) => isMark(word) ? mark(numberOf(word)) : item('', numberOf(word), described(named.briefs[numberOf(word)])));
+  const stack = state.stack.entries.map((entry) => (isMark(entry) ? mark(placeOfMark(entry)) : item('', entry, shownObject(named.briefs[entry]))));
   list(by('stack'), stack.reverse(), state.stack.more && [`${state.stack.more} more below`, 'after']);
-  list(by('memo'), state.memo.words.map((word) => {
-    const { key, number } = entryOf(word);
-    return item(key + ' = ', number, described(named.briefs[number]));
-  }), state.memo.more && [`${state.memo.more} more before`, 'before']);
+  list(by('memo'), state.memo.entries.map(({ memo, object }) => item(`${memo} = `, object, shownObject(named.briefs[object]))), state.memo.more && [`${state.memo.more} more before`, 'before']);
   by('memo').scrollTop = by('memo').scrollHeight;
   showObjects(made.objects);
-  tree(by('result'), state.results.map((number) => node('', number, described(named.briefs[number]), [])),
+  tree(by('result'), state.results.map((number) => node('', number, shownObject(named.briefs[number]), [])),
     state.results_before ? `after ${state.results_before} others` : state.results.length ? '' : 'none so far: a STOP takes it');
   await showSource();
 }
@@ -53,10 +52,10 @@ async function reaches() {
 
 function showObjects(objects) {
   const state = view.state, last = view.objects + objects.length;
-  tree(by('objects'), objects.map((thing, at) => node('', view.objects + at, described(thing), [])), '', true);
+  tree(by('objects'), objects.map((thing, at) => node('', view.objects + at, shownObject(thing), [])), '', true);
   by('objects').scrollTop = by('objects').scrollHeight;
   by('objects-shown').textContent = (objects.length ? `#${view.objects} to #${last - 1} of ${state.made}` : 'none made') +
-    (state.exact ? '' : ', as they are at the end');
+    (objects.some((each) => each && each.isAtEnd) ? ', large ones as they are at the end' : '');
   by('objects-back').disabled = view.objects === 0;
   by('objects-on').disabled = last >= state.made;
 }
@@ -144,7 +143,7 @@ async function open(made, number, above) {
   group.setAttribute('role', 'group');
   const answer = await ask('holds', { number });
   if (!answer.parts) return;
-  group.append(...answer.parts.map(([how, part, ...shown]) => node(how ? how + ' ' : '', part, described(shown), [...above, number])));
+  group.append(...answer.parts.map(([how, part, shown]) => node(how ? how + ' ' : '', part, shownObject(shown), [...above, number])));
   if (answer.more) group.append(treeNote(`${answer.more} more`));
   if (!answer.parts.length) group.append(treeNote('holds no object'));
 }
@@ -161,15 +160,15 @@ async function reveal(number) {
 
 // What the selected opcode does, takes and makes.
 function explain() {
-  const line = lineAt(view.selected), state = view.state;
+  const row = rowAt(view.selected), state = view.state;
   const isAt = view.selected === state.place && state.stack.more < MOST_DEEP_STACK;
-  const reached = line ? reachOfRow(line[8]) : '', key = line && state.places ? [state.version, view.selected, isAt, line[2], reached].join(' ') : '';
+  const reached = row ? reachOfRow(row.reach) : '', key = row && state.places ? [state.version, view.selected, isAt, row.opcode, reached].join(' ') : '';
   if (by('opcode').dataset.key === key) return;
   by('opcode').dataset.key = key;
   if (!key) { by('opcode').replaceChildren(); return; }
-  const { says, takes, leaves } = view.opcodes[line[2]];
+  const { says, takes, leaves } = view.opcodes[row.opcode];
   const first = element('p');
-  first.append(element('span', 'word', line[2]), document.createTextNode(` ${says}`));
+  first.append(element('span', 'word', row.opcode), document.createTextNode(` ${says}`));
   const effect = element('p', 'effect');
   effect.append(element('span', 'key', 'stack: '), takes || 'nothing', element('span', 'key', ' → '), leaves || 'nothing');
   const here = isAt ? [element('p', 'effect', 'here: ..')] : [];
@@ -189,7 +188,7 @@ async function showEffect(into, key) {
 
 const cutShort = (text) => (text.length > MOST_HERE ? text.slice(0, MOST_HERE) + '..' : text);
 const shownTop = ({ things, more }) => [...(more ? [`${more} more`] : []),
-  ...things.map(([word, ...thing]) => (isMark(word) ? 'mark' : cutShort(`${word} ${described(thing)}`)))].join(', ') || 'nothing';
+  ...things.map(([entry, thing]) => (isMark(entry) ? 'mark' : cutShort(`#${entry} ${shownObject(thing)}`)))].join(', ') || 'nothing';
 
 // Which opcode made an object, and where else it is.
 async function point(number) {
@@ -199,9 +198,10 @@ async function point(number) {
   const answer = await ask('about', { number });
   if (view.pointed !== number || !answer.stack) return;
   document.querySelectorAll('.thing').forEach((thing) => thing.classList.toggle('pointed', thing.dataset.number === String(number)));
-  const lines = [element('p', '', `#${number}` + (answer.line === null ? '' : ' was made at place ' + answer.maker + ' by'))];
-  if (answer.line !== null) {
-    const button = element('button', 'thing', answer.line);
+  const lines = [element('p', '', `#${number}` + (answer.row === null ? '' : ' was made at place ' + answer.maker + ' by'))];
+  if (answer.row !== null) {
+    const { offset, opcode } = answer.row;
+    const button = element('button', 'thing', `${offset}: ${signOf(opcode)} ${opcode} ${shownOpcode(answer.row)}`);
     button.type = 'button';
     button.addEventListener('click', () => { select(answer.maker); by('listing').focus(); });
     lines.push(button);

@@ -52,6 +52,16 @@ function readValue(typed) {
   return [first[0], other[0]];
 }
 
+// The text or the bytes that a text in quotes stands for; null where it has none.
+function quotedIn(text) {
+  try {
+    const value = readValue(text);
+    return typeof value === 'string' || value instanceof Uint8Array ? value : null;
+  } catch (error) {
+    return null;
+  }
+}
+
 // --- Into bytes ---
 
 const asLine = (bytes) => {
@@ -158,6 +168,15 @@ function argumentOf(form, typed, isHex) {
     return hex.toLowerCase();
   }
   return form ? hexOf(WRITERS[form](readValue(typed))) : '';
+}
+
+const OF_NUMBERS = ['uint1', 'uint2', 'uint4', 'uint8', 'int4', 'long1', 'long4', 'float8'];
+
+// The arguments in hexadecimal that are the number which was typed, by their forms.
+function numbersOf(typed) {
+  const found = {};
+  for (const form of OF_NUMBERS) try { found[form] = argumentOf(form, typed); } catch (error) { /* (it is none of this form) */ }
+  return found;
 }
 
 // --- Back ---

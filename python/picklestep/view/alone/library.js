@@ -48,10 +48,10 @@ class Kept {
     if (answer !== DONE) throw new Error(answer === TOO_LARGE ? 'too large' : 'out of memory');
   }
 
-  // The answer to a line.
+  // The line of JSON that answers a line.
   ask(line) {
     const { exports } = this.library;
-    const answer = this.library.withInput(new TextEncoder().encode(line), (at, length) => exports.picklestep_ask(this.session, at, length, ...this.place()));
+    const answer = this.library.withInput(new TextEncoder().encode(line), (at, length) => exports.picklestep_ask_json(this.session, at, length, ...this.place()));
     return this.text(answer, () => exports.picklestep_again(this.session, ...this.place()));
   }
 

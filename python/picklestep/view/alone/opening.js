@@ -1,19 +1,22 @@
 'use strict';
-// The page without a server: how a pickle gets into it, and the worker that answers its questions.
+// How a pickle gets into the page, and the worker that answers its questions. A server gives a pickle, and saves it.
 
 const MOST_SIZE = 1073741824; // the program refuses more
 
 const worker = { asked: new Map(), next: 0, file: null, thread: null, shown: null, reader: null };
 
+const served = JSON.parse(by('served').textContent); // what a server says of its pickle, where the page comes from one
+
 const host = {
-  saves: 'The browser puts it among your downloads.',
+  saves: served ? 'A name without a folder is in the one in which picklestep was started.' : 'The browser puts it among your downloads.',
 
   ask: (word, asked) => askThread(worker.thread, word, asked),
 
-  // Gives the pickle to the browser as a download.
-  async save(name) {
+  // Gives the pickle to the server, or to the browser as a download.
+  async save(name, over) {
     const answer = await host.ask('bytes');
     if (answer.failed) return answer;
+    if (served) return tell('save', { name, over }, answer.bytes).then((done) => { say(done.said, done.failed); return done; });
     const link = element('a');
     link.href = URL.createObjectURL(new Blob([answer.bytes], { type: 'application/octet-stream' }));
     link.download = name;
@@ -21,6 +24,12 @@ const host = {
     setTimeout(() => URL.revokeObjectURL(link.href), 60000);
     say(`saved ${name} among your downloads`);
     return {};
+  },
+
+  // Where the bytes of the pickle go, as the server draws it.
+  async sizes(width, height) {
+    const answer = await host.ask('bytes');
+    return answer.failed ? answer : tell('sizes', { width, height, many: view.state.many, unframed: view.state.unframed }, answer.bytes);
   },
 
   shown() {
@@ -46,8 +55,9 @@ const host = {
     }
     worker.thread = newThread();
     by('where').textContent = '';
-    say('Open a pickle, or choose an example.');
     by('opening').dataset.ready = 'yes';
+    if (served) { await openServed(); return; }
+    say('Open a pickle, or choose an example.');
     openLink();
   },
 };
@@ -221,6 +231,43 @@ async function sendPaste(event) {
   }
 }
 
+// --- With a server ---
+
+const ALIVE = 10000; // milliseconds between two words to the server, which ends where no page speaks
+
+// Says something to the server, and answers what it answers.
+async function tell(word, asked, body) {
+  try {
+    const response = await fetch(`${word}?${new URLSearchParams(asked)}`, { method: 'POST', body });
+    if (!response.ok) throw new Error(`status ${response.status}`);
+    return await response.json();
+  } catch (error) {
+    return { said: `the server does not answer (${error.message})`, failed: true };
+  }
+}
+
+// Opens the pickle of the server.
+async function openServed() {
+  say('reading ..');
+  try {
+    const response = await fetch('pickle');
+    if (!response.ok) throw new Error(`status ${response.status}`);
+    const bytes = new Uint8Array(await response.arrayBuffer()), { name, many, unframed, whole, lesson } = served;
+    await loaded(() => command('load', { bytes, name, isPickle: true, many, unframed, whole }), lesson && lessonOf(lesson));
+  } catch (error) {
+    say(`the server does not answer (${error.message})`, true);
+  }
+}
+
+function wireServed() {
+  by('welcome').hidden = by('opening').hidden = true;
+  addEventListener('pagehide', () => navigator.sendBeacon('closed'));
+  addEventListener('pageshow', () => tell('alive'));
+  setInterval(() => tell('alive'), ALIVE);
+  wireSizes();
+  by('help-dialog').querySelector('dl').append(element('dt', '', 'z'), element('dd', '', 'where the bytes go'));
+}
+
 // --- Links ---
 
 const MOST_LINKED = 16384; // bytes
@@ -289,7 +336,8 @@ function wireOpening() {
     else if (event.key === 'v') { event.preventDefault(); openPaste(); }
   });
   by('help-dialog').querySelector('dl').append(element('dt', '', 'o, v'), element('dd', '', 'open a file; paste hexadecimal or base64'));
-  by('save-over-label').hidden = true;
+  by('save-over-label').hidden = !served;
+  if (served) wireServed();
 }
 
 begin();

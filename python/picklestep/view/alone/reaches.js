@@ -16,12 +16,12 @@ function hintsOf({ arrayAt, fault }, { hints }) {
 }
 
 // The fields of a line, whose long texts are cut: how many bytes more they have is in fields that the program does not write.
-function shortened(fields) {
+function shortened(fields, most = MOST_SAID) {
   for (const [name, value] of Object.entries(fields)) {
-    if (typeof value === 'object') shortened(value);
-    else if (value.length > MOST_SAID) {
+    if (typeof value === 'object') shortened(value, most);
+    else if (value.length > most) {
       const bytes = new TextEncoder().encode(value), decoder = new TextDecoder('utf-8', { ignoreBOM: true });
-      Object.assign(fields, { [name]: decoder.decode(bytes.subarray(0, MOST_SAID), { stream: true }), [`${name}_more`]: bytes.length - MOST_SAID });
+      Object.assign(fields, { [name]: decoder.decode(bytes.subarray(0, most), { stream: true }), [`${name}_more`]: bytes.length - most });
     }
   }
   return fields;
@@ -55,7 +55,7 @@ class Reaches {
   }
 
   static unpacked({ text, isPart }) {
-    const lines = new Lines(Infinity);
+    const lines = new Lines();
     lines.feed(text);
     return new Reaches(lines, isPart);
   }
@@ -115,7 +115,7 @@ class Reaches {
 
   // The fields of a line.
   fieldsAt(at) {
-    return JSON.parse(this.lines.raw(at));
+    return this.lines.at(at);
   }
 
   // The same, as the page is given them.

@@ -108,27 +108,24 @@ class Writer {
   }
 }
 
-// How reading ended, by the closing lines of a listing: the words for it where that was early, and how many bytes are after STOP.
-function endingOf(closing, lastOffset) {
-  const refused = closingOf(closing, 'refused');
-  return { early: refused ? `${refused} at ${lastOffset}` : closingOf(closing, 'fault'), isRefused: Boolean(refused), kept: keptOf(closing) };
-}
+// How reading ended early, in words.
+const earlyWords = (end, lastOffset) => ({ refused: `${endWords(end)} at ${lastOffset}`, fault: endWords(end) }[end.how] || '');
 
 // The source of a pickle: its bytes, the offsets of its opcodes as far as a loader gets, and how reading ended.
-function sourceOf(content, offsets, closing, { opcodes, facts, reachAt, isPart }) {
+function sourceOf(content, offsets, end, { opcodes, facts, reachAt, isPart }) {
   Object.assign(MOST, facts.most);
-  const { early, isRefused, kept } = endingOf(closing, offsets.length ? offsets.at(offsets.length - 1) : 0);
+  const early = earlyWords(end, offsets.at(-1) || 0), { code, kept } = end;
   const builder = new Builder(content, opcodes, facts, reachAt);
-  for (let at = 0; at < offsets.length - Number(isRefused); at += 1) builder.read(offsets.at(at));
+  for (let at = 0; at < offsets.length - Number(end.how === 'refused'); at += 1) builder.read(offsets.at(at));
   const left = early ? builder.leave() : [];
   const writer = new Writer(builder.names);
   for (const event of builder.events) event.write(writer);
   if (early) {
-    writer.lines.push(`# ${early}: reading ends here${codeOfWords(early) === 'F1' ? '' : facts.behind}, and the stack is`);
+    writer.lines.push(`# ${early}: reading ends here${code === 'F1' ? '' : facts.behind}, and the stack is`);
     writer.end(`stack = [${left.map(String).join(', ')}]`, null);
   }
   if (kept) writer.lines.push(`# ${kept} bytes after STOP are not read`);
-  for (const hint of hintsOf({ arrayAt: builder.arrayAt, fault: codeOfWords(early) }, facts)) writer.lines.push(`# ${hint}`);
+  for (const hint of hintsOf({ arrayAt: builder.arrayAt, fault: code }, facts)) writer.lines.push(`# ${hint}`);
   const heads = early || kept || isPart || builder.arrayAt !== null ? facts.headsOfPart : facts.heads;
   const head = Object.entries(facts.helpers).filter(([need]) => builder.needs.has(need)).map(([, text]) => text);
   return `${heads[Number(writer.isCut)]}${head.join('')}${writer.lines.join('\n')}\n`;

@@ -127,7 +127,7 @@ class Host {
 
   check(error) {
     if (error instanceof Ended && error.status < 2) return;
-    if (error instanceof Ended) throw new Error(complaintOf(this.errors) || error.message);
+    if (error instanceof Ended) throw new Error(this.errors.slice(this.errors.indexOf(': ') + 2).trim() || error.message);
     throw error instanceof RangeError ? new Error('out of memory') : error;
   }
 }

@@ -5,7 +5,7 @@ const MOST_MEMBERS = 2000;
 
 const page = { program: null, document: null, archive: null, whole: null, reaches: null };
 
-const after = async (said) => ({ said, ...await page.document.state() });
+const after = (done) => ({ ...done, ...page.document.state() });
 
 const ANSWERS = {
   // Versions go on `from` those of the worker before, so that no two documents of the page have the same.
@@ -14,7 +14,7 @@ const ANSWERS = {
     versions = from;
     return {};
   },
-  load: ({ bytes, name, isPickle }) => load(bytes, name, isPickle),
+  load: ({ bytes, name, isPickle, many = false, whole = false, unframed = false }) => (isPickle ? open(bytes, name, many, whole, unframed) : load(bytes, name)),
   // What is shown in part: its bytes, and where the page is in it. Another worker reads it whole, what it imports and calls first, and goes there.
   whole: () => page.whole,
   reach: ({ bytes, name, many }) => {
@@ -26,19 +26,24 @@ const ANSWERS = {
     if (pickle === page.document.pickle) page.document.takeReaches(reaches && Reaches.unpacked(reaches), why);
     return page.document.state();
   },
-  marks: () => ({ place: page.document.place, breaks: [...page.document.breaks] }),
-  rest: () => open(page.whole.bytes, page.whole.name, page.whole.many, true),
-  go: async ({ place, breaks }) => {
-    for (const each of breaks) await page.document.toggleBreak(each);
-    return after(await page.document.move('goto', place));
+  marks: () => ({ place: page.document.place, breaks: [...page.document.breaks], edits: page.document.edits, undone: page.document.undone }),
+  rest: () => {
+    const state = open(page.whole.bytes, page.whole.name, page.whole.many, true);
+    page.document.objectsRead = page.document.readObjects(progress);
+    return state;
+  },
+  go: ({ place, breaks, edits, undone }) => {
+    page.document.takeEdits(edits, undone);
+    for (const each of breaks) page.document.toggleBreak(each);
+    return after(page.document.move('goto', place));
   },
   member: async ({ number }) => {
     const { bytes, members } = page.archive;
-    return load(await memberBytes(bytes, members[number]), members[number].name, false);
+    return load(await memberBytes(bytes, members[number]), members[number].name);
   },
-  again: async ({ many, unframed }) => open(page.document.bytes(), page.document.name, many || page.document.options.includes('--many'), false, unframed),
-  open: () => after('open'),
-  lines: ({ start, count }) => ({ version: page.document.version, lines: page.document.slice(start, count) }),
+  again: ({ many, unframed }) => open(page.document.bytes(), page.document.name, many || page.document.options.includes('--many'), false, unframed),
+  open: () => after({ said: 'open' }),
+  rows: ({ start, count }) => ({ version: page.document.version, rows: page.document.rows(start, count) }),
   objects: ({ start, count }) => ({ objects: page.document.objects(start, count) }),
   briefs: ({ numbers }) => ({ briefs: page.document.briefs(numbers) }),
   reached: ({ start, count }) => ({ reached: page.document.reached(start, count) }),
@@ -47,27 +52,23 @@ const ANSWERS = {
   about: ({ number }) => page.document.about(number),
   source: () => page.document.source(),
   argument: ({ place }) => page.document.argument(place),
-  find: ({ text, after: from }) => ({ place: page.document.find(text, from) }),
-  move: async ({ what, place }) => after(await page.document.move(what, place)),
-  break: async ({ place }) => after(await page.document.toggleBreak(place)),
-  edit: async ({ what, place, name, raw, count }) => after(await page.document.edit(what, place, name, raw, count)),
-  undo: async () => after(await page.document.undo()),
-  redo: async () => after(await page.document.redo()),
-  bytes: () => {
-    if (page.document.isPart) throw new Error('saving waits until the rest is read');
-    return { bytes: page.document.bytes() };
-  },
+  find: ({ after: from, ...sought }) => ({ place: page.document.find(sought, from) }),
+  move: ({ what, place }) => after(page.document.move(what, place)),
+  break: ({ place }) => after(page.document.toggleBreak(place)),
+  edit: ({ what, place, name, raw, count }) => after(page.document.edit(what, place, name, raw, count)),
+  undo: () => after(page.document.undo()),
+  redo: () => after(page.document.redo()),
+  bytes: () => ({ bytes: page.document.savedBytes() }),
 };
 
-async function open(bytes, name, many, isWhole = false, isUnframed = false) {
-  page.document = await Document.open(page.program, bytes, name, many, isWhole || isUnframed, progress, isWhole ? page.reaches : null, isUnframed);
+function open(bytes, name, many, isWhole = false, isUnframed = false) {
+  page.document = Document.open(page.program, bytes, name, many, isWhole || isUnframed, progress, isWhole ? page.reaches : null, isUnframed);
   page.whole = page.document.isPart ? { bytes, name, many } : null;
-  return after('open');
+  return after({ said: 'open' });
 }
 
 // Opens a pickle, or answers what a container holds.
-async function load(bytes, name, isPickle) {
-  if (isPickle) return open(bytes, name, false);
+async function load(bytes, name) {
   const inner = await unzipped(bytes, name), directory = directoryOf(inner.bytes);
   if (!directory) return open(inner.bytes, inner.name, false);
   const { kind, members, odd } = directory;
@@ -81,12 +82,21 @@ function progress(text) {
   postMessage({ progress: text });
 }
 
+const SOON = 300; // milliseconds, in which the page asks for what is seen
+
+// What takes long and is not seen at once is read when the page has asked for what is.
+function readSoon() {
+  const { document } = page;
+  if (document && !document.objectsRead) setTimeout(() => { busy = busy.then(() => document === page.document && document.final).catch(() => undefined); }, SOON);
+}
+
 async function answer({ id, word, asked }) {
   try {
     postMessage({ id, answer: await ANSWERS[word](asked) });
+    if (word === 'load' || word === 'member' || word === 'again') readSoon();
   } catch (error) {
     const said = error instanceof Refused ? `refused: ${error.message}` : `not done: ${error.message}`;
-    postMessage({ id, answer: { said, failed: true } });
+    postMessage({ id, answer: { said, code: error.code, failed: true } });
   }
 }
 
