@@ -33,18 +33,23 @@ class PicklestepError(Exception):
 
 
 class Refused(PicklestepError):
-    """The program refused a line of a session. The session is as it was before the line.
+    """The program refused a line of a session. The session is as it was before the line. `refusal` says why the machine refuses an opcode, where the line
+    was refused for that.
 
-    >>> error = Refused('C4 no such place')
-    >>> error.code, error.text
-    ('C4', 'C4 no such place')
+    >>> import picklestep
+    >>> with picklestep.Session(b'0.') as session:
+    ...     try:
+    ...         session.step()
+    ...     except picklestep.Refused as error:
+    ...         error.code, error.text, error.refusal
+    ('C3', 'C3 item 0: S2 stack underflow', 'S2 stack underflow')
     """
 
-    def __init__(self, text: str) -> None:
-        from .texts import code_of  # (most runs need no reader of texts)
+    def __init__(self, text: str, refusal: str = '') -> None:
         super().__init__(text)
         self.text = text
-        self.code = code_of(text)
+        self.code = text.partition(' ')[0]
+        self.refusal = refusal
 
 
 class NoResult(PicklestepError):

@@ -3,21 +3,19 @@
 from __future__ import annotations
 
 import contextlib
-from typing import Callable, Iterator, List, Optional
+from itertools import islice
+from typing import Callable, Iterator, List, Optional, Tuple
 
-from .lines import Lines, read_first
-from .printed import bounded
+from .listed import FRAME_SIZE, OPCODE, argument_of, fields_of, starts_in, whole_lines
 from .program import Process
 from .sources import Input, Source, size_of
 from .tasks import modes
-from .texts import FRAME_BEGINS, FRAME_SIZE, begins_with_offset, offset_at
 
 __all__ = ['First', 'first_of']
 
 # Of a pickle with more opcodes so many are opened first, without the frame that does not end in them.
 MOST_FIRST = 2_000_000
-# A listing has at most so many lines behind its opcodes.
-_CLOSING = 4
+_FRAME = b',"opcode":"FRAME",'
 
 
 class First:
@@ -61,32 +59,30 @@ def first_of(source: Source, many: bool, unframed: bool, progress: Callable[[str
 
 def _first_length(given: Input, words: List[str], progress: Callable[[str], None]) -> int:
     """How many bytes the first part has; 0 where there is none. (The program is ended once it has listed enough.)"""
-    with contextlib.closing(Process(['list', *words, given.path], given.files)) as process:
-        lines = read_first(bounded(process.blocks(), given.size()), MOST_FIRST + _CLOSING, progress)
-    if len(lines) <= MOST_FIRST + _CLOSING:
-        return 0
-    at = MOST_FIRST
-    while not begins_with_offset(lines.raw(at)):  # (what a STOP left has a line too)
-        at -= 1
-    if '--unframed' not in words:
-        at = _before_frame(given, lines, at)
-    return offset_at(lines.text, lines.start(at)) if at > MOST_FIRST // 2 else 0
+    seen, frame = 0, (0, 0, 0)
+    with contextlib.closing(Process(['list', '--json', *words, given.path], given.files)) as process:
+        for lines in whole_lines(process.blocks()):
+            count = lines.count(OPCODE)
+            is_last = seen + count > MOST_FIRST
+            end = next(islice(starts_in(lines), MOST_FIRST - seen, None)) if is_last else len(lines)
+            frame = _last_frame(lines[:end], seen) or frame
+            if is_last:
+                offset = int(fields_of(lines[end:lines.index(b'\n', end)])['offset'])
+                is_inside = offset < frame[2] and '--unframed' not in words
+                place, offset = frame[:2] if is_inside else (MOST_FIRST, offset)
+                return offset if place > MOST_FIRST // 2 else 0
+            seen += count
+            progress(f'list: {seen:,} lines')
+    return 0
 
 
-def _before_frame(given: Input, lines: Lines, at: int) -> int:
-    """The line of the FRAME in whose frame the opcode of a line is; this line itself where the opcode is in no frame."""
-    text, end = lines.text, lines.start(at)
-    found = text.rfind(FRAME_BEGINS, 0, end)
-    while found >= 0:
-        start = text.rfind(b'\n', 0, found) + 1
-        if text.index(b':', start) == found:  # (else it stands in a text)
-            offset = offset_at(text, start)
-            is_inside = offset_at(text, end) < offset + FRAME_SIZE + _frame_length(given, offset)
-            return lines.number_at(start) if is_inside else at
-        found = text.rfind(FRAME_BEGINS, 0, found)
-    return at
-
-
-def _frame_length(given: Input, offset: int) -> int:
-    """The argument of the FRAME at an offset."""
-    return int.from_bytes(next(given.blocks(offset + 1))[:FRAME_SIZE - 1], 'little')
+def _last_frame(lines: bytes, seen: int) -> Optional[Tuple[int, int, int]]:
+    """The last FRAME in lines, with so many opcodes before them: its place, its offset, and where its frame ends."""
+    at = lines.rfind(_FRAME)
+    if at < 0:
+        return None
+    start = lines.rfind(b'\n', 0, at) + 1
+    fields = fields_of(lines[start:lines.index(b'\n', at)])
+    offset, length = int(fields['offset']), argument_of(fields)
+    assert isinstance(length, int)
+    return seen + lines.count(OPCODE, 0, start), offset, offset + FRAME_SIZE + length

@@ -75,6 +75,8 @@ def _end(process: Process, owner: int) -> None:
 class InNode:
     """Answers of the library as a module, each in so much memory at most. Threads take turns."""
 
+    is_in_process = False
+
     def __init__(self, module: str, most: int) -> None:
         self._module = module
         self._most = most

@@ -16,7 +16,7 @@ _ROOM = 1 << 16
 
 _DONE, _OUT_OF_MEMORY, _NO_ROOM, _NO_TASK, _LOST = 0, 1, 3, 4, 5
 # What the program answers to a line that it did not obey since memory ran out.
-_RAN_OUT = b'refused: M out of memory\n'
+_RAN_OUT = b'{"kind":"refused","code":"M","words":"out of memory"}\n'
 _NO_LIMIT = ctypes.c_size_t(-1).value
 
 
@@ -40,6 +40,8 @@ _own = threading.local()
 class InProcess:
     """The functions of a library."""
 
+    is_in_process = True
+
     def __init__(self, path: str) -> None:
         library = ctypes.CDLL(path)
         self._limit: Any = library.picklestep_limit_memory
@@ -47,7 +49,7 @@ class InProcess:
         self._limit.restype = None
         # (a library of an earlier version has not all of them)
         self._functions = {name: _declared(library, name, *counts) for name, counts in FUNCTIONS.items() if hasattr(library, name)}
-        self._sessions = _Sessions(library) if hasattr(library, 'picklestep_open') else None
+        self._sessions = _Sessions(library) if hasattr(library, 'picklestep_ask_json') else None
 
     def open(self, content: bytes, options: int, window: int) -> Optional[Kept]:
         """A session of this input that remembers so many steps, or all where `window` is 0. None where the library has no such sessions, or
@@ -105,7 +107,7 @@ class _Sessions:
     def __init__(self, library: ctypes.CDLL) -> None:
         handle, text = ctypes.c_void_p, [ctypes.c_void_p, ctypes.c_size_t, ctypes.c_void_p]
         self.open = _typed(library.picklestep_open, [ctypes.c_uint32, ctypes.c_size_t, ctypes.c_char_p, ctypes.c_size_t, handle])
-        self.ask = _typed(library.picklestep_ask, [handle, ctypes.c_char_p, ctypes.c_size_t, *text])
+        self.ask = _typed(library.picklestep_ask_json, [handle, ctypes.c_char_p, ctypes.c_size_t, *text])
         self.again = _typed(library.picklestep_again, [handle, *text])
         self.bytes = _typed(library.picklestep_bytes, [handle, *text])
         self.close = _typed(library.picklestep_close, [handle])
@@ -130,7 +132,7 @@ class Kept:
         return self._functions.open(options, window, content, len(content), self._at) == _DONE
 
     def ask(self, line: bytes) -> bytes:
-        """The answer to a line, which has no newline. (A signal's handler may ask in the midst of it.)"""
+        """The answer to a line, which has no newline, as a line of JSON. (A signal's handler may ask in the midst of it.)"""
         own = _own.__dict__
         room: _Room = own.pop('room', None) or _Room()
         outer, room.written.size, room.fetched = self._room, 0, None

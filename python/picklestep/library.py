@@ -8,14 +8,15 @@ memory has a limit: then its time has one, too. Whatever it does not answer, the
 from __future__ import annotations
 
 import os
-from typing import Dict, Optional, Protocol, Sequence, Tuple
+from typing import Any, Dict, Optional, Protocol, Sequence, Tuple
 
 from . import place
 from .errors import ProgramError
 from .place import find_library, find_program, is_module
-from .question import Question, question, question_of_gate, question_of_reach, reading
+from .question import Question, question, question_of_gate, question_of_members, question_of_reach, reading
+from .sources import LIMIT
 
-__all__ = ['MOST_BYTES', 'MOST_KEPT', 'Kept', 'answer', 'gate', 'load', 'open_session', 'reach']
+__all__ = ['MOST_BYTES', 'MOST_KEPT', 'Kept', 'answer', 'gate', 'is_in_process', 'load', 'members', 'open_session', 'reach']
 
 # Inputs up to this size are asked about here. For a larger one the start of the program is a small part of its time.
 MOST_BYTES = 1 << 16
@@ -30,6 +31,8 @@ _MOST_OF_LIST = 1 << 20
 _MOST_OF_REACH = 1 << 20
 # So much memory an answer may take here.
 _MOST_MEMORY = 16 << 20
+# Of an archive the names and the places of all members are answered at once: so much memory is taken by some 300,000 of them.
+_MOST_OF_MEMBERS = 64 << 20
 # So much of a limit of memory the program needs for itself.
 _OF_PROGRAM = 8 << 20
 
@@ -38,7 +41,7 @@ class Kept(Protocol):
     """A session that stays open from line to line."""
 
     def ask(self, line: bytes) -> bytes:
-        """The answer to a line, which has no newline."""
+        """The answer to a line, which has no newline, as a line of JSON."""
         ...
 
     def content(self) -> bytes:
@@ -51,6 +54,9 @@ class Kept(Protocol):
 
 
 class _Library(Protocol):
+    # Whether it reads the memory of this process, so that an input is not copied.
+    is_in_process: bool
+
     def ask(self, asked: Question, memory: int) -> Optional[bytes]:
         """The text, where it can be had in so much memory."""
         ...
@@ -132,10 +138,26 @@ def reach(content: bytes, granted: int = 0, memory: Optional[int] = None) -> Opt
     return _ask(question_of_reach(content, granted), memory, _MOST_OF_REACH - len(content))
 
 
-def _ask(asked: Optional[Question], memory: Optional[int], *room: int) -> Optional[bytes]:
+def is_in_process() -> bool:
+    """Whether there is a library that reads the memory of this process."""
+    library = _library()
+    return library is not None and library.is_in_process
+
+
+def members(content: Any, memory: Optional[int] = None) -> Optional[bytes]:
+    """What the program says of the members of an archive: of bytes, or of an array of ctypes where the library is in this process. None where the
+    program has to be asked. (It takes a time that grows as the headers of the members do.)
+
+    >>> members(b'PK\\3\\4' + b'x' * 40, memory=0) is None
+    True
+    """
+    return _ask(question_of_members(content), memory, LIMIT - len(content), most=_MOST_OF_MEMBERS)
+
+
+def _ask(asked: Optional[Question], memory: Optional[int], *room: int, most: int = _MOST_MEMORY) -> Optional[bytes]:
     """What the library answers, if there is one and it is to be asked about so many bytes in so much memory. `room` is what the inputs leave of
-    their limits, where they have some of their own."""
-    most = _MOST_MEMORY if memory is None else min(_MOST_MEMORY, memory - _OF_PROGRAM)
+    their limits, where they have some of their own, and `most` the most memory that the answer may take."""
+    most = most if memory is None else min(most, memory - _OF_PROGRAM)
     if asked is None or most <= 0:
         return None
     if min(room or (MOST_BYTES - sum([len(content) for content, _ in asked.inputs]),)) < 0:

@@ -2,35 +2,22 @@
 
 from __future__ import annotations
 
-import contextlib
-import os
 from array import array
 from bisect import bisect_left, bisect_right
 from itertools import accumulate, compress, islice
-from typing import Callable, Dict, Iterable, Iterator, List, Optional, Sequence, Tuple
+from typing import Callable, Dict, Iterable, Iterator, List, Optional, Tuple
 
-from .errors import ProgramError
-from .listed import shown_code, whole_lines
+from .listed import shown_code
 from .opcodes import TABLE
-from .printed import bounded, in_columns
-from .program import Process
-from .reaches import check_texts
-from .sources import Input
-from .tasks import left_out
-from .texts import ITEM_IN_BYTES, Line, begins_with_offset, frames_in, is_object_at, line_of, offset_at, without_left
+from .printed import in_columns
+from .texts import Line, line_of, offset_at
 
-__all__ = ['CODE_BY_NAME', 'CUT', 'Line', 'Lines', 'OpcodeLines', 'add_items', 'cut_text', 'line_of', 'lines_of', 'read_all', 'read_answers', 'read_calls', 'read_calls_of', 'read_first', 'read_objects',
-           'silent']
+__all__ = ['CODE_BY_NAME', 'CUT', 'Line', 'Lines', 'Makers', 'OpcodeLines', 'cut_text', 'line_of', 'read_into', 'silent']
 
 # The most bytes that are kept of a text.
 CUT = 500
 _BLOCK = 1 << 20
 _PIECE = 1 << 11
-# So many bytes are read of `calls`, in which a long name may stand again and again.
-_MOST_CALLS = 3 << 26
-_LEFT_OUT = b'{"kind":"end"}\n'
-# An input of at most so many bytes is read by three runs of the program at once.
-_MOST_AT_ONCE = 1 << 26
 
 
 class Lines:
@@ -204,152 +191,26 @@ def _cut(line: bytes, dropped: int = 0, most: int = CUT) -> bytes:
     return b"%s .. %d bytes more%s" % (line[:most], dropped + last - most, line[last:])
 
 
-def cut_text(text: str, most: int) -> str:
-    """A line of the program, with its beginning alone where it has more bytes.
+def cut_text(text: str, most: int, dropped: int = 0) -> str:
+    """A line of the program, with its beginning alone where it has more bytes. So many were left out of its last text before.
 
     >>> cut_text("import 'os' 'getcwdgetcwd' as #0", 20)
     "import 'os' 'getcwdg .. 5 bytes more' as #0"
     """
-    return _cut(text.encode('ascii'), most=most).decode('ascii') if len(text) > most else text
+    return _cut(text.encode('ascii'), dropped, most).decode('ascii') if len(text) + dropped > most else text
 
 
 def silent(text: str) -> None:
     """Says nothing of how far it is."""
 
 
-def _read(into: Lines, blocks: Iterable[bytes], progress: Callable[[str], None] = silent, word: str = '') -> None:
+def read_into(into: Lines, blocks: Iterable[bytes], progress: Callable[[str], None] = silent, word: str = '') -> None:
     """Reads all that the program answers, and says to `progress` how far it is."""
     cutter = _Cutter(into)
     for block in blocks:
         cutter.feed(block)
         progress(f'{word}: {len(into):,} lines')
 
-
-def read_all(given: Input, options: Sequence[str] = (), progress: Callable[[str], None] = silent,
-             codes: Optional[bytes] = None) -> 'Tuple[OpcodeLines, Lines, bytes, bool]':
-    """The lines of `list`, those of `objects` without its closing lines, those of `calls --json`, and whether these are only the first. The
-    program works on all of them at once where the input is not large. Of a pickle that is read unframed, `calls` comes after `list`, which says
-    where the FRAMEs are that it leaves out. `codes` are those of all opcodes, where they are known."""
-    *tasks, of_calls = _words(options)
-    is_framed = '--unframed' not in options
-    with contextlib.ExitStack() as running:
-        def start(words: List[str]) -> Process:
-            process = Process([*words, given.path], given.files)
-            running.callback(process.close)
-            return process
-        started = map(start, [*tasks, of_calls] if is_framed else tasks)  # (it starts each where it is asked for)
-        processes = iter(list(started)) if os.stat(given.path).st_size <= _MOST_AT_ONCE else started
-        listing = _read_listing(bounded(next(processes).blocks(), os.stat(given.path).st_size), OpcodeLines(codes), progress)
-        objects = read_objects(next(processes).blocks(), progress)
-        progress('calls ..')
-        holes = running.enter_context(left_out(() if is_framed else frames_in(listing.text)))
-        calls, is_part = read_calls((next(processes) if is_framed else start([*of_calls, *holes])).blocks(),
-                                    lambda: start([word for word in (*of_calls, *holes) if word != '--json']).blocks())
-    return listing, objects, calls, is_part
-
-
-def read_calls_of(given: Input, options: Sequence[str] = ()) -> Tuple[bytes, bool]:
-    """The lines of `calls --json` alone, or the first of them, and whether these are only the first."""
-    words = _words(options)[2]
-    with contextlib.ExitStack() as running:
-        def blocks(words: List[str]) -> Iterator[bytes]:
-            return running.enter_context(contextlib.closing(Process([*words, given.path], given.files).blocks()))
-        frames = (frame for lines in whole_lines(blocks(['list', *options])) for frame in frames_in(lines)) if '--unframed' in options else ()
-        holes = running.enter_context(left_out(frames))
-        answer = read_calls(blocks([*words, *holes]), lambda: blocks([word for word in (*words, *holes) if word != '--json']))
-    return answer
-
-
-def _words(options: Sequence[str]) -> List[List[str]]:
-    """What the program is asked about a pickle: `list`, `objects` and `calls`."""
-    return [['list', *options], ['objects', *options], ['calls', '--json', *([] if '--many' in options else ['--first'])]]
-
-
-def read_answers(answer: Callable[[List[str]], Optional[bytes]], options: Sequence[str] = (),
-                 codes: Optional[bytes] = None) -> 'Optional[Tuple[OpcodeLines, Lines, bytes, bool]]':
-    """The same of what is answered at once. None where something is not, and of a pickle that is read unframed."""
-    if '--unframed' in options:
-        return None
-    texts: List[List[bytes]] = []
-    for words in _words(options):
-        text = answer(words)
-        if text is None:
-            return None
-        texts.append([text])
-    listing, objects, calls = texts
-    of_calls = read_calls(calls, lambda: [answer([word for word in _words(options)[2] if word != '--json']) or b''])
-    return (_read_listing(listing, OpcodeLines(codes), silent), read_objects(objects, silent), *of_calls)
-
-
-def _read_listing(blocks: Iterable[bytes], listing: OpcodeLines, progress: Callable[[str], None]) -> OpcodeLines:
-    _read(listing, blocks, progress, 'list')
-    while len(listing) and not begins_with_offset(listing.raw(len(listing) - 1)):
-        listing.closing.insert(0, listing.drop_last())
-    if not listing.closing:
-        raise ProgramError('the program gave no whole listing')
-    opcodes = without_left(listing.text)
-    if opcodes is not None:  # (what a STOP left comes after it, also where another pickle follows)
-        whole = OpcodeLines(None if listing.finds_codes else bytes(listing.makers.codes))
-        whole.add(opcodes)
-        whole.whole, whole.closing = listing.whole, listing.closing
-        return whole
-    return listing
-
-
-def read_calls(blocks: Iterable[bytes], printed: Callable[[], Iterable[bytes]]) -> Tuple[bytes, bool]:
-    """The lines of `calls --json`, or the first where these are very long, and whether others are left out so. `printed` gives what `calls` prints."""
-    lines = bytearray()
-    for block in blocks:
-        lines += block
-        if len(lines) > _MOST_CALLS:
-            return bytes(lines[:lines.rfind(b'\n') + 1]) + _LEFT_OUT, True
-    return check_texts(bytes(lines), lambda: b''.join(printed())), False
-
-
-def add_items(listing: OpcodeLines, given: Input, options: Sequence[str] = ()) -> None:
-    """Adds the opcodes that a listing has not, since it ends where an opcode is refused."""
-    items = Lines()
-    with contextlib.closing(Process(['debug', *options, given.path], given.files, stdin=True)) as process:
-        os.write(process.stdin, b'items\nquit\n')
-        _read(items, process.blocks())
-    begin = items.start(min(len(listing), len(items)))
-    while begin < len(items.text):
-        end = items.text.find(b'\n', begin + _BLOCK) + 1 or len(items.text)
-        listing.add(b''.join([b'%5b: %-4b %b%b\n' % (offset, _SHOWN_CODES[name], name, argument)
-                              for offset, name, argument in ITEM_IN_BYTES.findall(items.text, begin, end)]))
-        begin = end
-
-
-def read_first(blocks: Iterable[bytes], most: int, progress: Callable[[str], None] = silent) -> Lines:
-    """The first lines of a listing: more than `most` where there are more, and else all."""
-    found = Lines()
-    cutter = _Cutter(found)
-    for block in blocks:
-        cutter.feed(block)
-        progress(f'list: {len(found):,} lines')
-        if len(found) > most:
-            break
-    return found
-
-
-def read_objects(blocks: Iterable[bytes], progress: Callable[[str], None] = silent) -> Lines:
-    """The lines of `objects` without the closing lines."""
-    objects = Lines()
-    _read(objects, blocks, progress, 'objects')
-    while len(objects) and not is_object_at(objects.text, objects.start(len(objects) - 1)):
-        objects.drop_last()
-    return objects
-
-
-def lines_of(text: str) -> Lines:
-    """The lines of a text."""
-    lines = Lines()
-    cutter = _Cutter(lines)
-    cutter.feed(text.encode('ascii'))
-    return lines
-
-
-_SHOWN_CODES: Dict[bytes, bytes] = {opcode.name.encode('ascii'): shown_code(opcode.letter).encode('ascii') for opcode in TABLE}
 
 # Opcodes that make no object. READONLY_BUFFER makes one or none.
 MAKE_NONE = frozenset(opcode.name for opcode in TABLE if not opcode.makes)

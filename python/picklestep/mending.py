@@ -14,20 +14,18 @@ from itertools import islice
 from typing import Dict, List, Optional, Set, Tuple
 
 from .addresses import content_in
+from .conversation import REFUSED, ran_of, text_of
 from .errors import PicklestepError, Refused
 from .hints import OF_FRAMES
-from .listed import FRAME_SIZE
+from .listed import FRAME_SIZE, fields_of
 from .listing_records import Object
 from .opcodes import BY_NAME
 from .program import run_program
 from .records import End
-from .replies import opcode_refused_in, ran_of, refused_in
 from .session import Session
-from .session_answers import Heap
 from .session_records import Mark
 from .sources import Input, OwnFile, Source
 from .tasks import modes
-from .texts import refused
 
 __all__ = ['Mended', 'TooCrooked', 'mended']
 
@@ -102,15 +100,16 @@ def _ending(content: bytes, many: bool) -> Tuple[End, int]:
     with Session(content, many=many) as session:
         text = _run(session)
         where = session.where()
-        return refused(text, where.offset, where.place) if text else where.end, where.offset
+        refused = End('refused', text.partition(' ')[0], text, where.offset, where.place)
+        return refused if text else where.end, where.offset
 
 
 def _run(session: Session) -> str:
     """Runs to the end, or to an opcode that is refused: then it answers why."""
     try:
-        return opcode_refused_in(session.run().text)
+        return session.run().refusal
     except Refused as error:  # (it is the first one)
-        return opcode_refused_in(error.text)
+        return error.refusal
 
 
 def _with_protocol(content: bytes, many: bool, offset: int, text: str, steps: List[str]) -> bytes:
@@ -153,10 +152,10 @@ def _closed(content: bytes, many: bool, steps: List[str]) -> bytes:
             closing.script.append(f'delete {closing.place}')
     with Input(content) as given, OwnFile(is_saved_to=True) as made:
         script = ''.join(f'{line}\n' for line in (*closing.script, 'run'))
-        words = ['debug', given.path, *modes(many), '--save', made.path]
-        answers = run_program(words, [*given.files, *made.files], script.encode('ascii')).decode('ascii').splitlines()
-        if any(refused_in(line) is not None for line in answers) or ran_of(answers[-1]).why != 'end':
-            raise PicklestepError(f'what was under way cannot be closed: {answers[-1]}')
+        words = ['debug', '--json', given.path, *modes(many), '--save', made.path]
+        answers = run_program(words, [*given.files, *made.files], script.encode('ascii')).splitlines()
+        if any(line.startswith(REFUSED) for line in answers) or ran_of(fields_of(answers[-1])).why != 'end':
+            raise PicklestepError(f'what was under way cannot be closed: {text_of(answers[-1]).rstrip()}')
         return made.content()
 
 
@@ -170,7 +169,6 @@ class _Closing:
         # The place of the NONE as the session has it, and with the edits.
         self._begin = self.place = where.place
         self.steps = steps
-        self.heap: Heap = session.objects()
         # What is on the stack, from the bottom: the numbers of objects, cut at the marks.
         self.sections: List[List[int]] = [[]]
         for entry in session.stack():
@@ -178,7 +176,8 @@ class _Closing:
                 self.sections.append([])
             else:
                 self.sections[-1].append(entry.number)
-        self.added: List[Object] = []  # (the numbers of these come after those of the heap)
+        self.made = where.objects
+        self.added: List[Object] = []  # (the numbers of these come after those of the objects that were made)
         self._offset = where.offset
         self._fillers: Dict[int, Tuple[Optional[str], str]] = {}
         self._keys: Set[int] = set()  # objects that can be keys
@@ -258,13 +257,12 @@ class _Closing:
 
     def _new(self, items: List[int]) -> int:
         """The number of the tuple of these items that was made last."""
-        number = len(self.heap) + len(self.added)
+        number = self.made + len(self.added)
         self.added.append(Object(number, 'tuple', None, tuple(items), ()))
         return number
 
     def _object(self, number: int) -> Object:
-        made = len(self.heap)
-        return self.heap[number] if number < made else self.added[number - made]
+        return self.session._object(number) if number < self.made else self.added[number - self.made]
 
     def _can_be_key(self, number: int) -> bool:
         """Whether an object can be a key or a member of a set, as far as the pickle shows it."""

@@ -24,9 +24,10 @@ BEGINS = (
 )
 _AT_FIRST = tuple(magic for offset, magic in BEGINS if not offset)
 _BEHIND = tuple((offset, magic) for offset, magic in BEGINS if offset)
-# How zip archives begin, and the others that `gate` looks at itself: gzip, zlib and arrays of numpy.
+# How zip archives begin, and the others that `gate` looks at itself: gzip, zlib, arrays of numpy, and tar archives, whose sign stands in a header.
 _ARCHIVES = (b'PK\x03\x04', b'PK\x05\x06')
 _GATED = (*_ARCHIVES, b'\x1f\x8b', b'x\x01', b'x\x5e', b'x\x9c', b'x\xda', b'\x93NUMPY')
+_TAR, _TAR_AT = b'ustar', 257
 # So many bytes show that.
 ENOUGH = max(offset + len(magic) for offset, magic in BEGINS)
 # The record that closes a zip archive has so many bytes, and then a comment, whose length its last two bytes say.
@@ -82,29 +83,30 @@ def is_archive(path: str) -> bool:
     >>> is_archive('no file')
     False
     """
-    return _begins_with(path, _ARCHIVES)
+    return _is_read_here(path) and _head(path).startswith(_ARCHIVES)
 
 
 def is_gated_whole(path: str) -> bool:
-    """Whether a file begins as what `gate` looks at itself: a zip archive, whose members it judges, a file of gzip or zlib, or an array of numpy.
+    """Whether a file begins as what `gate` looks at itself: a zip archive or a tar archive, whose members it judges, a file of gzip or zlib, or an
+    array of numpy.
 
     >>> is_gated_whole('no file')
     False
     """
-    return _begins_with(path, _GATED)
+    return _is_read_here(path) and begins_gated(_head(path))
 
 
 def begins_gated(head: bytes) -> bool:
     """Whether bytes begin as what `gate` looks at itself.
 
-    >>> begins_gated(b'PK\\x03\\x04'), begins_gated(b'BZh9')
-    (True, False)
+    >>> begins_gated(b'PK\\x03\\x04'), begins_gated(bytes(257) + b'ustar'), begins_gated(b'BZh9')
+    (True, True, False)
     """
-    return head.startswith(_GATED)
+    return head.startswith(_GATED) or head.startswith(_TAR, _TAR_AT)
 
 
-def _begins_with(path: str, begins: 'tuple[bytes, ...]') -> bool:
-    return os.path.isfile(path) and not path.startswith(('/dev/', '/proc/')) and _head(path).startswith(begins)
+def _is_read_here(path: str) -> bool:
+    return os.path.isfile(path) and not path.startswith(('/dev/', '/proc/'))
 
 
 def _head(path: str) -> bytes:

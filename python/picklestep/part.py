@@ -11,7 +11,8 @@ from .answers import Calls
 from .document import Document, Reaches
 from .errors import ProgramError, Refused
 from .first import First, first_of
-from .lines import read_calls_of, silent
+from .lines import silent
+from .pickle_lines import read_calls_of
 from .saving import written_whole
 from .session import Session
 from .sources import LIMIT, Input, Source, rereadable
@@ -117,8 +118,6 @@ class Part(Document):
         try:
             for _ in undone:
                 session.undo()
-            for place in self.breaks:
-                session.set_break(place)
             self.session, self._source, self._first, self._progress = session, source, None, self.tell
             self._read()
             self._return(here)
@@ -128,7 +127,7 @@ class Part(Document):
             raise
         self._progress = silent
         before['session'].close()
-        self._let_go(first)
+        first.close()
         return source[len(first.content):]
 
     def _session_after(self, source: Source, edits: List[bytes]) -> Session:
@@ -136,7 +135,7 @@ class Part(Document):
         session = Session(source, many=self.is_many, unframed=self.is_unframed)
         try:
             for line in edits:
-                session._talk.line(line.rstrip(b'\n'))
+                session._talk.ask(line.rstrip(b'\n'))
         except BaseException:
             session.close()
             raise
@@ -164,12 +163,9 @@ class Part(Document):
             raise ProgramError(f'cannot write: {error.strerror or error}') from error
 
     def _close_first(self) -> None:
-        if self._first is not None:
-            self._let_go(self._first)
-
-    def _let_go(self, first: First) -> None:
         """Closes the copy of the whole, which nobody needs any more."""
-        first.close()
+        if self._first is not None:
+            self._first.close()
 
 
 def said_of_time(seconds: int, size: int) -> str:

@@ -4,9 +4,6 @@ from __future__ import annotations
 
 from typing import Dict
 
-from .replies import opcode_refused_in
-from .texts import code_of
-
 __all__ = ['PLAIN', 'plainly']
 
 PLAIN: Dict[str, str] = {
@@ -36,15 +33,14 @@ PLAIN: Dict[str, str] = {
     'S11': 'The keywords of a call are a dictionary.',
 }
 
-# What stands before the code of an edit.
-_OF_EDIT = 'C9 '
-
 
 def plainly(text: str) -> str:
     """A code with its words, and what it means; also behind `refused, `, as a run says it.
 
     >>> plainly('C2 at the end, stopped'), plainly('M out of memory')
     ('C2 at the end, stopped (You are at the end.)', 'M out of memory')
+    >>> plainly('C3 item 2: S1 no mark')
+    'C3 item 2: S1 no mark (No mark is open that the opcode could take.)'
     """
-    meaning = PLAIN.get(code_of(opcode_refused_in(text) or (text[len(_OF_EDIT):] if text.startswith(_OF_EDIT) else text)))
+    meaning = next((PLAIN[word] for word in text.split() if word in PLAIN), None)
     return f'{text} ({meaning})' if meaning else text

@@ -55,6 +55,8 @@ _LIMITED = ['/bin/sh', '-c', 'ulimit -v "$1" && shift && exec "$@"', 'sh']
 # No program starts in so little memory: the system ends it by a signal.
 _OF_PROGRAM = 1 << 20
 _WORDS = 'out of memory'
+# What stands before its complaints.
+_COMPLAINT = 'picklestep: '
 
 
 def _command(words: Sequence[str], memory: Optional[int]) -> Tuple[List[str], Optional[Dict[str, str]]]:
@@ -283,8 +285,8 @@ def _widen(pipe: int) -> None:
 
 def _raise_failure(status: int, errors: bytes, is_limited: bool) -> NoReturn:
     """Raises why a run failed, by its status and by what it wrote on standard error. Where its memory is limited, its stack may not grow either."""
-    from .replies import complaint_of
-    words = complaint_of(errors.decode('utf-8', 'replace'))
+    words = errors.decode('utf-8', 'replace').strip()
+    words = words[len(_COMPLAINT):] if words.startswith(_COMPLAINT) else words
     if status == -signal.SIGSEGV and is_limited:
         raise OutOfMemory(_WORDS, signal=-status)
     if status < 0:

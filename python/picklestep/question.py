@@ -9,7 +9,7 @@ from typing import List, NamedTuple, Optional, Sequence, Tuple
 
 from .patterns import pattern
 
-__all__ = ['FUNCTIONS', 'Question', 'granted', 'question', 'question_of_gate', 'question_of_reach', 'reading']
+__all__ = ['FUNCTIONS', 'Question', 'granted', 'question', 'question_of_gate', 'question_of_members', 'question_of_reach', 'reading']
 
 _TASKS = ('list', 'objects', 'calls')
 # How many options and inputs come before the room for the text. (Holes are an input of `calls`.)
@@ -90,6 +90,11 @@ def reading(many: bool, unframed: bool) -> int:
 def question_of_gate(entries: bytes, content: bytes, is_json: bool = True) -> Question:
     """Whether a list, as the program reads it, allows all that a pickle has, as JSON or as text."""
     return Question('picklestep_gate_json' if is_json else 'picklestep_gate', (), ((entries, _BYTE), (content, _BYTE)))
+
+
+def question_of_members(content: bytes) -> Question:
+    """Which members an archive has."""
+    return Question('picklestep_members', (), ((content, _BYTE),))
 
 
 def granted(words: Sequence[str]) -> int:

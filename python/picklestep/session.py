@@ -13,16 +13,19 @@ from operator import index
 from pathlib import Path
 from typing import ContextManager, Dict, Iterator, List, Optional, Sequence, Tuple, Union, overload
 
-from . import library, replies
+from . import conversation, library
 from .addresses import check_out, opened_in
 from .answers import Calls, Listing
 from .arguments import ArgumentValue, encoded
+from .conversation import Entry, Memo, Stack, read
 from .errors import ProgramError, Refused, TimedOut
+from .listed import Fields
+from .listing_records import Object
+from .made import object_of
 from .program import Process, check_timeout, run_program
-from .records import Ref
 from .saving import written_whole
 from .session_answers import Heap, Items, ShownObjects
-from .session_records import Mark, Ran, Where
+from .session_records import Ran, Where
 from .sources import Input, OwnFile, Source, is_opened, is_word, small_content
 from .tasks import AskedOfSession, calls_of, frames_of, listing_of, modes
 
@@ -34,10 +37,8 @@ _SHOWN = 1000
 
 # The edits, and how many opcodes more there are after each.
 SHIFTS: Dict[str, int] = {'replace': 0, 'insert': 1, 'delete': -1, 'frame': 1, 'unframe': -1}
-# The words whose answers have any number of lines.
-_LONG_WORDS = ('items', 'objects', 'show')
-# How the answers to edits begin, and to what takes them back.
-_OF_EDITS = ('edited ', 'undone ', 'redone ')
+# How answers begin that say more than a place.
+_NOTED = (conversation.REFUSED, *conversation.EDITS)
 _NEWLINE = 'a line of a session cannot hold a newline'
 
 
@@ -45,56 +46,49 @@ class _Talk(abc.ABC):
     """Lines to a session and their answers, one after another. (A signal's handler may ask in the midst of an answer.)"""
 
     def __init__(self) -> None:
-        self._lock = threading.RLock()
+        self.alone = threading.RLock()
         self._edits: List[bytes] = []
         self._undone: List[bytes] = []
 
-    def line(self, line: bytes) -> str:
-        """The answer of one line to a line."""
-        with self._lock:
-            answer = self._answer(line, is_long=False)[:-1].decode('ascii')
-            refused = replies.refused_in(answer)
-            if refused is not None:
-                raise Refused(refused)
-            if answer.startswith(_OF_EDITS):
-                self._note(line, answer)
+    def ask(self, line: bytes) -> bytes:
+        """The answer to a line, which is a line of JSON."""
+        with self.alone:
+            answer = self._answer(line)
+            if answer.startswith(_NOTED):
+                self._note(line, read(answer))
         return answer
 
-    def lines(self, line: bytes) -> str:
-        """The answer of any number of lines to a line."""
-        with self._lock:
-            text = self._answer(line, is_long=True).decode('ascii')
-        refused = replies.refused_in(text)
-        if refused is not None:
-            raise Refused(refused)
-        return text
+    def fields(self, line: bytes) -> Fields:
+        """The fields of the answer to a line."""
+        return read(self.ask(line))
 
     def edits(self) -> List[bytes]:
         """The lines of the edits that are not undone. Other threads may go on with the session."""
-        with self._lock:
+        with self.alone:
             return list(self._edits)
 
     def undone(self) -> List[bytes]:
         """The lines of the edits that are undone, the one that is made again first at the end."""
-        with self._lock:
+        with self.alone:
             return list(self._undone)
 
-    def _note(self, line: bytes, answer: str) -> None:
-        """Keeps the edits that are not undone, each with the place that it was made at."""
-        what, place = replies.edit_in(answer) or ('', 0)
-        if what == 'edited':
+    def _note(self, line: bytes, answer: Fields) -> None:
+        """Keeps the edits that are not undone, each with the place that it was made at. Raises Refused where the line was."""
+        if answer['kind'] == 'refused':
+            raise Refused(conversation.refusal_of(answer), conversation.refusal_in(answer))
+        if answer['kind'] == 'edited':
             words = line.split()
-            words[1] = b'%d' % place
+            words[1] = b'%d' % answer['place']
             self._edits.append(b' '.join(words) + b'\n')
             self._undone.clear()
-        elif what == 'undone':
+        elif answer['kind'] == 'undone':
             self._undone.append(self._edits.pop())
-        elif what == 'redone':
+        else:
             self._edits.append(self._undone.pop())
 
     @abc.abstractmethod
-    def _answer(self, line: bytes, is_long: bool) -> bytes:
-        """The answer to a line, of any number of lines where it `is_long`."""
+    def _answer(self, line: bytes) -> bytes:
+        """The answer to a line."""
 
     def content(self) -> Optional[bytes]:
         """The bytes of the pickle as it is, where they are to be had without a second run."""
@@ -112,17 +106,17 @@ class _InLibrary(_Talk):
         super().__init__()
         self._kept = kept
 
-    def _answer(self, line: bytes, is_long: bool) -> bytes:
+    def _answer(self, line: bytes) -> bytes:
         if b'\n' in line:
             raise ValueError(_NEWLINE)
         return self._kept.ask(line)
 
     def content(self) -> bytes:
-        with self._lock:
+        with self.alone:
             return self._kept.content()
 
     def close(self) -> None:
-        with self._lock:
+        with self.alone:
             self._kept.close()
 
 
@@ -138,23 +132,15 @@ class _InProgram(_Talk):
         with contextlib.suppress(OSError, AttributeError):  # (older versions on Windows have no such pipes)
             os.set_blocking(self._stdin, False)
 
-    def _answer(self, line: bytes, is_long: bool) -> bytes:
-        if not is_long:
-            return self._exchange(line, b'')
-        # The answer ends where that of a `where` begins, which is sent after the line.
-        answer = self._exchange(line, replies.WHERE_BEGINS, b'\nwhere')
-        return answer[:answer.rfind(b'\n', 0, -1) + 1]
-
-    def _exchange(self, line: bytes, last: bytes, after: bytes = b'') -> bytes:
-        """Sends a line, and reads up to the end of a line that begins so."""
+    def _answer(self, line: bytes) -> bytes:
         if b'\n' in line:
             raise ValueError(_NEWLINE)
         if not self._is_open:
             raise ValueError('the session is closed')
         try:
             deadline = None if self._timeout is None else time.monotonic() + self._timeout
-            self._send(line + after + b'\n', deadline)
-            return self._receive(last, deadline)
+            self._send(line + b'\n', deadline)
+            return self._receive(deadline)
         except (BrokenPipeError, EOFError):
             self._is_open = False
             self._process.fail()
@@ -173,7 +159,8 @@ class _InProgram(_Talk):
             with self._in_time(self._stdin, deadline, writes=True):
                 pass
 
-    def _receive(self, last: bytes, deadline: Optional[float]) -> bytes:
+    def _receive(self, deadline: Optional[float]) -> bytes:
+        """An answer, up to the end of its line."""
         answer = bytearray()
         while True:
             with self._in_time(self._stdout, deadline):
@@ -181,7 +168,7 @@ class _InProgram(_Talk):
             if not block:
                 raise EOFError
             answer += block
-            if block.endswith(b'\n') and answer.startswith(last, answer.rfind(b'\n', 0, -1) + 1):
+            if block.endswith(b'\n'):
                 return bytes(answer)
 
     @contextlib.contextmanager
@@ -273,7 +260,7 @@ class Session(ContextManager['Session']):
 
     def _words(self) -> List[str]:
         """What starts a conversation about it."""
-        return ['debug', self._given().path, *modes(self._many, self._unframed)]
+        return ['debug', '--json', self._given().path, *modes(self._many, self._unframed)]
 
     def close(self) -> None:
         """Ends the session. Closing it twice does no harm.
@@ -298,7 +285,7 @@ class Session(ContextManager['Session']):
         ...     session.step(), session.step()
         (1, 2)
         """
-        return replies.place_in(self._talk.line(b'step'))
+        return self._to(b'step')
 
     def back(self) -> int:
         """Goes back over one opcode, and answers the place before it.
@@ -307,7 +294,7 @@ class Session(ContextManager['Session']):
         ...     session.step(), session.back()
         (1, 0)
         """
-        return replies.place_in(self._talk.line(b'back'))
+        return self._to(b'back')
 
     def goto(self, place: Optional[int] = None, *, at: Optional[int] = None) -> int:
         """Goes to a place.
@@ -316,7 +303,7 @@ class Session(ContextManager['Session']):
         ...     session.goto(3), session.goto(at=2)
         (3, 1)
         """
-        return replies.place_in(self._talk.line(b'goto ' + _place(place, at)))
+        return self._to(b'goto ' + _place(place, at))
 
     def run(self) -> Ran:
         """Steps on to the end, to a breakpoint, or to an opcode that the machine refuses.
@@ -325,7 +312,7 @@ class Session(ContextManager['Session']):
         ...     session.run()
         Ran(place=2, why='end', text='end, stopped')
         """
-        return replies.ran_of(self._talk.line(b'run'))
+        return conversation.ran_of(self._talk.fields(b'run'))
 
     def set_break(self, place: Optional[int] = None, *, at: Optional[int] = None) -> int:
         """Sets a breakpoint on the opcode at a place, and answers the place.
@@ -334,7 +321,7 @@ class Session(ContextManager['Session']):
         ...     session.set_break(2), session.run().why
         (2, 'breakpoint')
         """
-        return replies.place_in(self._talk.line(b'break ' + _place(place, at)))
+        return self._to(b'break ' + _place(place, at))
 
     def clear_break(self, place: Optional[int] = None, *, at: Optional[int] = None) -> int:
         """Takes the breakpoint on the opcode at a place away, and answers the place.
@@ -343,7 +330,7 @@ class Session(ContextManager['Session']):
         ...     session.set_break(1), session.clear_break(1), session.run().why
         (1, 1, 'end')
         """
-        return replies.place_in(self._talk.line(b'clear ' + _place(place, at)))
+        return self._to(b'clear ' + _place(place, at))
 
     # --- Edits ---
 
@@ -386,7 +373,7 @@ class Session(ContextManager['Session']):
         ...     session.delete(2), session.delete(0), session.bytes()
         (2, 0, b'N.')
         """
-        return replies.place_in(self._talk.line(b'delete ' + _place(place, at)))
+        return self._to(b'delete ' + _place(place, at))
 
     def frame(self, place: Optional[int] = None, count: int = 0, *, at: Optional[int] = None) -> int:
         """Puts a frame around `count` opcodes from a place on, and answers the place.
@@ -395,7 +382,7 @@ class Session(ContextManager['Session']):
         ...     session.frame(0, 2), session.bytes()
         (0, b'\\x95\\x02\\x00\\x00\\x00\\x00\\x00\\x00\\x00N.')
         """
-        return replies.place_in(self._talk.line(b'frame %s %d' % (_place(place, at), index(count))))
+        return self._to(b'frame %s %d' % (_place(place, at), index(count)))
 
     def unframe(self, place: Optional[int] = None, *, at: Optional[int] = None) -> int:
         """Takes the FRAME at a place away and leaves what is in the frame, and answers the place.
@@ -404,7 +391,7 @@ class Session(ContextManager['Session']):
         ...     session.frame(0, 2), session.unframe(0), session.bytes()
         (0, 0, b'N.')
         """
-        return replies.place_in(self._talk.line(b'unframe ' + _place(place, at)))
+        return self._to(b'unframe ' + _place(place, at))
 
     def undo(self) -> int:
         """Takes the latest edit back, and answers its place.
@@ -413,7 +400,7 @@ class Session(ContextManager['Session']):
         ...     session.insert(1, 'POP'), session.undo(), session.bytes()
         (1, 1, b'N.')
         """
-        return replies.place_in(self._talk.line(b'undo'))
+        return self._to(b'undo')
 
     def redo(self) -> int:
         """Makes the edit again that was taken back last, and answers its place.
@@ -422,7 +409,7 @@ class Session(ContextManager['Session']):
         ...     session.insert(1, 'POP'), session.undo(), session.redo(), session.bytes()
         (1, 1, 1, b'N0.')
         """
-        return replies.place_in(self._talk.line(b'redo'))
+        return self._to(b'redo')
 
     def _put(self, word: _Bytes, words: Sequence[ArgumentValue], at: Optional[int], raw: Optional[_Bytes]) -> int:
         """An edit that names an opcode: a place (unless it is named by `at`), the name, and its values."""
@@ -433,7 +420,7 @@ class Session(ContextManager['Session']):
             raise TypeError('an argument is given as values or as raw bytes, and not as both')
         argument = encoded(name, values) if raw is None else _Bytes(raw)
         where = _place(None if place is None else index(place), at)  # type: ignore[arg-type]
-        return replies.place_in(self._talk.line(b'%s %s %s %s' % (word, where, name.encode('utf-8'), argument.hex().encode('ascii'))))
+        return self._to(b'%s %s %s %s' % (word, where, name.encode('utf-8'), argument.hex().encode('ascii')))
 
     # --- Questions ---
 
@@ -444,25 +431,34 @@ class Session(ContextManager['Session']):
         ...     session.step(), session.where().offset
         (1, 1)
         """
-        return replies.where_of(self._talk.line(b'where'))
+        return conversation.where_of(self._talk.fields(b'where'))
 
-    def items(self) -> Items:
-        """The opcodes with their places.
+    def items(self, first: Optional[int] = None, stop: Optional[int] = None) -> Items:
+        """The opcodes with their places: all of them, or those from a place on before another.
 
-        >>> with Session(b'K\\x07.') as session:
-        ...     session.items()[0]
-        Item(place=0, offset=0, name='BININT1', argument=7, at_cursor=True, has_break=False)
+        >>> with Session(b'K\\x07NN.') as session:
+        ...     session.items()[0], [item.place for item in session.items(1, 3)]
+        (Item(place=0, offset=0, name='BININT1', argument=7, at_cursor=True, has_break=False), [1, 2])
         """
-        return Items(self._talk.lines(b'items'))
+        return Items(self._talk.ask(b'items' + _range(first, stop)))
 
-    def objects(self) -> Heap:
-        """The objects that were made so far.
+    def objects(self, first: Optional[int] = None, stop: Optional[int] = None) -> Heap:
+        """The objects that were made so far: all of them, or those from a number on before another.
 
-        >>> with Session(b'K\\x07.') as session:
-        ...     session.step(), session.objects()[0].text
-        (1, 7)
+        >>> with Session(b'K\\x07NN.') as session:
+        ...     session.goto(3), session.objects()[0].text, [made.number for made in session.objects(1, 3)]
+        (3, 7, [1, 2])
         """
-        return Heap(self._talk.lines(b'objects'))
+        return Heap(self._talk.ask(b'objects' + _range(first, stop)))
+
+    def breaks(self) -> Tuple[int, ...]:
+        """The places of the opcodes that have a breakpoint.
+
+        >>> with Session(b'NN0.') as session:
+        ...     session.set_break(2), session.set_break(1), session.breaks()
+        (2, 1, (1, 2))
+        """
+        return tuple(self._talk.fields(b'breaks')['places'])
 
     def show(self, number: int) -> ShownObjects:
         """An object and all that it holds.
@@ -471,16 +467,17 @@ class Session(ContextManager['Session']):
         ...     session.run().place, [(line.depth, line.number) for line in session.show(2)]
         (4, [(0, 2), (1, 0), (1, 1)])
         """
-        return ShownObjects(self._talk.lines(b'show %d' % index(number)))
+        with self._talk.alone:
+            return ShownObjects(index(number), self._talk.ask)
 
-    def stack(self) -> Tuple[Union[Ref, Mark], ...]:
+    def stack(self) -> Tuple[Entry, ...]:
         """The objects and marks on the stack, from the bottom.
 
         >>> with Session(b'(N.') as session:
         ...     session.goto(2), session.stack()
         (2, (Mark(place=0), Ref(number=0)))
         """
-        return replies.stack_of(self._talk.line(b'stack'))
+        return self._stack().all()
 
     def memo(self) -> Dict[int, int]:
         """The number of the object under each key of the memo.
@@ -489,10 +486,27 @@ class Session(ContextManager['Session']):
         ...     session.goto(2), session.memo()
         (2, {5: 0})
         """
-        return replies.memo_of(self._talk.line(b'memo'))
+        return self._memo().all()
+
+    def _stack(self) -> Stack:
+        """The same as `stack`, of which no more is read than is asked for."""
+        return Stack(self._talk.ask(b'stack'))
+
+    def _memo(self) -> Memo:
+        """The same as `memo`, of which no more is read than is asked for."""
+        return Memo(self._talk.ask(b'memo'))
+
+    def _object(self, number: int) -> Object:
+        """An object as it is where the session is. What it holds is named by number."""
+        return object_of(self._talk.fields(b'show %d' % number))
+
+    def _to(self, line: _Bytes) -> int:
+        """The place in the answer to a line."""
+        place: int = read(self._talk.ask(line))['place']
+        return place
 
     def ask(self, line: str) -> str:
-        """The program's own answer to a line, as docs/reference/common.md has them.
+        """What `debug` prints of its answer to a line, which is made of the answer in JSON; or this itself, where a word has no text.
 
         >>> with Session(b'N.') as session:
         ...     session.ask('where')
@@ -503,9 +517,8 @@ class Session(ContextManager['Session']):
             return ''
         if words[0] == 'quit':
             raise ValueError('a session is closed by close()')
-        if words[0] in _LONG_WORDS:
-            return self._talk.lines(line.encode('utf-8'))
-        return self._talk.line(line.encode('utf-8')) + '\n'
+        answer = self._talk.ask(line.encode('utf-8'))
+        return self.show(int(words[1])).text if words[0] == 'show' else conversation.text_of(answer)
 
     # --- The pickle as it is ---
 
@@ -586,7 +599,7 @@ class Session(ContextManager['Session']):
         if not self._finalizer.alive:
             raise ValueError('the session is closed')
         answer = run_program([*self._words(), '--save', path], [*self._given().files, *files], b''.join(edits), *self._limits)
-        if answer.count(b'edited ') != len(edits):
+        if answer.count(conversation.EDITS[0]) != len(edits):
             raise ProgramError(f'an edit was not made again: {answer.decode("ascii")[-_SHOWN:]}')
 
     # --- For notebooks ---
@@ -601,8 +614,15 @@ class Session(ContextManager['Session']):
         """Where the session is, with its stack and its memo, cut where they are long."""
         if not self._finalizer.alive:
             return ['closed']
-        answers = (self._talk.line(word) for word in (b'where', b'stack', b'memo'))
+        answers = (self.ask(word).rstrip('\n') for word in ('where', 'stack', 'memo'))
         return [answer if len(answer) <= _SHOWN else answer[:_SHOWN] + ' ..' for answer in answers]
+
+
+def _range(first: Optional[int], stop: Optional[int]) -> bytes:
+    """The words of a range; none where all is wanted."""
+    if (first is None) != (stop is None):
+        raise TypeError('a range has a first number and one behind its last')
+    return b'' if first is None else b' %d %d' % (index(first), index(stop))  # type: ignore[arg-type]
 
 
 def _place(place: Optional[int], at: Optional[int]) -> bytes:

@@ -2,7 +2,7 @@
 
 from __future__ import annotations
 
-from dataclasses import dataclass
+from dataclasses import dataclass, field
 from typing import Optional, Tuple
 
 from .listing_records import Object
@@ -59,28 +59,33 @@ class Shown:
 
 @dataclass(frozen=True, **SLOTS)
 class Ran:
-    """Where a session's `run` stopped, and why: 'end', 'breakpoint' or 'refused'. `text` is the program's words for it.
+    """Where a session's `run` stopped, and why: 'end', 'breakpoint' or 'refused'. `text` is the program's words for it, and `refusal` why the opcode
+    there is refused, if it is.
 
     >>> import picklestep
-    >>> with picklestep.Session(b'N.') as session:
-    ...     session.run()
-    Ran(place=2, why='end', text='end, stopped')
+    >>> with picklestep.Session(b'N0g5\\n.') as session:
+    ...     ran = session.run()
+    >>> ran, ran.refusal
+    (Ran(place=2, why='refused', text='refused, S3 no memo entry 5'), 'S3 no memo entry 5')
     """
 
     place: int
     why: str
     text: str
+    refusal: str = field(default='', repr=False, compare=False)
 
 
 @dataclass(frozen=True, **SLOTS)
 class Where:
     """Where a session is: the cursor's place, the number of places, the cursor's offset, how many buffers were asked for, the numbers
-    of the results (none before STOP), and how the pickle ends.
+    of the results (none before STOP), and how the pickle ends; and how many objects were made, and how many objects, marks and entries are on the
+    stack and in the memo.
 
     >>> import picklestep
     >>> with picklestep.Session(b'N.') as session:
-    ...     session.where().places
-    2
+    ...     where = session.where()
+    >>> where.place, where.places, where.objects, where.end.how
+    (0, 2, 0, 'stopped')
     """
 
     place: int
@@ -89,3 +94,7 @@ class Where:
     buffers: int
     results: Tuple[int, ...]
     end: End
+    objects: int = 0
+    on_stack: int = 0
+    marks: int = 0
+    in_memo: int = 0

@@ -88,7 +88,7 @@ class ReachAnswer:
 
 @dataclass(frozen=True, **SLOTS)
 class Member:
-    """A member of a zip archive: its name, where its bytes begin, how many it has, and to how many they are `deflated` (None where they are stored as
+    """A member of an archive: its name, where its bytes begin, how many it has, and to how many they are `deflated` (None where they are stored as
     they are). `address` is what other functions open it by, where the archive is a file.
 
     >>> Member('a.pkl', 35, 3).deflated is None

@@ -127,7 +127,7 @@ def reach(source: Source, *, extensions: bool = False, persistent_ids: bool = Fa
 
 
 def members(source: Source, *, timeout: Optional[float] = None, memory: Optional[int] = None) -> Tuple[Member, ...]:
-    """The members of a zip archive in the form in which zipfile, numpy, torch and Info-ZIP write: all readers find exactly these, and nothing is
+    """The members of a zip archive or a tar archive in the form in which usual writers write: all readers find exactly these, and nothing is
     unpacked; or what a file opens to that gzip or zlib packed. Raises NotOpened where it is in another form. `source` may also be the address of an
     archive in another container.
 
@@ -137,7 +137,7 @@ def members(source: Source, *, timeout: Optional[float] = None, memory: Optional
     >>> members('a.zip')
     (Member(name='a.pkl', offset=35, size=2, deflated=None, address='a.zip > a.pkl'),)
     """
-    from .replies import NO_MEMBERS, members_of
+    from .member_lines import NO_MEMBERS, members_of
     path = os.fsdecode(source) if isinstance(source, (str, os.PathLike)) else ''
     with Asked(source if split(path) is None else _bytes_at(path), timeout, memory, is_opened=False) as asked:
         text = asked.answer(['members'])

@@ -1,101 +1,28 @@
-"""The program's texts, read: quoted texts, numbers, names, and whole lines.
+"""The lines of `list` as people see them, read where they are kept for showing: there may be millions, and in JSON they are 2.5 times as long.
 
-No other module writes a pattern of them. What reads one line is a function `.._of`; what finds lines in a text is named by what it finds.
+What reads one line is a function `.._of` or `.._in`; what finds lines in a text is named by what it finds.
 """
 
 from __future__ import annotations
 
-import re
 import struct
-from dataclasses import dataclass, replace
-from heapq import merge
-from typing import Callable, Generic, Iterable, Iterator, NamedTuple, Optional, Pattern, Sequence, Set, Tuple, TypeVar, Union
+from dataclasses import replace
+from typing import Callable, NamedTuple, Optional, Sequence, Tuple, Union
 
-from .listing_records import Change, Object, Opcode
+from .listing_records import Opcode
 from .patterns import pattern
 from .records import Argument, End
-from .session_records import Item, Shown
 
-__all__ = ['FRAME_BEGINS', 'FRAME_SIZE', 'HeldObject', 'ITEMS', 'ITEM_IN_BYTES', 'Line', 'LineReader', 'LinesError', 'MOST_OFFSET', 'NUMBER', 'OBJECTS', 'QUOTED',
-           'SHOWN', 'as_made', 'begins_with_offset', 'behind_word', 'broken_places', 'code_of', 'count_held', 'end_of', 'end_of_line', 'end_of_texts',
-           'frame_length', 'frames_in', 'has_key', 'held_at', 'held_in', 'is_no_name', 'is_object_at', 'key_in', 'kind_in', 'line_of', 'mark_in', 'moved_line',
-           'named_by_texts', 'number_of', 'object_of', 'offset_at', 'opcode_of', 'readonly_count', 'refused', 'renumbered', 'unquoted', 'with_mark',
-           'with_offset', 'without_left', 'without_number']
+__all__ = ['Line', 'LinesError', 'begins_with_offset', 'behind_word', 'end_of_line', 'frame_length', 'has_key', 'key_in',
+           'line_of', 'mark_in', 'moved_line', 'offset_at', 'opcode_of', 'renumbered', 'with_mark', 'with_offset', 'without_left']
 
-Record = TypeVar('Record')
-
-# A text in quotes, and a number, as the program writes them.
-QUOTED = r"'[^'\\]*(?:\\.[^'\\]*)*'"
-NUMBER = r'-?[0-9]+|le:[0-9a-f]*|f8:[0-9a-f]{16}'
-_ATOM = pattern(f'({QUOTED})|({NUMBER})')
 # A text in quotes, or the number of an object.
-_QUOTED_OR_NUMBER = pattern(rf'{QUOTED}|#([0-9]+)')
-_OBJECT = pattern(r'#([0-9]+) ([a-z-]+)')
-_PARTS = pattern(r' \((#[^)]*)\)')
-_CHANGE = pattern(r' (?:([+&!])#([0-9]+)|\[#([0-9]+)\]=#([0-9]+))')
-_CHANGES = {'+': 'append', '&': 'add', '!': 'state'}
-# The most bytes of the beginning of an opcode's line, the code of FRAME behind it, and how many bytes that opcode has.
-MOST_OFFSET = 20
-FRAME_BEGINS = b': \\x95 '
-FRAME_SIZE = 9
-# Lines of `objects`, `items` and `show`, and closing lines of which there may be several.
-_OBJECT_LINE = pattern(r'^#.*$', re.MULTILINE)
-_ITEM = pattern(r'^([> ])([* ]) *([0-9]+) +([0-9]+): ([A-Z][A-Z0-9_]*)(?: (.*))?$', re.MULTILINE)
-# The offset, the name, and the argument behind its blank.
-ITEM_IN_BYTES = pattern(rb'^[> ][* ] *[0-9]+ +([0-9]+): ([A-Z][A-Z0-9_]*)((?: .*)?)$', re.MULTILINE)
-_SHOWN = pattern(r'^([0-9]+) (#[0-9]+)( .*)?$', re.MULTILINE)
+_QUOTED_OR_NUMBER = pattern(r"'[^'\\]*(?:\\.[^'\\]*)*'|#([0-9]+)")
 _LEFT_BEGINS = b'left: '
-# In lines of `objects`, as bytes: the signs before an object that another holds (a parenthesis or a blank where it was made of that), what may stand
-# behind the number, and the beginnings of a view and of what an import by two texts holds.
-_HOW = {b'+': 'append', b'&': 'add', b'!': 'state', b'[': 'key', b'=': 'value', b'(': '', b' ': ''}
-_BEHIND = b' ', b')', b']', b'\n'
-_READONLY, _NAMED = b'readonly ', b' stack-global (#'
-_AROUND = b' ()[]=+&!'
-# How what was put in begins.
-_PUT_IN = ' +#', ' &#', ' !#', ' [#'
 
 
 class LinesError(ValueError):
     """A line that is not one of the program's."""
-
-
-def unquoted(text: str) -> bytes:
-    r"""The bytes that a quoted text stands for.
-
-    >>> unquoted(r"'it\'s \x00 \\'")
-    b"it's \x00 \\"
-    """
-    inner = text[1:-1].encode('ascii')
-    # (the program's escapes, `\xNN`, `\\` and `\'`, are among those of this codec, which is quick)
-    return inner.decode('unicode_escape').encode('latin-1') if b'\\' in inner else inner
-
-
-def number_of(text: str) -> Union[int, float]:
-    """The number that a text stands for.
-
-    >>> number_of('-7'), number_of('le:0001'), number_of('f8:3ff0000000000000')
-    (-7, 256, 1.0)
-    """
-    if text.startswith('le:'):
-        return int.from_bytes(bytes.fromhex(text[3:]), 'little', signed=True)
-    if text.startswith('f8:'):
-        value: float = struct.unpack('>d', bytes.fromhex(text[3:]))[0]
-        return value
-    return int(text)
-
-
-def _argument(text: str, at: int) -> Tuple[Argument, int]:
-    """The argument at a place, if there is one, and where it ends."""
-    match = _ATOM.match(text, at)
-    if match is None:
-        return None, at
-    if match[2] is not None:
-        return number_of(match[2]), match.end()
-    first, end = unquoted(match[1]), match.end()
-    second = _ATOM.match(text, end + 1)
-    if second is None or second[1] is None or text[end] != ' ':
-        return first, end
-    return (first, unquoted(second[1])), second.end()
 
 
 def opcode_of(line: str) -> Opcode:
@@ -105,8 +32,31 @@ def opcode_of(line: str) -> Opcode:
     Opcode(offset=11, code=b'c', name='GLOBAL', argument=(b'os', b'getcwd'), note='', marks=1)
     """
     shown = line_of(line)
-    argument, end = _argument(shown.argument, 0)
-    return Opcode(shown.offset, _CODES[shown.code], shown.name, argument, shown.argument[end:].strip(' ()'), shown.marks)
+    argument, note = _argument_and_note(shown.argument)
+    return Opcode(shown.offset, _CODES[shown.code], shown.name, argument, note.strip(' ()'), shown.marks)
+
+
+def _argument_and_note(text: str) -> Tuple[Argument, str]:
+    """The argument of an opcode, if it has one, and what is said behind it. (A quote within a text is escaped.)"""
+    if text.startswith("'"):
+        texts, _, note = text[1:].rpartition("'")
+        first, is_pair, second = texts.partition("' '")
+        return ((_unescaped(first), _unescaped(second)) if is_pair else _unescaped(first)), note
+    return (_number(text), '') if text and text[0] != '(' else (None, text)
+
+
+def _unescaped(text: str) -> bytes:
+    # (the program's escapes, `\xNN`, `\\` and `\'`, are among those of this codec, which is quick)
+    return text.encode('ascii').decode('unicode_escape').encode('latin-1')
+
+
+def _number(text: str) -> Union[int, float]:
+    if text.startswith('le:'):
+        return int.from_bytes(bytes.fromhex(text[3:]), 'little', signed=True)
+    if text.startswith('f8:'):
+        value: float = struct.unpack('>d', bytes.fromhex(text[3:]))[0]
+        return value
+    return int(text)
 
 
 class Line(NamedTuple):
@@ -216,48 +166,6 @@ def end_of_line(name: bytes, number: int) -> bytes:
     return b'%-10b %d\n' % (name, number)
 
 
-def _item_at(match: 're.Match[str]') -> Item:
-    cursor, flag, place, offset, name, rest = match.groups()
-    return Item(int(place), int(offset), name, _argument(rest, 0)[0] if rest else None, cursor == '>', flag == '*')
-
-
-def object_of(line: str) -> Object:
-    """The object that a line shows.
-
-    >>> object_of('#3 list (#1) +#4').changes
-    (Change(how='append', value=4, key=None),)
-    """
-    match = _OBJECT.match(line)
-    if match is None:
-        raise LinesError(line)
-    text, at = _argument(line, match.end() + 1)
-    if text is None:
-        at = match.end()
-    if at == len(line):
-        return Object(int(match[1]), match[2], text, (), ())
-    parts = _PARTS.match(line, at)
-    return Object(int(match[1]), match[2], text, _numbers(parts[1]) if parts else (),
-                  tuple(_change(change) for change in _CHANGE.finditer(line, parts.end() if parts else at)))
-
-
-def kind_in(line: str) -> str:
-    """The kind of an object, in its line or the beginning of that.
-
-    >>> kind_in('#3 list (#1')
-    'list'
-    """
-    return line.split(' ', 2)[1]
-
-
-def without_number(line: str) -> str:
-    """The line of an object without its number.
-
-    >>> without_number('#3 list (#1)')
-    'list (#1)'
-    """
-    return line.partition(' ')[2]
-
-
 def renumbered(line: str, moved: Callable[[int], object]) -> str:
     """A line whose objects have other numbers, which a function says. What stands in quotes is no number.
 
@@ -267,60 +175,14 @@ def renumbered(line: str, moved: Callable[[int], object]) -> str:
     return _QUOTED_OR_NUMBER.sub(lambda match: match[0] if match[1] is None else f'#{moved(int(match[1]))}', line)
 
 
-def _numbers(text: str) -> Tuple[int, ...]:
-    """The numbers of objects, with blanks between them."""
-    return tuple(int(word[1:]) for word in text.split())
-
-
-def _change(match: 're.Match[str]') -> Change:
-    how, value, key, to = match.groups()
-    return Change('set', int(to), int(key)) if how is None else Change(_CHANGES[how], int(value))
-
-
-def end_of(text: str, item: Optional[int] = None) -> End:
-    """The end that a text of the program shows: 'stopped', or a code with its words.
-
-    >>> end_of('F1 ended at 3')
-    End(how='fault', code='F1', text='F1 ended at 3', offset=3, item=None)
-    """
-    if text in ('stopped', 'STOP'):
-        return End('stopped')
-    code = code_of(text)
-    if code[0] in _AT:
-        return End(_AT[code[0]], code, text, offset=int(text.rpartition(' ')[2]))
-    return End('refused', code, text, item=item)
-
-
-def code_of(words: str) -> str:
-    """The code that the words of a refusal or a fault begin with.
-
-    >>> code_of('S3 no memo entry 7')
-    'S3'
-    """
-    return words.partition(' ')[0]
-
-
-def refused(words: str, offset: Optional[int], item: Optional[int]) -> End:
-    """The end where an opcode is refused for what these words say.
-
-    >>> refused('S2 stack underflow', 4, 2)
-    End(how='refused', code='S2', text='S2 stack underflow', offset=4, item=2)
-    """
-    return End('refused', code_of(words), words, offset, item)
-
-
 def with_offset(end: End, offset: int) -> End:
     """An end of reading with another offset, also in its text.
 
-    >>> with_offset(end_of('F1 ended at 3'), 12)
+    >>> with_offset(End('fault', 'F1', 'F1 ended at 3', 3), 12)
     End(how='fault', code='F1', text='F1 ended at 12', offset=12, item=None)
     """
     place = f' at {end.offset}'
     return replace(end, offset=offset, text=f'{end.text[:-len(place)]} at {offset}' if end.text.endswith(place) else end.text)
-
-
-# Codes that stand with an offset, by their letter.
-_AT = {'F': 'fault', 'U': 'unsure'}
 
 
 def behind_word(lines: Sequence[str], word: str) -> Optional[str]:
@@ -330,40 +192,6 @@ def behind_word(lines: Sequence[str], word: str) -> Optional[str]:
     '3 bytes after STOP'
     """
     return next((line[len(word) + 2:] for line in reversed(lines) if line.startswith(f'{word}: ')), None)
-
-
-# --- Lines of one kind, read one after another ---
-
-@dataclass(frozen=True)
-class LineReader(Generic[Record]):
-    """How lines of one kind are found in a text, and what each says."""
-
-    pattern: Pattern[str]
-    read: Callable[['re.Match[str]'], Record]
-
-
-def _shown_at(match: 're.Match[str]') -> Shown:
-    return Shown(int(match[1]), int(match[2][1:]), object_of(match[2] + match[3]) if match[3] else None)
-
-
-OBJECTS = LineReader(_OBJECT_LINE, lambda match: object_of(match[0]))
-ITEMS = LineReader(_ITEM, _item_at)
-SHOWN = LineReader(_SHOWN, _shown_at)
-
-
-def frames_in(listing: Union[bytes, bytearray]) -> Iterator[Tuple[int, int]]:
-    r"""The offset and the length of each FRAME in a listing: `calls` that leaves these bytes out reads a pickle unframed.
-
-    >>> list(frames_in(b"    0: \\x80 PROTO      4\n    2: \\x95 FRAME      2\n   11: X    BINUNICODE '9: \\x95 '\n"))
-    [(2, 9)]
-    """
-    at = listing.find(FRAME_BEGINS)
-    while at >= 0:
-        begin = max(0, at - MOST_OFFSET)
-        _, newline, offset = listing[begin:at].rpartition(b'\n')
-        if (newline or not begin) and offset.strip().isdigit():  # (else it stands in a text)
-            yield int(offset), FRAME_SIZE
-        at = listing.find(FRAME_BEGINS, at + 1)
 
 
 def without_left(listing: Union[bytes, bytearray]) -> Optional[bytes]:
@@ -377,128 +205,7 @@ def without_left(listing: Union[bytes, bytearray]) -> Optional[bytes]:
     return b''.join(line for line in bytes(listing).splitlines(keepends=True) if not line.startswith(_LEFT_BEGINS))
 
 
-def broken_places(text: str) -> Set[int]:
-    """The places of items that have a breakpoint.
-
-    >>> broken_places('>     0     0: NONE\\n *    1     1: STOP\\n')
-    {1}
-    """
-    return {int(line[2:].split(None, 1)[0]) for line in text.split('\n') if line[1:2] == '*'}
-
-
 def begins_with_offset(line: str) -> bool:
     """Whether a line begins with an offset, as that of an opcode does."""
     offset, colon, _ = line.partition(': ')
     return bool(colon) and offset.lstrip(' ').isdigit()
-
-
-# --- Lines of `objects`, as bytes ---
-
-class HeldObject(NamedTuple):
-    """What an object holds: how it was put in ('' for what the object was made of), and the number."""
-
-    how: str
-    number: int
-
-
-def held_in(heap: Union[bytes, bytearray], start: int, end: int) -> Iterator[HeldObject]:
-    """What the object of a line holds, from a place of the line on.
-
-    >>> [tuple(held) for held in held_in(b'#3 list (#1) +#4', 0, 16)]
-    [('', 1), ('append', 4)]
-    """
-    at = heap.find(b'#', start, end)
-    while at >= 0:
-        behind = heap.find(b'#', at + 1, end)
-        how = _HOW.get(bytes(heap[at - 1:at]))
-        if how is not None:
-            yield HeldObject(how, int(heap[at + 1:end if behind < 0 else behind].rstrip(_AROUND)))
-        at = behind
-
-
-def count_held(heap: Union[bytes, bytearray], start: int, end: int, in_pairs: bool) -> int:
-    """How many of these there are, where each key counts as one with its value; with `in_pairs` also in what the object was made of.
-
-    >>> count_held(b'#5 dict (#1 #2) [#3]=#4', 0, 23, in_pairs=True)
-    2
-    """
-    first = max(heap.find(b' ', start, end), start)
-    made_of = heap.count(b'#', first, max(first, heap.find(b')', first, end))) if in_pairs else 0
-    return heap.count(b'#', first, end) - heap.count(b'[#', first, end) - made_of // 2
-
-
-def is_object_at(lines: Union[bytes, bytearray], start: int) -> bool:
-    """Whether the line that begins at a place is that of an object."""
-    return lines[start] == ord('#')
-
-
-def end_of_texts(heap: Union[bytes, bytearray], start: int, end: int) -> int:
-    """Where in a line the last quote is; the start of the line where it has none.
-
-    >>> end_of_texts(b"#3 global 'a' '#1' +#4", 0, 22)
-    17
-    """
-    return max(heap.rfind(b"'", start, end), start)
-
-
-def held_at(heap: Union[bytes, bytearray], number: int) -> Iterator[int]:
-    """Where lines name this object since others hold it, from the first on. (A text may look so, too.)
-
-    >>> list(held_at(b'#0 list (#1) +#10 +#1\\n#1 none\\n', 1))
-    [9, 19]
-    """
-    return iter(merge(*(_held_at(heap, b'#%d%b' % (number, behind)) for behind in _BEHIND)))
-
-
-def _held_at(heap: Union[bytes, bytearray], name: bytes) -> Iterator[int]:
-    at = heap.find(name)
-    while at >= 0:
-        if bytes(heap[at - 1:at]) in _HOW:
-            yield at
-        at = heap.find(name, at + 1)
-
-
-def is_no_name(heap: Union[bytes, bytearray], at: int) -> bool:
-    """Whether a place where a line seems to name an object is in no text of the line, and the object not the name of an import by two texts.
-
-    >>> heap = b'#2 stack-global (#0 #1) +#3\\n'
-    >>> is_no_name(heap, 17), is_no_name(heap, 25)
-    (False, True)
-    """
-    start = heap.rfind(b'\n', 0, at) + 1
-    is_import = heap.startswith(_NAMED, heap.index(b' ', start))
-    return at > end_of_texts(heap, start, heap.index(b'\n', at)) and not (is_import and heap.find(b')', start, at) < 0)
-
-
-def named_by_texts(heap: Union[bytes, bytearray]) -> Iterator[Tuple[int, int, int]]:
-    """The imports by two texts: the number of each, and those of its module and its name.
-
-    >>> list(named_by_texts(b'#2 stack-global (#0 #1) +#3\\n'))
-    [(2, 0, 1)]
-    """
-    at = heap.find(_NAMED)
-    while at >= 0:
-        number = bytes(heap[heap.rfind(b'\n', 0, at) + 1:at])
-        if number[1:].isdigit():  # (else it stands in a text)
-            module, _, name = bytes(heap[at + len(_NAMED):heap.index(b')', at)]).partition(b' #')
-            yield int(number[1:]), int(module), int(name)
-        at = heap.find(_NAMED, at + 1)
-
-
-def readonly_count(lines: Iterable[bytes]) -> int:
-    """How many of the objects are views that can only be read.
-
-    >>> readonly_count([b'#0 buffer 0', b'#1 readonly (#0)'])
-    1
-    """
-    return sum(line.startswith(_READONLY, line.index(b' ') + 1) for line in lines)
-
-
-def as_made(text: str) -> str:
-    """The line of an object, or its beginning, without what was put into it after it was made.
-
-    >>> as_made("inst 'a' 'b' (#1) +#4 !#5")
-    "inst 'a' 'b' (#1)"
-    """
-    at = text.rfind("'") + 1
-    return text[:min((found for found in (text.find(sign, at) for sign in _PUT_IN) if found >= 0), default=len(text))]

@@ -7,6 +7,7 @@ from typing import TYPE_CHECKING, Callable, Optional
 
 from .errors import ProgramError
 from .listed import Fields, argument_of, check_whole, content_of, fields_of, shown_argument, words_of
+from .opens import BETWEEN
 from .sources import LIMIT
 
 if TYPE_CHECKING:
@@ -19,7 +20,9 @@ IN_FORM = b'{"kind":"end","how":"in_form"}\n'
 # What `gate` says, by the field `how` of its line; of what is not looked at with the reason.
 _KINDS = {'passes': 'passes', 'not_allowed': 'not allowed', 'other_form': 'other form', 'not_in_form': 'other form', 'broken': 'broken'}
 _UNSEEN = {'archive': ('an archive', 'it is not looked at'), 'container': ('a container', 'it is not looked at'),
-           'same_names': ('not looked at', 'two names that differ in case alone'), 'too_large': ('not looked at', f'it unpacks to more than {LIMIT} bytes')}
+           'same_names': ('not looked at', 'two names that differ in case alone'),
+           'unclear_names': ('not looked at', 'two names for one file, or a name with an empty part, . or ..'),
+           'two_kinds': ('not looked at', 'a loader may take the archive itself for something else'), 'too_large': ('not looked at', f'it unpacks to more than {LIMIT} bytes')}
 
 
 def other_form(line: bytes) -> Optional[OtherForm]:
@@ -79,6 +82,10 @@ def _verdict(line: bytes) -> Fields:
     return fields_of(line)
 
 
+def _text_in(fields: Fields, name: str) -> Optional[str]:
+    return os.fsdecode(content_of(fields, name)) if name in fields or f'{name}_hex' in fields else None
+
+
 def gate_answer(line: bytes, text: Callable[[], str]) -> GateAnswer:
     """What the line of `gate --json` says of a file. `text` gives the line for people, where that is too long for the line of JSON. Raises
     ProgramError where a line of the list is no entry, and where the line of JSON is not whole.
@@ -98,6 +105,8 @@ def gate_answer(line: bytes, text: Callable[[], str]) -> GateAnswer:
         reason = content_of(fields, 'words').decode('utf-8', 'backslashreplace')
     if kind == 'ended':
         reason = words_of(fields) if 'code' in fields else how
-    member = os.fsdecode(content_of(fields, 'member')) if 'member' in fields or 'member_hex' in fields else None
+    member = _text_in(fields, 'member')
+    packed = _text_in(fields, 'archive')  # (of a tar archive in a packed file)
+    member = member if packed is None else f'{packed}{BETWEEN}{member}'
     offset = int(fields['offset']) if 'offset' in fields else None
     return GateAnswer(how == 'passes', fields['text'] if 'text' in fields else text(), kind, reason, offset, member, 'behind_header' in fields)

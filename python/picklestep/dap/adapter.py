@@ -8,10 +8,10 @@ from functools import partial
 from typing import Any, Callable, Dict, Optional
 
 from ..addresses import given, said_of
+from ..edits import EditError
 from ..errors import PicklestepError, Refused, reason
 from ..lines import silent
 from ..plain import plainly
-from ..shell.edits import EditError
 from ..shell.shell import Shell, WordError
 from .arguments import Arguments, RequestError
 from .breakpoints import FILTERS, Breakpoints

@@ -6,8 +6,8 @@ import base64
 import binascii
 from typing import Callable, Dict, List
 
+from ..edits import Edit
 from ..lines import CODE_BY_NAME
-from ..shell.edits import Edit
 from .arguments import Arguments, RequestError
 from .target import Target
 from .wire import Fields

@@ -8,9 +8,9 @@ from typing import Callable, Dict, Iterator, List, Optional, Sequence
 
 from ..errors import PicklestepError, Refused
 from ..plain import plainly
-from ..replies import is_mark, number_in_word, opcode_refused_in, words_of
 from ..shell.breaks import is_hit
 from ..shell.nests import behind_mark, behind_next
+from ..shell.opened import REFUSED
 from ..shell.shell import WordError
 from .arguments import Arguments, RequestError
 from .breakpoints import Breakpoints
@@ -57,7 +57,7 @@ class Moves:
             self._paused_from = begin
             return
         except Refused as error:
-            why = error.text
+            why = REFUSED + error.refusal if error.refusal else error.text
         except (RequestError, WordError, PicklestepError) as error:
             self._target.say(str(error), 'stderr')
         self.stopped(reason, why, begin)
@@ -90,7 +90,7 @@ class Moves:
     def stopped(self, reason: str, why: str = '', begin: int = -1) -> None:
         """Tells where the pickle is, after it moved from a place."""
         where = self._target.here()
-        self._refused = opcode_refused_in(why)
+        self._refused = why[len(REFUSED):] if why.startswith(REFUSED) else ''
         hit = [point for point in self._target.shell.breaks if where.place != begin and is_hit(self._target.pickle, point, where.place)]
         reason = 'exception' if self._refused else self._breakpoints.reason(hit) if hit else reason
         ends = {0: 'You are at the start.', where.places: f'You are at {self._target.pickle.end_text}.'}
@@ -143,7 +143,7 @@ class Moves:
     def _frames(self) -> List[Fields]:
         """The frames, the innermost first. Each is where the next one inside it was set, the innermost where the pickle is."""
         here = self._target.here().place
-        marks = [number_in_word(word) for word in words_of(self._target.pickle.session.ask('stack')) if is_mark(word)]
+        marks = self._target.pickle.session._stack().marks()
         return [self._frame(depth, marks, place) for depth, place in enumerate([*marks, here])][::-1]
 
     def _frame(self, depth: int, marks: Sequence[int], place: int) -> Fields:

@@ -6,10 +6,10 @@ import os
 import tempfile
 from typing import Callable, List, Optional
 
+from ..edits import Edit
 from ..errors import PicklestepError
 from ..patterns import pattern
 from ..session_records import Where
-from ..shell.edits import Edit
 from ..shell.opened import Opened
 from ..shell.shell import Shell, WordError
 from .arguments import Arguments, RequestError

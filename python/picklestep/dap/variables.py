@@ -3,10 +3,11 @@
 from __future__ import annotations
 
 from itertools import islice
-from typing import Callable, Dict, Iterator, List, NamedTuple, Optional, Tuple
+from typing import Callable, Dict, Iterator, List, NamedTuple, Optional, Tuple, Union
 
-from ..replies import entry_of, is_mark, number_in_word, words_of
-from ..shell.edits import EditError, of_value, of_words
+from ..edits import EditError, of_value, of_words
+from ..records import Ref
+from ..session_records import Mark
 from .arguments import Arguments, RequestError
 from .target import Target
 from .wire import Fields
@@ -149,44 +150,43 @@ class Variables:
 
     def of_object(self, name: str, number: int, key: Optional[str] = None) -> _Row:
         """An object, as a variable."""
-        kind = self._target.pickle.brief(number).partition(' ')[0]
-        return _Row(name, self._target.pickle.described(number), kind, _Holder('object', number), number, key, self._target.pickle.maker(number))
+        pickle = self._target.pickle
+        return _Row(name, pickle.described(number), pickle.kind(number), _Holder('object', number), number, key, pickle.maker(number))
 
     def opcode(self, place: int) -> str:
         """An opcode and its argument."""
         line = self._target.pickle.lines.at(place)
         return f'{line.name} {line.argument}'.rstrip()
 
-    def _words(self, frame: int) -> List[str]:
+    def _entries(self, frame: int) -> Tuple[Union[Ref, Mark], ...]:
         """The stack of a frame, from the bottom: what is below the mark of the next one inside it."""
-        words = words_of(self._target.pickle.session.ask('stack'))
-        marks = [at for at, word in enumerate(words) if is_mark(word)]
-        return words[:marks[frame - 1]] if 0 < frame <= len(marks) else words
+        stack = self._target.pickle.session.stack()
+        marks = [at for at, entry in enumerate(stack) if isinstance(entry, Mark)]
+        return stack[:marks[frame - 1]] if 0 < frame <= len(marks) else stack
 
-    def _of_word(self, name: str, word: str) -> _Row:
-        number = number_in_word(word)
-        return _Row(name, f'mark of {number}', 'mark') if is_mark(word) else self.of_object(name, number)
+    def _of_entry(self, name: str, entry: Union[Ref, Mark]) -> _Row:
+        return _Row(name, f'mark of {entry.place}', 'mark') if isinstance(entry, Mark) else self.of_object(name, entry.number)
 
     def _stack_count(self, frame: int) -> int:
-        return len(self._words(frame))
+        return len(self._entries(frame))
 
     def _stack_rows(self, frame: int, start: int, stop: int) -> Iterator[_Row]:
         """The top comes first. A name is the place in the stack, from the bottom."""
-        words = self._words(frame)
-        return (self._of_word(str(len(words) - 1 - at), words[len(words) - 1 - at]) for at in range(start, stop))
+        stack = self._entries(frame)
+        return (self._of_entry(str(len(stack) - 1 - at), stack[len(stack) - 1 - at]) for at in range(start, stop))
 
     def _memo_count(self, frame: int) -> int:
-        return len(words_of(self._target.pickle.session.ask('memo')))
+        return self._target.pickle.session.where().in_memo
 
     def _memo_rows(self, frame: int, start: int, stop: int) -> Iterator[_Row]:
-        entries = map(entry_of, words_of(self._target.pickle.session.ask('memo'))[start:stop])
-        return (self.of_object(key, number, key) for key, number in entries)
+        entries = islice(self._target.pickle.session.memo().items(), start, stop)
+        return (self.of_object(str(key), number, str(key)) for key, number in entries)
 
     def _marks_count(self, frame: int) -> int:
-        return sum(map(is_mark, self._words(0)))
+        return self._target.pickle.session.where().marks
 
     def _marks_rows(self, frame: int, start: int, stop: int) -> Iterator[_Row]:
-        marks = [number_in_word(word) for word in self._words(0) if is_mark(word)]
+        marks = self._target.pickle.session._stack().marks()
         return (_Row(str(at), f'set by opcode {marks[at]}', 'mark', place=marks[at]) for at in range(start, stop))
 
     def _result_count(self, frame: int) -> int:

@@ -10,10 +10,10 @@ from itertools import chain
 from typing import Dict, Generator, List, Optional, Sequence, Tuple
 
 from .. import library
+from ..edits import EditError
 from ..errors import PicklestepError, reason
 from ..place import find_program
 from ..printing import print_text
-from ..shell.edits import EditError
 from ..waiting import counted, with_progress
 from ..wording import count_of, shown
 from .files import Done, Renames, Sought, find, targets_of

@@ -11,20 +11,20 @@ from typing import TYPE_CHECKING, Any, Generator, Iterable, Iterator, List, Name
 
 from ..addresses import opened_in
 from ..answers import Calls
+from ..edits import Edit
 from ..errors import NotRenamed
 from ..held import Holder, fields_of_tails, holders_of, is_holder, short_tails
-from ..lines import read_calls
 from ..listed import starts_in
 from ..opcodes import BY_CODE
 from ..opens import split
+from ..pickle_lines import read_calls
 from ..reaches import IMPORTS, fields_of, reach_of, said_in
 from ..records import Reach
 from ..session import Session
-from ..shell.edits import Edit
-from ..shell.renames import renamed_of, renaming_of
 from ..sources import Source, content_of
 from ..tasks import Asked
 from .pairs import Given, Names, Pairs, encoded_names, names_of, pairs_of
+from .renames import renamed_of, renaming_of
 from .small import Small, tails_in_small
 
 if TYPE_CHECKING:

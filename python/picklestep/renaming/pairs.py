@@ -4,8 +4,8 @@ from __future__ import annotations
 
 from typing import Iterable, List, Mapping, NamedTuple, Optional, Sequence, Tuple, Union
 
+from ..edits import EditError
 from ..records import Global, Name
-from ..shell.edits import EditError
 
 __all__ = ['Names', 'Pairs', 'encoded_names', 'names_of', 'pairs_in', 'pairs_of']
 
@@ -75,7 +75,7 @@ def pairs_of(given: Given) -> Pairs:
     (('new.a', 'x'), ('n', 'B.C'))
     >>> pairs_of([('old', 'new:')])
     Traceback (most recent call last):
-    picklestep.shell.edits.EditError: 'new:' is no new name: give a module
+    picklestep.edits.EditError: 'new:' is no new name: give a module
     """
     return Pairs([_pair(*each) for each in (given.items() if isinstance(given, Mapping) else given)])
 

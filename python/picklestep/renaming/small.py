@@ -1,13 +1,13 @@
 """What is asked of a small pickle to rename what it imports: three answers of the library, of which only the few lines are read that are needed. (Of
-large ones `view` has a document, which reads some lines at a time.)"""
+large ones there is a document, which reads some lines at a time.)"""
 
 from __future__ import annotations
 
 from bisect import bisect_left
-from operator import itemgetter
 from typing import Dict, List, NamedTuple, Optional, Set, Tuple
 
 from ..held import holders_of, tails_of
+from ..listed import batch_of, offsets_in
 from ..made import results_in
 from ..opcodes import BY_CODE, BY_NAME
 from ..session import Session
@@ -18,8 +18,6 @@ __all__ = ['MOST', 'Small', 'tails_in_small']
 # Pickles of so many bytes are small.
 MOST = 1 << 18
 
-# How wide the column of offsets is, unless they are greater.
-_COLUMN = 5
 _MAKES = frozenset(info.code for info in BY_NAME.values() if info.makes)
 _READONLY = BY_NAME['READONLY_BUFFER'].code
 
@@ -32,11 +30,11 @@ class _Line(NamedTuple):
 
 
 class _Opcodes:
-    """The opcodes by their places: their offsets, of the lines that `list` prints, and their codes."""
+    """The opcodes by their places: their offsets, of the lines of `list --json`, and their codes."""
 
     def __init__(self, content: bytes, listing: bytes) -> None:
         self._content = content
-        self.offsets = _offsets_in(listing)
+        self.offsets = offsets_in(batch_of(listing.decode('ascii')).heads)
         self.codes = [content[offset] for offset in self.offsets]
 
     def __len__(self) -> int:
@@ -51,16 +49,6 @@ class _Opcodes:
         return bisect_left(self.offsets, offset)
 
 
-def _offsets_in(listing: bytes) -> List[int]:
-    """The offsets that lines begin with. (Behind them are other lines.)"""
-    lines = listing.split(b'\n')
-    while lines and not lines[-1].partition(b':')[0].strip().isdigit():
-        lines.pop()
-    if lines and lines[-1].index(b':') > _COLUMN:
-        return [int(line[:line.index(b':')]) for line in lines]
-    return [*map(int, map(itemgetter(slice(_COLUMN)), lines))]  # (each has the same width)
-
-
 class Small:
     """A small pickle that is read to its end, and a session about it. It has what a document has of it."""
 
@@ -70,7 +58,7 @@ class Small:
         if len(content) > MOST:
             return None
         with Asked(content, None, None) as asked:
-            lines = _Opcodes(content, asked.lines(['list', '--many']))
+            lines = _Opcodes(content, asked.lines(['list', '--json', '--many']))
             return None if _READONLY in lines.codes else cls(content, lines, asked.lines(['objects', '--json', '--many']))
 
     def __init__(self, content: bytes, lines: _Opcodes, objects: bytes) -> None:

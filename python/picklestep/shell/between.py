@@ -10,17 +10,19 @@ from __future__ import annotations
 
 import sys
 from bisect import bisect_right
-from typing import Any, Dict, List, NamedTuple, Optional, Protocol, Sequence, Tuple
+from typing import Any, Dict, List, NamedTuple, Optional, Protocol, Sequence, Tuple, Union
 
 from ..arguments import ArgumentValue, encoded
 from ..document import MOST_EXACT, MOST_TEXT, Done, Reaches
-from ..lines import CODE_BY_NAME, Line, Lines, Makers, OpcodeLines, lines_of
+from ..lines import CODE_BY_NAME, CUT, Line, Makers, OpcodeLines, cut_text
+from ..object_lines import ObjectLines, read_objects
+from ..listed import Fields
 from ..opcodes import TABLE
 from ..printed import offset_of
-from ..replies import is_mark
+from ..records import Ref
+from ..session_records import Mark
 from ..tasks import listing, objects
-from ..texts import (behind_word, end_of_line, frame_length, key_in, kind_in, line_of, mark_in, moved_line, readonly_count, with_mark,
-                     without_number)
+from ..texts import behind_word, end_of_line, frame_length, key_in, line_of, mark_in, moved_line, with_mark
 from ..values import PLAIN_KINDS
 
 __all__ = ['MOST_EDITS', 'Between', 'Objects', 'Put', 'Unknown', 'is_known_edit', 'line_put']
@@ -42,7 +44,6 @@ _NEAR = [CODE_BY_NAME[name] for name in ('APPEND', 'SETITEM', 'BUILD', 'POP', 'D
 _PUSHES = frozenset(each.code for each in TABLE if not each.takes and each.leaves not in ('', 'mark'))
 _GETS = [(CODE_BY_NAME[name], name.encode('ascii')) for name in ('GET', 'BINGET', 'LONG_BINGET')]
 _POP, _FRAME, _READONLY = (CODE_BY_NAME[name] for name in ('POP', 'FRAME', 'READONLY_BUFFER'))
-_HEAD = 40  # (letters that have the number and the kind of an object)
 
 
 class Unknown(Exception):
@@ -50,19 +51,19 @@ class Unknown(Exception):
 
 
 class Put(NamedTuple):
-    """What an edit puts: its line in a listing of it alone, its bytes, and the line of its object alone. Of what goes all are empty."""
+    """What an edit puts: its line in a listing of it alone, its bytes, and its object alone. Of what goes all are empty."""
 
     line: str
     data: bytes
-    object: str
+    object: ObjectLines
 
     @classmethod
     def of(cls, word: str, name: str, values: Sequence[ArgumentValue], raw: Optional[bytes]) -> Put:
         """What an edit puts that pushes a plain value."""
         if word == 'delete':
-            return cls('', b'', '')
+            return cls('', b'', ObjectLines())
         data = bytes_put(name, values, raw)
-        return cls(line_put(name, values, raw), data, lines_of(objects(data).text).raw(0))
+        return cls(line_put(name, values, raw), data, read_objects([objects(data).json]))
 
 
 def bytes_put(name: str, values: Sequence[ArgumentValue], raw: Optional[bytes]) -> bytes:
@@ -72,7 +73,7 @@ def bytes_put(name: str, values: Sequence[ArgumentValue], raw: Optional[bytes]) 
 
 def line_put(name: str, values: Sequence[ArgumentValue], raw: Optional[bytes]) -> str:
     """The same, as a listing shows it."""
-    return lines_of(listing(bytes_put(name, values, raw)).text).raw(0)
+    return cut_text(listing(bytes_put(name, values, raw)).text.partition('\n')[0], CUT)
 
 
 class _Piece(NamedTuple):
@@ -100,7 +101,7 @@ class Stepped(Protocol):
     def reach(self, place: int) -> int:
         """Steps over the opcode at a place, and answers up to which place it has stepped."""
 
-    def stack_at(self, place: int) -> List[str]:
+    def stack_at(self, place: int) -> Tuple[Union[Ref, Mark], ...]:
         """What is on the stack at a place, from the bottom."""
 
     def stores_of(self, number: int) -> List[int]:
@@ -110,9 +111,9 @@ class Stepped(Protocol):
 class Between:
     """What is known after edits of a pickle that was read before them: its opcodes as a listing has them, and its objects."""
 
-    def __init__(self, lines: OpcodeLines, final: Lines, reaches: Reaches, edits: Sequence[Done], codes: bytes, session: Stepped) -> None:
+    def __init__(self, lines: OpcodeLines, final: ObjectLines, reaches: Reaches, edits: Sequence[Done], codes: bytes, session: Stepped) -> None:
         self._lines, self._final, self._reaches, self._session = lines, final, reaches, session
-        self._stack: Optional[List[str]] = None
+        self._stack: Optional[Tuple[Union[Ref, Mark], ...]] = None
         self._pieces = _pieces_after(lines, edits)
         if not self._pieces:
             raise Unknown
@@ -123,7 +124,7 @@ class Between:
         ends = {0, *(piece.old for piece in old), *(piece.old + piece.length for piece in old), len(lines)} - {0, len(lines)}
         self._edited = sorted(ends if begins else {0, *ends})
         self.makers = Makers(codes)
-        self.makers.finish(lambda: readonly_count(final.all()), lambda place, number: False)
+        self.makers.finish(final.readonly_count, lambda place, number: False)
         self._codes = codes
         self._is_same = _are_same(lines, final, edits)
         self._made = lines.makers.before(self._first)
@@ -217,8 +218,8 @@ class Between:
         """Whether an object is among those that the session has made."""
         return number < self.makers.before(self.sure)
 
-    def object_line(self, number: int) -> str:
-        """The line of an object as it is at the end, of one that was made before the cursor."""
+    def object_at(self, number: int) -> Tuple[ObjectLines, int]:
+        """Where an object is as it is at the end, of one that was made before the cursor: these lines have it by this number."""
         old = number
         if not self.has_made(number):
             raise Unknown
@@ -226,17 +227,15 @@ class Between:
             place = self.makers.place(number)
             piece = self._piece(place)
             if piece.put is not None:
-                return _whole(f'#{number} {without_number(piece.put.object)}', piece.put.object)
+                return _short(piece.put.object, 0)
             old = self._lines.makers.before(piece.old + place - piece.place)
         if old >= len(self._final):
             raise Unknown
-        begin, end = self._final.span(old)
-        kind = kind_in(self._final.text[begin:min(begin + _HEAD, end)].decode('ascii'))
+        kind = self._final.kind(old)
         is_known = self._is_same or kind in _STAY or kind == 'tuple' and number < self._made
         if not is_known and not (number < self._made and self._is_left(number)):
             raise Unknown
-        line = self._final.brief(old) if end - begin > _LONGEST else self._final.raw(old)
-        return _whole(f'#{number} {without_number(line)}', line if number != old else '')
+        return (self._final, old) if number == old else _short(self._final, old)
 
     def _is_left(self, number: int) -> bool:
         """Whether an object that was made before the edits is surely not changed behind them, as it surely was not before there were any.
@@ -246,16 +245,16 @@ class Between:
         """
         if number not in self._stays:
             is_near = any(self._codes.find(code, self._first) >= 0 for code in _NEAR)
-            self._stays[number] = not is_near and self._is_covered(f'#{number}') and not self._is_got(number)
+            self._stays[number] = not is_near and self._is_covered(Ref(number)) and not self._is_got(number)
         return self._stays[number]
 
-    def _is_covered(self, word: str) -> bool:
+    def _is_covered(self, made: Ref) -> bool:
         """Whether another object is right above an object, wherever it is on the stack before the edits, or comes there by the next opcode."""
         if self._stack is None:
             self._stack = self._session.stack_at(self._first)
-        above = [self._stack[at + 1] if at + 1 < len(self._stack) else None for at, entry in enumerate(self._stack) if entry == word]
+        above = [self._stack[at + 1] if at + 1 < len(self._stack) else None for at, entry in enumerate(self._stack) if entry == made]
         is_pushed = self._first < len(self._codes) and {self._codes[self._first], self._lines.makers.codes[self._first]} <= _PUSHES
-        return all(is_pushed if entry is None else not is_mark(entry) for entry in above)
+        return all(is_pushed if entry is None else isinstance(entry, Ref) for entry in above)
 
     def _is_got(self, number: int) -> bool:
         """Whether an object may be got from the memo behind the edits, or is stored there."""
@@ -295,17 +294,25 @@ class Objects:
     def __getattr__(self, name: str) -> Any:
         raise Unknown(name)
 
-    def raw(self, number: int) -> str:
-        """The line of an object."""
-        return self._between.object_line(number)
+    def kind(self, number: int) -> str:
+        """The kind of an object."""
+        lines, at = self._between.object_at(number)
+        return lines.kind(at)
 
-    def brief(self, number: int) -> str:
-        """The same."""
-        return self._between.object_line(number)
+    def fields(self, number: int) -> Fields:
+        """The fields of an object."""
+        lines, at = self._between.object_at(number)
+        return {**lines.fields(at), 'object': number}
 
-    def span(self, number: int) -> Tuple[int, int]:
-        """Where the line begins and ends."""
-        return 0, len(self._between.object_line(number))
+    def is_long(self, number: int, most: int) -> bool:
+        """Whether the text of an object has more letters than these."""
+        lines, at = self._between.object_at(number)
+        return lines.is_long(at, most)
+
+    def shown(self, number: int) -> str:
+        """The text of an object without its number."""
+        lines, at = self._between.object_at(number)
+        return lines.shown(at)
 
 
 def _pieces_after(lines: OpcodeLines, edits: Sequence[Done]) -> List[_Piece]:
@@ -346,15 +353,22 @@ def _placed(lines: OpcodeLines, parts: Sequence[Tuple[int, int, Optional[Put]]])
     return pieces
 
 
-def _are_same(lines: OpcodeLines, final: Lines, edits: Sequence[Done]) -> bool:
+def _are_same(lines: OpcodeLines, final: ObjectLines, edits: Sequence[Done]) -> bool:
     """Whether each edit replaces a value by one of the same kind: the machine goes on as before."""
     for edit in edits:
         if edit.what != 'replace':
             return False
         number = lines.makers.before(edit.place)
-        if number >= len(final) or kind_in(final.brief(number)) != kind_in(edit.put.object):
+        if number >= len(final) or final.kind(number) != edit.put.object.kind(0):
             return False
     return True
+
+
+def _short(lines: ObjectLines, at: int) -> Tuple[ObjectLines, int]:
+    """An object that has another number. Where a text in it may have been cut elsewhere it is unknown."""
+    if lines.is_long(at, _LONGEST):
+        raise Unknown
+    return lines, at
 
 
 def _whole(line: str, was: str) -> str:

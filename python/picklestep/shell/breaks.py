@@ -10,11 +10,11 @@ from heapq import merge
 from typing import Callable, Dict, Iterable, Iterator, Optional, Tuple
 
 from ..document import around, in_a_line
+from ..edits import unquoted
 from ..errors import Refused
 from ..lines import CODE_BY_NAME
 from ..opcodes import BY_NAME
 from ..texts import has_key
-from .edits import unquoted
 from .expressions import Expression, dotted
 from .opened import Opened
 

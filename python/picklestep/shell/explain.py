@@ -2,11 +2,12 @@
 
 from __future__ import annotations
 
-from typing import List, Optional, Sequence, Tuple
+from typing import List, Optional, Sequence, Tuple, Union
 
 from ..opcodes import BY_NAME
 from ..plain import plainly
-from ..replies import is_mark, number_in_word, words_of
+from ..records import Ref
+from ..session_records import Mark
 from .opened import Opened
 
 __all__ = ['explained', 'taken']
@@ -24,7 +25,7 @@ def explained(pickle: Opened, place: int, stack: Optional[str]) -> List[str]:
     with pickle.before(place) as is_there:
         if number is not None:
             made = pickle.final_object(number)
-            takes = _numbered(pickle, [f'#{part}' for part in made.parts] if made is not None else [])
+            takes = _numbered(pickle, made.parts if made is not None else ())
             rows.append(f'it makes #{number}' + (f' of {takes}' if takes else ''))
         else:
             why = pickle.refusal() if is_there else ''
@@ -36,38 +37,41 @@ def explained(pickle: Opened, place: int, stack: Optional[str]) -> List[str]:
 def _taken_here(pickle: Opened, name: str) -> str:
     """What an opcode at the cursor takes from the stack."""
     shown = []
-    for word, entries in taken(name, words_of(pickle.session.ask('stack'))):
-        if entries and is_mark(entries[0]):
-            shown.append(f'the mark of {number_in_word(entries[0])}')
+    for word, entries in taken(name, pickle.session.stack()):
+        if entries and isinstance(entries[0], Mark):
+            shown.append(f'the mark of {entries[0].place}')
         elif entries:
-            shown.append(f'{word.partition(" or ")[0]} {_numbered(pickle, entries)}')
+            shown.append(f'{word.partition(" or ")[0]} {_numbered(pickle, [entry.number for entry in entries if isinstance(entry, Ref)])}')
     return ', '.join(shown)
 
 
-def _numbered(pickle: Opened, objects: Sequence[str]) -> str:
+def _numbered(pickle: Opened, objects: Sequence[int]) -> str:
     """Objects by their numbers, the first of them."""
     more = [f'.. {len(objects) - _MOST_TAKEN} more'] if len(objects) > _MOST_TAKEN else []
-    return ', '.join([f'{each} {pickle.described(number_in_word(each), 0)}' for each in objects[:_MOST_TAKEN]] + more)
+    return ', '.join([f'#{each} {pickle.described(each, 0)}' for each in objects[:_MOST_TAKEN]] + more)
 
 
-def taken(name: str, stack: Sequence[str]) -> List[Tuple[str, Sequence[str]]]:
-    """What an opcode takes from a stack, whose entries are the words of `stack`: each by its word in the table. Nothing where it is refused.
+_Entries = Sequence[Union[Ref, Mark]]
 
-    >>> taken('APPENDS', ['#0', '(2', '#1', '#2'])
-    [('list', ['#0']), ('mark', ['(2']), ('items', ['#1', '#2'])]
-    >>> taken('TUPLE1', ['#0', '(2'])
+
+def taken(name: str, stack: _Entries) -> List[Tuple[str, _Entries]]:
+    """What an opcode takes from a stack: each by its word in the table. Nothing where it is refused.
+
+    >>> taken('APPENDS', [Ref(0), Mark(2), Ref(1), Ref(2)])
+    [('list', [Ref(number=0)]), ('mark', [Mark(place=2)]), ('items', [Ref(number=1), Ref(number=2)])]
+    >>> taken('TUPLE1', [Ref(0), Mark(2)])
     []
     """
     words = BY_NAME[name].takes.split(', ')
     place = len(stack) - len(words)
     if 'mark' in words:
-        place = next((at for at in range(len(stack) - 1, -1, -1) if is_mark(stack[at])), -1) - words.index('mark')
+        place = next((at for at in range(len(stack) - 1, -1, -1) if isinstance(stack[at], Mark)), -1) - words.index('mark')
     if place < 0:
         return []
-    found: List[Tuple[str, Sequence[str]]] = []
+    found: List[Tuple[str, _Entries]] = []
     for word in words:
         end = len(stack) if word.endswith(_ANY_NUMBER) else place + 1
-        if word != 'object or mark' and any(is_mark(entry) != (word == 'mark') for entry in stack[place:end]):
+        if word != 'object or mark' and any(isinstance(entry, Mark) != (word == 'mark') for entry in stack[place:end]):
             return []
         found.append((word[:-len(_ANY_NUMBER)] if word.endswith(_ANY_NUMBER) else word, stack[place:end]))
         place = end

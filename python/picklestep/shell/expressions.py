@@ -17,7 +17,6 @@ from ..heaps import Heap
 from ..listing_records import Change, Object
 from ..patterns import pattern
 from ..records import Extension, Global, Name, Ref
-from ..replies import is_mark, last_words, number_in_word
 from ..session_records import Mark
 from ..texts import opcode_of
 from ..trees import Values
@@ -286,7 +285,7 @@ class _At:
         if isinstance(node.func, ast.Name) and node.func.id == 'len':
             return len(self.plain(value))
         if isinstance(value, Ref):
-            return self._pickle.final_brief(value.number).partition(' ')[0]
+            return self._pickle.final_kind(value.number)
         return _KINDS.get(type(value), type(value).__name__)
 
     def _many(self, node: Union[ast.Tuple, ast.List, ast.Set]) -> Any:
@@ -318,10 +317,10 @@ def _renumbered(made: Object, at: Dict[int, int]) -> Object:
 
 
 def _top(pickle: Opened) -> Union[Ref, Mark]:
-    words, _ = last_words(pickle.session.ask('stack'), 1)
-    if not words:
+    top = pickle.session._stack().last(1)
+    if not top:
         raise LookupError('top')
-    return Mark(number_in_word(words[0])) if is_mark(words[0]) else Ref(number_in_word(words[0]))
+    return top[0]
 
 
 def _result(pickle: Opened) -> Ref:
@@ -349,4 +348,4 @@ NAMES: Dict[str, Callable[[Opened], Any]] = {
     'top': _top, 'stack': lambda pickle: _Stack(pickle.session.stack()),
     'memo': lambda pickle: _Memo({key: Ref(number) for key, number in pickle.session.memo().items()}), 'result': _result, 'opcode': _opcode,
     'argument': _argument, 'place': lambda pickle: pickle.session.where().place, 'offset': lambda pickle: pickle.session.where().offset,
-    'marks': lambda pickle: sum(isinstance(entry, Mark) for entry in pickle.session.stack())}
+    'marks': lambda pickle: pickle.session.where().marks}

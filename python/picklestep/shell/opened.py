@@ -5,29 +5,33 @@ from __future__ import annotations
 import contextlib
 import threading
 from itertools import islice
-from typing import Any, Callable, Dict, Iterator, List, NamedTuple, Optional, Sequence, Tuple
+from typing import Any, Callable, Dict, Iterator, List, NamedTuple, Optional, Sequence, Tuple, Union
 
 from ..changes import changed
 from ..comparing import shown_value
 from ..document import Document, Done, Reaches, places_edited
+from ..edits import Edit
 from ..errors import NoResult, Refused
 from ..later import Later
-from ..lines import CODE_BY_NAME, Line, Lines, OpcodeLines, silent
+from ..lines import CODE_BY_NAME, Line, OpcodeLines, silent
 from ..listing_records import Object
+from ..made import object_of
+from ..object_lines import HeldObject, ObjectLines
 from ..part import Part
 from ..python_source.shapes import BRACKETS
 from ..records import Global, Ref
-from ..replies import opcode_refused_in, words_of
 from ..session import SHIFTS
-from ..session_records import Where
+from ..session_records import Mark, Where
 from ..sources import Input, Source
-from ..texts import LinesError, behind_word, count_held, end_of_texts, held_in, key_in, object_of, readonly_count
+from ..texts import behind_word, key_in
 from ..values import PLAIN_KINDS, kind_value
 from .between import MOST_EDITS, Between, Objects, Put, Unknown, is_known_edit
-from .edits import Edit
 from .history import History
 
-__all__ = ['Opened']
+__all__ = ['REFUSED', 'Opened']
+
+# What stands before why an opcode is refused, where a run says it.
+REFUSED = 'refused, '
 
 _MOST_ITEMS = 4
 _MOST_KEY = 4  # levels of tuples and frozen sets
@@ -46,7 +50,7 @@ class _Read(NamedTuple):
 
     content: bytes
     lines: OpcodeLines
-    final: Lines
+    final: ObjectLines
     reaches: Reaches
     listed: int
     history: Optional[Later[History]]
@@ -170,7 +174,7 @@ class Opened(Part):
             self._history = read.history
         else:
             here = self.session.where().place
-            self._makers.finish(lambda: readonly_count(self._final.all()), self._makes_object)
+            self._makers.finish(self._final.readonly_count, self._makes_object)
             self.session.goto(here)
             self._follow()
 
@@ -210,10 +214,10 @@ class Opened(Part):
         with self._at(end):
             return end
 
-    def stack_at(self, place: int) -> List[str]:
+    def stack_at(self, place: int) -> Tuple[Union[Ref, Mark], ...]:
         """What is on the stack at a place, from the bottom."""
         with self._at(place):
-            return words_of(self.session.ask('stack'))
+            return self.session.stack()
 
     def stores_of(self, number: int) -> List[int]:
         """The places at which an object is stored, as it was before edits that are not read yet."""
@@ -251,7 +255,7 @@ class Opened(Part):
                 lines, final, reaches, listed = self._lists(given, len(codes), None, progress)
         history = None
         if _READONLY not in codes:
-            lines.makers.finish(lambda: readonly_count(final.all()), lambda place, number: False)
+            lines.makers.finish(final.readonly_count, lambda place, number: False)
             history = self._later_history(lines, listed, edition)
         return _Read(content, lines, final, reaches, listed, history)
 
@@ -474,7 +478,7 @@ class Opened(Part):
         try:
             self.session.step()
         except Refused as error:
-            return opcode_refused_in(error.text)
+            return error.refusal
         self.session.back()
         return ''
 
@@ -537,29 +541,23 @@ class Opened(Part):
 
     def is_plain(self, number: int) -> bool:
         """Whether an object is a plain value."""
-        return self.final_brief(number).partition(' ')[0] in PLAIN_KINDS
+        return self.final_kind(number) in PLAIN_KINDS
 
     def is_short(self, number: int) -> bool:
         """Whether an object holds so little that an expression looks at all of it."""
-        return _size(self._final, number) <= _MOST_HELD
+        return not self._final.is_long(number, _MOST_HELD)
 
     def object_at(self, number: int) -> Optional[Object]:
         """An object, unless its text is so long that it was not kept whole."""
         heap = self._objects()
-        if not 0 <= number < len(heap) or _size(heap, number) > _MOST_LINE:
-            return None
-        try:
-            return object_of(heap.raw(number))
-        except (LinesError, ValueError):
-            return None
+        return None if not 0 <= number < len(heap) or heap.is_long(number, _MOST_LINE) else object_of(heap.fields(number))
 
     def held(self, number: int) -> Iterator[Tuple[Optional[int], str, int]]:
         """What an object holds: for each the object that is its key, if it has one, how it was put in, and its number."""
         heap = self._objects()
-        begin, end = self._held_span(number)
         keys: List[int] = []
-        is_dict = self._is_dict(number)
-        for place, held in enumerate(held_in(heap.text, begin, end)):
+        is_dict = self.kind(number) == 'dict'
+        for place, held in enumerate(heap.held(number) if 0 <= number < len(heap) else ()):
             if held.how == 'key' or is_dict and not held.how and not place % 2:
                 keys.append(held.number)
             else:
@@ -568,23 +566,28 @@ class Opened(Part):
     def held_count(self, number: int) -> int:
         """How many there are of these."""
         heap = self._objects()
-        begin, end = self._held_span(number)
-        return count_held(heap.text, begin, end, self._is_dict(number))
+        return heap.held_count(number) if 0 <= number < len(heap) else 0
 
-    def _held_span(self, number: int) -> Tuple[int, int]:
-        """Where the line of an object names what it holds."""
+    def first_held(self, number: int, most: int) -> Tuple[List[HeldObject], int]:
+        """The first of what an object holds, each key apart, and how many there are besides."""
         heap = self._objects()
         if not 0 <= number < len(heap):
-            return 0, 0
-        begin, end = heap.span(number)
-        return end_of_texts(heap.text, begin, end) + 1, end
+            return [], 0
+        first = list(islice(heap.held(number), most))
+        return first, heap.held_count(number, apart=True) - len(first)
 
-    def _is_dict(self, number: int) -> bool:
-        return self.brief(number).partition(' ')[0] == 'dict'
+    def kind(self, number: int) -> str:
+        """The kind of an object, if there is such an object."""
+        heap = self._objects()
+        return heap.kind(number) if 0 <= number < len(heap) else ''
+
+    def final_kind(self, number: int) -> str:
+        """The kind of an object of this number, wherever the cursor is."""
+        return self._final.kind(number)
 
     def final_object(self, number: int) -> Optional[Object]:
         """An object as it is at the end, unless its line is long."""
-        return None if _size(self._final, number) > _MOST_LINE else object_of(self._final.raw(number))
+        return None if self._final.is_long(number, _MOST_LINE) else object_of(self._final.fields(number))
 
     def described(self, number: int, depth: int = 1) -> str:
         """An object in a few words: its value, or what is called."""
@@ -673,12 +676,6 @@ _PIECE = 50_000  # (opcodes that are stepped over at once)
 # So far from the cursor something is shown before the pickle is read, and so many opcodes are shown behind one.
 _MOST_AHEAD = 20_000
 _SHOWN_AFTER = 3
-
-
-def _size(lines: Lines, number: int) -> int:
-    """How many letters a line has."""
-    start, end = lines.span(number)
-    return end - start
 
 
 def _more(count: int) -> List[str]:

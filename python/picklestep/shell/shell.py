@@ -12,6 +12,7 @@ from typing import Callable, Dict, List, Optional, Sequence, Tuple
 from ..comparing import compare
 from ..diff import of_reaches
 from ..document import Done
+from ..edits import Edit, EditError, of_object, of_value, of_words
 from ..errors import NoResult, PicklestepError, Refused, reason
 from ..hints import OF_FRAMES, of_array, of_frame
 from ..lines import silent
@@ -21,18 +22,17 @@ from ..plain import plainly
 from ..python_source import source
 from ..records import Ref
 from ..renaming.pairs import names_of, pairs_of
-from ..replies import entry_of, is_mark, last_words, number_in_word, stored_under
+from ..renaming.renames import Renaming, renaming
 from ..session import SHIFTS
+from ..session_records import Mark
 from ..sources import Source
 from .between import Unknown, line_put
 from .breaks import BREAKS, Break, BreakError, is_hit, made_break, next_break
 from .displays import Display, made_display
-from .edits import Edit, EditError, of_object, of_value, of_words
 from .explain import explained
 from .expressions import Expression, ExpressionError, split_condition
 from .nests import behind_mark, behind_next
 from .opened import Opened
-from .renames import Renaming, renaming
 from .shown import MOST_BYTES, latest, question_of_whole, reached, said_of_part, shown_argument, shown_bytes, shown_opcode
 from .words import WORDS, help_page, help_pages, it_is, no_word, understood, whole_word
 
@@ -261,9 +261,10 @@ class Shell:
 
     def _top(self) -> str:
         """The top of the stack, the highest first."""
-        words, before = last_words(self.pickle.session.ask('stack'), _MOST_STACK)
-        shown = [f'mark of {number_in_word(word)}' if is_mark(word) else self.pickle.described(number_in_word(word)) for word in reversed(words)]
-        more = [f'.. {before} more'] if before else []
+        stack = self.pickle.session._stack()
+        top = stack.last(_MOST_STACK)
+        shown = [f'mark of {entry.place}' if isinstance(entry, Mark) else self.pickle.described(entry.number) for entry in reversed(top)]
+        more = [f'.. {len(stack) - len(top)} more'] if len(stack) > len(top) else []
         return ' | '.join(shown + more) or 'empty'
 
     def _now(self) -> Tuple[int, int]:
@@ -543,29 +544,29 @@ class Shell:
         number = self._count(text.lstrip('#'))
         if number >= self._now()[1]:
             raise WordError(f'object #{number} is not made yet')
-        held = self.pickle.holds(number)
+        held, more = self.pickle.first_held(number, _MOST_LINES)
         rows = [f'#{number} {self.pickle.described(number)}']
-        rows += [f'    {what or "of"} #{part} {self.pickle.described(part)}' for what, part, *_ in held['parts'][:_MOST_LINES]]
-        more = held['more'] + max(0, len(held['parts']) - _MOST_LINES)
+        rows += [f'    {how or "of"} #{part} {self.pickle.described(part)}' for how, part in held]
         return '\n'.join(rows + ([f'    .. {more} more'] if more > 0 else []))
 
     def _do_stack(self, text: str) -> str:
         self._here()
-        entries = self.pickle.session.stack()
+        stack = self.pickle.session._stack()
         rows = [f'#{entry.number} {self.pickle.described(entry.number)}' if isinstance(entry, Ref) else f'mark of {entry.place}'
-                for entry in entries[-_MOST_LINES:]]
-        return '\n'.join(([f'.. {len(entries) - _MOST_LINES} below'] if len(entries) > _MOST_LINES else []) + rows) or 'empty'
+                for entry in stack.last(_MOST_LINES)]
+        return '\n'.join(([f'.. {len(stack) - _MOST_LINES} below'] if len(stack) > _MOST_LINES else []) + rows) or 'empty'
 
     def _do_memo(self, text: str) -> str:
         self._here()
-        answer = self.pickle.session.ask('memo')
+        memo = self.pickle.session._memo()
         if text:
-            found = stored_under(answer, self._count(text))
+            found = memo.get(self._count(text))
             if found is None:
                 raise WordError(f'nothing is stored under {text}')
             return f'{text}: #{found} {self.pickle.described(found)}'
-        shown, before = last_words(answer, _MOST_LINES)
-        rows = [f'{key}: #{number} {self.pickle.described(number)}' for key, number in map(entry_of, shown)]
+        shown = memo.last(_MOST_LINES)
+        before = len(memo) - len(shown)
+        rows = [f'{key}: #{number} {self.pickle.described(number)}' for key, number in shown]
         return '\n'.join(([f'.. {before} before'] if before else []) + rows) or 'empty'
 
     def _do_objects(self, text: str) -> str:
@@ -757,7 +758,7 @@ class Shell:
         path = words[0] if words else self._path
         if not path:
             raise WordError('it has no file: save FILE')
-        self.pickle.save(path, True)
+        self.pickle.save(path)
         self._saved, self._saved_bytes = self.pickle.edits_made, self.pickle.content()
         return f'saved {path}'
 

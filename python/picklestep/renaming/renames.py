@@ -7,13 +7,13 @@ from __future__ import annotations
 
 from typing import TYPE_CHECKING, Dict, Iterable, Iterator, List, NamedTuple, Optional, Sequence, Set, Tuple, Union
 
+from ..edits import Edit, EditError, of_value
 from ..opcodes import BY_NAME
 from ..records import Reach
-from ..renaming.pairs import Names, Pairs, encoded_names, names_of
-from .edits import Edit, EditError, of_value
+from .pairs import Names, Pairs, encoded_names, names_of
 
 if TYPE_CHECKING:
-    from ..renaming.small import Small
+    from .small import Small
     from ..document import Document
 
 __all__ = ['Renaming', 'renamed_of', 'renaming', 'renaming_of']

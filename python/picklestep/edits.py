@@ -5,14 +5,14 @@ from __future__ import annotations
 from ast import literal_eval
 from typing import TYPE_CHECKING, Dict, NamedTuple, Optional, Sequence, Union
 
-from ..arguments import ArgumentValue, encoded
-from ..opcodes import BY_NAME
-from ..patterns import pattern
+from .arguments import ArgumentValue, encoded
+from .opcodes import BY_NAME
+from .patterns import pattern
 
 if TYPE_CHECKING:
-    from ..renaming.small import Small
-    from ..document import Document
-    from .opened import Opened
+    from .renaming.small import Small
+    from .document import Document
+    from .shell.opened import Opened
 
 __all__ = ['Edit', 'EditError', 'of_object', 'of_value', 'of_words', 'unquoted']
 
