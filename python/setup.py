@@ -1,7 +1,8 @@
 """Builds the wheels: the package with the released program and the library in it, for one kind of machine.
 
 PICKLESTEP_MACHINE names the kind: linux-x86_64, linux-aarch64, or any, which carries the module for Node. Without it, it is that of the
-machine that builds. PICKLESTEP_PROGRAM names another program to carry, which was built here. The source distribution carries all of them.
+machine that builds. PICKLESTEP_PROGRAM names another program to carry, which was built here. Each has the page of `view`. The source
+distribution carries all of them.
 
 Each carries the licences, with the notices of what is linked into the programs, and the name of the commit that it is made of, where git
 knows it.
@@ -26,6 +27,7 @@ HERE = Path(__file__).resolve().parent
 # In a source distribution they are beside this file, in the repository a folder above.
 RELEASED = next((folder for folder in (HERE / 'dist', HERE.parent / 'dist') if folder.is_dir()), HERE / 'dist')
 TOOLCHAIN = 'linux-x86_64/TOOLCHAIN'
+PAGE = 'picklestep.html'
 # They too are beside this file in a source distribution, and in the repository a folder above.
 LICENCES = ('LICENSE-MIT', 'LICENSE-APACHE', 'THIRD-PARTY')
 COMMIT = 'COMMIT'
@@ -42,13 +44,13 @@ class Machine:
 def linux(machine: str, program: str) -> Machine:
     """The program is static and the library names no C library, so both C libraries of Linux will do, whatever their version."""
     return Machine(f'manylinux_2_17_{machine}.musllinux_1_1_{machine}',
-                   {'picklestep': program, 'libpicklestep.so': f'linux-{machine}-library/lib/libpicklestep.so', 'TOOLCHAIN': TOOLCHAIN})
+                   {'picklestep': program, 'libpicklestep.so': f'linux-{machine}-library/lib/libpicklestep.so', 'TOOLCHAIN': TOOLCHAIN, PAGE: PAGE})
 
 
 MACHINES = {
     'linux-x86_64': linux('x86_64', 'linux-x86_64-static/picklestep'),
     'linux-aarch64': linux('aarch64', 'linux-aarch64/picklestep'),
-    'any': Machine('any', {**{name: name for name in ('picklestep.mjs', 'picklestep.wasm', 'libpicklestep.wasm')}, 'TOOLCHAIN': TOOLCHAIN}),
+    'any': Machine('any', {**{name: name for name in ('picklestep.mjs', 'picklestep.wasm', 'libpicklestep.wasm', PAGE)}, 'TOOLCHAIN': TOOLCHAIN}),
 }
 
 
@@ -71,7 +73,7 @@ def carried() -> Dict[str, Path]:
     """The files that the wheel carries, by their names there."""
     program = own_program()
     if program is not None:
-        files = {'picklestep': program}
+        files = {'picklestep': program, PAGE: RELEASED / PAGE}
         beside = program.with_name('TOOLCHAIN')
         if beside.is_file():
             files['TOOLCHAIN'] = beside

@@ -74,7 +74,7 @@ SEEN = '''(() => {
     const texts = (selector) => [...document.querySelectorAll(selector)].map((each) => each.textContent);
     return { rows: Object.fromEntries([...document.querySelectorAll('.row:not([hidden])')].map((row) =>
             [row.dataset.place, [row.className, row.getAttribute('aria-label'), row.textContent]])),
-        title: document.title, ...Object.fromEntries(['#name', '#where', '#reached', '#closing', '#said', '#stack li', '#memo li', '#objects .thing',
+        title: document.title, ...Object.fromEntries(['#name', '#where', '#reached', '#closing', '#said', '#stack li', '#memo li', '#objects .thing', '#objects .inner .thing',
             '#objects-shown', '#reaches li', '#reaches-shown', '#result .thing', '#result .note', '#source', '#opcode', '#about', '#undo', '#redo']
             .map((selector) => [selector, texts(selector)])), titles: ['undo', 'redo'].map((id) => document.getElementById(id).title),
         readOn: document.querySelector('#read-on').hidden, focus: document.activeElement.id,

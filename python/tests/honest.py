@@ -88,7 +88,7 @@ def _archives(content: bytes) -> None:
         with zipfile.ZipFile(path('zip', 'appended.zip'), mode) as archive:  # type: ignore[arg-type]
             archive.writestr(f'{count}', b'x')
     with zipfile.ZipFile(path('zip', 'nested.zip'), 'w') as archive:
-        archive.write(path('zip', 'method_8.zip'), 'inner.zip')
+        archive.write(path('zip', 'method_0.zip'), 'inner.zip')
     for format, pack in itertools.product((tarfile.USTAR_FORMAT, tarfile.GNU_FORMAT, tarfile.PAX_FORMAT), ('', ':gz', ':bz2', ':xz')):
         with tarfile.open(path('tar', f'format_{format}.tar{pack.replace(":", ".")}'), 'w' + pack, format=format) as archive:  # type: ignore[call-overload]
             for name, each in members:
@@ -96,7 +96,7 @@ def _archives(content: bytes) -> None:
                 told.size, told.mtime = len(each), 1_600_000_000
                 archive.addfile(told, io.BytesIO(each))
     with tarfile.open(path('tar', 'inner.tar'), 'w') as archive:
-        archive.add(path('zip', 'method_8.zip'), 'last.zip')
+        archive.add(path('zip', 'method_0.zip'), 'last.zip')
     with tarfile.open(path('tar', 'nothing.tar'), 'w'):
         pass
 

@@ -10,9 +10,9 @@ from pickles import ROOT
 
 sys.path.append(str(ROOT / 'equipment'))
 
-from json_of_texts import of_listing, of_objects  # noqa: E402
+from json_of_texts import of_listing, of_object, of_objects  # noqa: E402
 
-__all__ = ['listed', 'made']
+__all__ = ['listed', 'made', 'of_object']
 
 
 def listed(text: str) -> bytes:

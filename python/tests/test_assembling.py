@@ -6,6 +6,7 @@ import collections
 import datetime
 import math
 import pickle
+import pickletools
 import random
 import struct
 import subprocess
@@ -53,6 +54,30 @@ class Texts(unittest.TestCase):
         lines += [f'INT {-7}', f'LONG {2 ** 70}L', f'FLOAT {1e300!r}', '7: # INT 8']
         wanted += [b'I-7\n', b'L%dL\n' % 2 ** 70, b'F1e+300\n']
         self.assertEqual(picklestep.assemble('\n'.join(lines)), b''.join(wanted))
+
+    def test_labels(self) -> None:
+        """Keys count up from above those in digits, in the order in which labels come first. `pickletools` reads the keys, and Python the objects."""
+        text = ('PROTO 2\nEMPTY_LIST\nBINPUT all\nMARK\nBINUNICODE \'x\'\n 3: q BINPUT _x1\t# a note\nNONE\nLONG_BINPUT 6 # a key\nGET _x1\nBINGET 6\n'
+                'BINUNICODE "BINPUT other"\n9: # PUT not_this\nPUT X1\nLONG_BINGET X1\nAPPENDS\nBINGET all\nAPPEND\nSTOP')
+        data = picklestep.assemble(text)
+        keys = [(opcode.name, argument) for opcode, argument, _ in pickletools.genops(data) if 'GET' in opcode.name or 'PUT' in opcode.name]
+        self.assertEqual(keys, [('BINPUT', 7), ('BINPUT', 8), ('LONG_BINPUT', 6), ('GET', 8), ('BINGET', 6), ('PUT', 9), ('LONG_BINGET', 9), ('BINGET', 7)])
+        made = pickle.loads(data)
+        self.assertEqual(made[:-1], ['x', None, 'x', None, 'BINPUT other', 'BINPUT other'])
+        self.assertIs(made[-1], made)
+        many = 300
+        text = ''.join(f'NONE\nPUT l{number}\nPOP\n' for number in range(many)) + f'GET l{many - 1}\nSTOP\n'
+        self.assertEqual(picklestep.assemble(text), b''.join(b'Np%d\n0' % number for number in range(many)) + b'g%d\n.' % (many - 1))
+
+    def test_labels_that_are_refused(self) -> None:
+        """A key that does not fit, MEMOIZE beside labels, and words that are no labels."""
+        large, number = "the number does not fit into the opcode's bytes", 'the opcode wants a whole number'
+        for text, line, why in (('NONE\nLONG_BINPUT 255\nBINPUT a\nSTOP', 3, large), ('NONE\nPUT 18446744073709551615\nPUT a\nSTOP', 3, number),
+                                ('NIL\nMEMOIZE\nBINGET a\nMEMOIZE', 2, 'MEMOIZE counts keys by itself, and the text has labels'), ('NONE\nMEMOIZE\nGET 1a', 3, number),
+                                ('GET a-b', 1, number), ('GET \xe9', 1, number), ('GET', 1, number), ('BININT1 a', 1, number), ('GET a b', 1, 'the line goes on behind the argument')):
+            with self.subTest(text), self.assertRaises(picklestep.NotAssembled) as raised:
+                picklestep.assemble(text)
+            self.assertEqual((raised.exception.line, raised.exception.text), (line, why))
 
     def test_what_is_refused(self) -> None:
         """It is said which line is none, and why."""

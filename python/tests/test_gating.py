@@ -33,7 +33,6 @@ from picklestep.scan import Judge, passing
 from picklestep.scan.allow import read_lines
 from picklestep.scan.blobs import Blob, Budget, PartMet
 from picklestep.scan.names import Names, NoList
-from picklestep.texts import LinesError
 from pickles import real_pickles
 from real_files import KEPT
 from scan_support import HARMLESS, HOSTILE, MODELS, ScanCase, environment, looks_at

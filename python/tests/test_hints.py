@@ -190,7 +190,7 @@ class InThePage(InChromium):
             path = self.file(f'{number}.pickle', data)
             with contextlib.closing(Document(path, path.name)) as document:
                 closing: List[str] = document.lines.closing
-                written = document.source()['source']
+                written = list(picklestep.source(data))[:1000]
             self.give(path)
             self.assertEqual(self.texts('#closing'), ['; '.join(closing)])
             self.assertRegex(closing[-1], '`picklestep (scan|source --unframed) FILE`')

@@ -57,7 +57,8 @@ def named() -> Set[str]:
     found = {f'{word}-{kind}' for word, text in re.findall(r'^## (list|objects|form|reach|gate)\b(.*?)(?=^## )', PAGE, re.MULTILINE | re.DOTALL)
              for kind in re.findall(r'`{"kind":"(\w+)",\.\.}`', text)}
     calls = PAGE.partition('\n## calls\n')[2].partition('\n## ')[0]
-    for word, text in (('calls', calls.partition('**Texts.**')[0]), ('value', calls.partition('**Operands.**')[2])):
+    debug = PAGE.partition('\n## debug\n')[2].partition('\n### ')[0]
+    for word, text in (('calls', calls.partition('**Texts.**')[0]), ('value', calls.partition('**Operands.**')[2]), ('debug', debug)):
         found |= {f'{word}-{kind.replace("_", "-")}' for row in re.findall(r'^\| (`.*?) \|', text, re.MULTILINE) for kind in re.findall('`([a-z_-]+)`', row)}
     return found
 
@@ -74,6 +75,18 @@ def verdicts() -> Iterator[str]:
         for path, content in zip(given, (b'os.path.*', *contents)):
             path.write_bytes(content)
         yield from run_program(['gate', '--json', *map(str, given)]).decode('ascii').splitlines()
+
+
+def conversations() -> Iterator[str]:
+    """Lines of `debug`: to scripts of the rows of conversations, and to questions after them."""
+    rows = (ROOT / 'equipment' / 'conversations.txt').read_text('ascii')
+    with tempfile.TemporaryDirectory() as folder:
+        path = Path(folder, 'a.pickle')
+        for data, text in re.findall(r'^pickle (.*)\n((?:.*\n)*?)(?=\n[A-Z]|\Z)', rows, re.MULTILINE):
+            path.write_bytes(bytes.fromhex(data))
+            script = ''.join(f'{line}\nwhere\nstack\nmemo\nitems\nobjects\nbreaks\nitems 1 3\nobjects 1 3\nshow 0\nshow 99\n'
+                             for line in re.findall(r'^debug> (.*)$', text, re.MULTILINE))
+            yield from run_program(['debug', '--json', str(path)], script=f'{script}\ngoto @999\nquit\n'.encode()).decode('ascii').splitlines()
 
 
 def archive(content: bytes) -> bytes:
@@ -96,7 +109,7 @@ class Lines(unittest.TestCase):
 
     @classmethod
     def setUpClass(cls) -> None:
-        cls.printed = {'list': {}, 'objects': {}, 'form': {}, 'reach': {}, 'gate': {form_of(line): line for line in verdicts()}, 'calls': {}, 'value': {}}
+        cls.printed = {'list': {}, 'objects': {}, 'form': {}, 'reach': {}, 'gate': {form_of(line): line for line in verdicts()}, 'debug': {form_of(line): line for line in conversations()}, 'calls': {}, 'value': {}}
         for data in chosen(pickles(), 30):
             with Asked(data, None, None, is_opened=False) as asked:
                 for words in ASKED:
@@ -120,7 +133,7 @@ class Lines(unittest.TestCase):
                     self.assertEqual(not any(faults({'$ref': f'#/definitions/{word}'}, other, whole=SCHEMA)), fits, (line, other))
 
     def test_kinds_and_fields(self) -> None:
-        self.assertEqual({name for name in SCHEMA['definitions'] if re.match('(?:list|objects|form|reach|gate|calls|value)-', name)}, named())
+        self.assertEqual({name for name in SCHEMA['definitions'] if re.match('(?:list|objects|form|reach|gate|calls|value|debug)-', name)}, named())
         found = {f'{word}-{json.loads(line)["kind"].replace("_", "-")}' for word, lines in self.printed.items() for line in lines.values()}
         found.add('calls-too-many-ways')  # (no pickle of these has so many)
         self.assertEqual(found - named(), set())
@@ -131,6 +144,17 @@ class Lines(unittest.TestCase):
                 with self.subTest(name, field=field):
                     self.assertRegex(SCHEMA['definitions'].get(given.get('$ref', '').rpartition('/')[2], given)['description'], r'^[A-Z].*\.$')
                     self.assertIn(f'`{re.sub("^(?:for_module|for_name|name|line|value)_", "module_", field).replace("_more", "")}`', PAGE)
+
+    def test_lines_with_json_alone(self) -> None:
+        """Without --json such a line is refused; with it if a number is missing or none, or if a word is one too many."""
+        asked = {'breaks': ('X1', ''), 'items 1 2': ('X6', ''), 'objects 1 2': ('X6', ''), 'breaks 1': ('X1', 'X6'), 'items 1': ('X6', 'X2'), 'items x': ('X6', 'X3'), 'items 1 x': ('X6', 'X3'),
+                 'items 1 2 3': ('X6', 'X6'), 'objects 1': ('X6', 'X2'), 'objects @1 2': ('X6', 'X3'), f'items 1 {2 ** 64}': ('X6', 'X3'), f'objects 0 {2 ** 64 - 1}': ('X6', '')}
+        with tempfile.TemporaryDirectory() as folder:
+            path, script = Path(folder, 'a.pickle'), ''.join(f'{line}\n' for line in asked).encode()
+            path.write_bytes(b'N.')
+            text, lines = (run_program(['debug', *options, str(path)], script=script).decode('ascii').splitlines() for options in ((), ('--json',)))
+        self.assertEqual(re.findall(r'^refused: (X\d)', '\n'.join(text), re.MULTILINE), [code for code, _ in asked.values()])
+        self.assertEqual([json.loads(line).get('code', '') for line in lines], [code for _, code in asked.values()])
 
     def test_example(self) -> None:
         """The lines of Python on the page."""

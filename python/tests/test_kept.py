@@ -60,15 +60,15 @@ class KeptSessions(unittest.TestCase):
                 session, out = self.opened(path.read_bytes(), *modes), Path(folder, 'out')
                 answers = b''.join([session.ask(each.encode()) for each in lines])
                 script = ''.join(f'{each}\n' for each in lines).encode()
-                self.assertEqual(answers, run_program(['debug', str(path), *modes, '--save', str(out)], script=script))
+                self.assertEqual(answers, run_program(['debug', '--json', str(path), *modes, '--save', str(out)], script=script))
                 self.assertEqual(session.content(), out.read_bytes())
 
     def test_a_long_answer(self) -> None:
         """It has no room at first; the line is obeyed once."""
         session = self.opened(b'N' * 20_000 + b'.')
-        self.assertEqual(session.ask(b'step'), b'at 1\n')
+        self.assertEqual(session.ask(b'step'), at(1))
         self.assertGreater(len(session.ask(b'items')), 1 << 18)
-        self.assertEqual(session.ask(b'step'), b'at 2\n')
+        self.assertEqual(session.ask(b'step'), at(2))
         session.ask(b'insert 3 BINUNICODE ' + (b'\0\x30\0\0' + b'x' * 0x3000).hex().encode())
         session.ask(b'goto 4')
         self.assertEqual(len(session.content()), 20_001 + 5 + 0x3000)
@@ -90,8 +90,8 @@ class KeptSessions(unittest.TestCase):
 
     def test_lines_that_say_nothing(self) -> None:
         session = self.opened(b'N.')
-        self.assertEqual((session.ask(b''), session.ask(b'quit'), session.ask(b'step')), (b'', b'', b'at 1\n'))
-        self.assertEqual(session.ask(b'\xff\0'), b'refused: X1 unknown word\n')
+        self.assertEqual((session.ask(b''), session.ask(b'quit'), session.ask(b'step')), (b'{"kind":"nothing"}\n', b'{"kind":"quit"}\n', at(1)))
+        self.assertEqual(session.ask(b'\xff\0'), b'{"kind":"refused","code":"X1","words":"unknown word"}\n')
 
     def test_a_session_starts_no_process(self) -> None:
         with self.started(), tempfile.NamedTemporaryFile() as file:
@@ -134,7 +134,7 @@ class KeptSessions(unittest.TestCase):
                 session = kept(b'N0' * 50 + b'N.', [])
                 assert session is not None
                 places = [session.ask(b'step') for _ in range(chance.randrange(60))]
-                if places != [b'at %d\n' % (at + 1) for at in range(len(places))]:
+                if places != [at(place + 1) for place in range(len(places))]:
                     faults.append(places)
                 session.close()
 
@@ -175,8 +175,8 @@ class KeptSessions(unittest.TestCase):
                 found._limit(most)
                 try:
                     answer = session.ask(b'insert 0 NONE')
-                    done += answer == b'edited 0\n'
-                    self.assertIn(answer, (b'edited 0\n', b'refused: M out of memory\n'))
+                    done += answer == b'{"kind":"edited","place":0}\n'
+                    self.assertIn(answer, (b'{"kind":"edited","place":0}\n', b'{"kind":"refused","code":"M","words":"out of memory"}\n'))
                 except picklestep.ProgramError:
                     lost += 1
                 finally:
@@ -184,7 +184,12 @@ class KeptSessions(unittest.TestCase):
             content = session.content()
             self.assertEqual(content, b'N' * (len(content) - 1) + b'.')
             self.assertTrue(1001 + done <= len(content) <= 1001 + done + lost)
-            self.assertEqual(session.ask(b'goto 5'), b'at 5\n')
+            self.assertEqual(session.ask(b'goto 5'), at(5))
+
+
+def at(place: int) -> bytes:
+    """The answer to a move."""
+    return b'{"kind":"at","place":%d}\n' % place
 
 
 def allocated() -> int:

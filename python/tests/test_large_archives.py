@@ -16,7 +16,7 @@ from typing import Any, BinaryIO, List, NamedTuple, Tuple
 
 from picklestep.scan import Judge, look
 from picklestep.scan.blobs import BytesBlob, FileBlob
-from picklestep.scan.canonical import NotCanonical, zips
+from picklestep.scan.canonical import NotCanonical, archives, zips
 from scan_support import ScanCase, notes_of
 
 LONG = 0xFFFFFFFF
@@ -165,8 +165,8 @@ class Python(ScanCase):
             archive.writestr('a.txt', b'a')
             archive.writestr('b.txt', b'b')
         content = self._with_long_offset(path.read_bytes())
-        form = zips.verify(BytesBlob(content))
-        self.assertEqual([member.name for member in form.members], ['a.txt', 'b.txt'])
+        for verify in (archives.verify, zips.verify):
+            self.assertEqual([member.name for member in verify(BytesBlob(content)).members], ['a.txt', 'b.txt'])
 
     @staticmethod
     def _with_long_offset(content: bytes) -> bytes:
@@ -185,16 +185,17 @@ class Python(ScanCase):
         return content[:row] + bytes(made) + bytes(closing)
 
     def test_a_header_that_tells_another_size(self) -> None:
-        """Where a record follows the data, what the header tells is the true one or zero: else another member may stand in the data for those who
-        read the header alone."""
-        for told, passes in ((0, True), (22, True), (10, False)):
+        """Where a record follows the data, what the header tells is zero twice: else another member may stand in the data for those who read the header
+        alone."""
+        for told, passes in ((0, True), (22, False), (10, False)):
             with self.subTest(told):
                 content = self._streamed(told)
-                if passes:
-                    self.assertEqual([member.name for member in zips.verify(BytesBlob(content)).members], ['a.bin'])
-                    continue
-                with self.assertRaises(NotCanonical):
-                    zips.verify(BytesBlob(content))
+                for verify in (archives.verify, zips.verify):
+                    if passes:
+                        self.assertEqual([member.name for member in verify(BytesBlob(content)).members], ['a.bin'])
+                        continue
+                    with self.assertRaises(NotCanonical):
+                        verify(BytesBlob(content))
 
     @staticmethod
     def _streamed(told: int) -> bytes:

@@ -16,8 +16,8 @@ from picklestep.listing_records import Change, Object
 from picklestep.records import Argument
 from picklestep.answers import Listing
 from picklestep.tasks import Asked, modes
-from picklestep.texts import object_of
-from json_texts import listed, made
+from picklestep.made import object_of
+from json_texts import listed, made, of_object
 from pickles import ROOT, real_pickles
 from test_reaches import decimal, quoted
 
@@ -82,7 +82,7 @@ class Lines(unittest.TestCase):
     def check(self, lines: Iterable[str]) -> int:
         count = 0
         for line in lines:
-            self.assertEqual(line_of_object(object_of(line)), decimal(line))
+            self.assertEqual(line_of_object(object_of(of_object(line))), decimal(line))
             count += 1
         return count
 

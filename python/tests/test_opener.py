@@ -703,14 +703,16 @@ class Hostile(OpenerCase):
         """Nothing is opened without an address, for a loader of the file's own bytes does something else than one of the pickle in it."""
         self.file('a.tar', tarred({'cposix\nsystem\n(Vid\ntR.': HARMLESS}))  # (a name at which a loader begins)
         self.assertIn((), [each.where for each in scan.look('a.tar').pickles])
-        for words in (['calls', 'a.tar'], ['list', 'a.tar'], ['gate', 'plain', 'a.tar']):
+        for words in (['calls', 'a.tar'], ['list', 'a.tar']):
             for way, run in self.runs(words):
                 self.assertEqual((run.returncode, run.stdout), (2, ''), (way, words))
                 self.assertIn('picklestep: to a loader that opens no container its bytes are a pickle too: picklestep calls /dev/stdin <a.tar\n',
                               ''.join(line if line.startswith('picklestep: ') else f'picklestep: {line}' for line in run.stderr.splitlines(True)))
-        for ask in (picklestep.calls, lambda file: picklestep.gate(file, allow=['plain'])):
-            with self.assertRaisesRegex(picklestep.PicklestepError, 'its bytes are a pickle too'):
-                ask('a.tar')
+        with self.assertRaisesRegex(picklestep.PicklestepError, 'its bytes are a pickle too'):
+            picklestep.calls('a.tar')
+        for way, run in self.runs(['gate', 'plain', 'a.tar']):  # (the program looks at it itself)
+            self.assertEqual((run.returncode, run.stdout), (1, 'not in form: 0: a name that is not plain\n'), way)
+        self.assertFalse(picklestep.gate('a.tar', allow=['plain']))
 
     def test_names_that_a_terminal_obeys(self) -> None:
         self.file('a.zip', zip_of([Made(b'a\x1b[2J.pkl', HOSTILE), Made('б.pkl'.encode(), HARMLESS, flags=0x800)]))

@@ -12,18 +12,19 @@ import picklestep
 from pickles import ROOT
 
 PACKAGE = Path(picklestep.__file__).parent
+# (A wheel has the page that is made of the scripts, and not these.)
+SCRIPTS = ROOT / 'python' / 'picklestep'
 DECISIONS = ROOT / 'docs' / 'DECISIONS.md'
-# How many patterns each of them has, of which the page of decisions says why: of listings that are shown, and of what a session answers; of debug and
-# members; of objects. And the script of the page.
-OF_TEXTS = {'texts.py': 9, 'replies.py': 5, 'scan/hash_steps.py': 5, 'scan/made_depths.py': 2}
-OF_SCRIPTS = {'view/texts.js': 15}
+# How many patterns each of them has, of which the page of decisions says why: of calls; of objects. No script of the page has one.
+OF_TEXTS = {'texts.py': 1, 'scan/hash_steps.py': 5, 'scan/made_depths.py': 2}
+OF_SCRIPTS: Dict[str, int] = {}
 # Modules of `scan` that read lines of JSON. (Others have patterns, mostly of files of other forms.)
 WITHOUT = {'scan/depths.py'}
 # Others, whose patterns read something else: words that are typed, names, numbers of a pickle, letters of opcodes, files of other forms.
 OTHERS = {'dap/console.py': 1, 'dap/target.py': 3, 'dap/wire.py': 1, 'protocols/reading.py': 3, 'python_source/names.py': 2, 'python_source/shapes.py': 2,
-          'question.py': 1, 'shell/edits.py': 1, 'shell/expressions.py': 2, 'shell/shell.py': 5, 'shell/words.py': 4, 'sources.py': 1, 'unread.py': 7,
+          'edits.py': 1, 'question.py': 1, 'shell/expressions.py': 2, 'shell/shell.py': 5, 'shell/words.py': 4, 'sources.py': 1, 'unread.py': 7,
           'values.py': 2, 'view/server.py': 2}
-OTHER_SCRIPTS = {'alone/containers.js': 5, 'alone/document.js': 1, 'alone/literals.js': 9, 'alone/opening.js': 8, 'alone/source.js': 2,
+OTHER_SCRIPTS = {'alone/containers.js': 5, 'alone/literals.js': 9, 'alone/opening.js': 8, 'alone/source.js': 2,
                  'alone/source_builder.js': 1, 'alone/source_names.js': 4, 'bytes.js': 1, 'script.js': 2, 'shown.js': 1, 'slow.js': 2,
                  'values.js': 13, 'words.js': 8}
 _IN_SCRIPT = re.compile(r'RegExp\(|[(=!|&,?] ?/(?![/*])')
@@ -41,8 +42,8 @@ def patterns() -> Iterator[Tuple[str, int]]:
 
 def in_scripts() -> Dict[str, int]:
     """How many each script of the page has."""
-    counts = {path: len(_IN_SCRIPT.findall(path.read_text(encoding='utf-8'))) for path in (PACKAGE / 'view').rglob('*.js')}
-    return {path.relative_to(PACKAGE).as_posix(): count for path, count in counts.items() if count}
+    counts = {path: len(_IN_SCRIPT.findall(path.read_text(encoding='utf-8'))) for path in (SCRIPTS / 'view').rglob('*.js')}
+    return {path.relative_to(SCRIPTS).as_posix(): count for path, count in counts.items() if count}
 
 
 class Patterns(unittest.TestCase):

@@ -20,7 +20,7 @@ from pickles import chosen
 from picklestep import Global
 from picklestep.shell import shell as shell_module
 from picklestep.shell.opened import Opened
-from picklestep.shell.renames import Renaming, renaming
+from picklestep.renaming.renames import Renaming, renaming
 from picklestep.shell.shell import Shell, WordError
 
 Names = Tuple[str, str]

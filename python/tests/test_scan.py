@@ -127,7 +127,9 @@ class Containers(ScanCase):
             with self.subTest(method):
                 result = self.look('a.zip', self.zipped(method, plain=HOSTILE, text=b'{"a": 1}'))
                 self.assertEqual((places_of(result), names_of(result), result.others), (['plain'], ['posix.system'], 1))
-                self.assertEqual(notes_of(result), '')
+                # (The program has no such method: what a reader without it finds is not known of these.)
+                self.assertEqual('packed neither by none nor by deflate' in notes_of(result), method in (zipfile.ZIP_BZIP2, zipfile.ZIP_LZMA))
+                self.assertEqual(len(result.notes), method in (zipfile.ZIP_BZIP2, zipfile.ZIP_LZMA))
 
     def test_a_zip_that_was_written_as_a_stream(self) -> None:
         class Stream(io.RawIOBase):

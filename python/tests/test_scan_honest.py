@@ -21,7 +21,7 @@ from typing import Any, Callable, Dict, List, Sequence, Tuple, Type
 from picklestep.scan import Judge, look
 from picklestep.scan.allow import read_names
 from picklestep.scan.blobs import BytesBlob
-from picklestep.scan.canonical import NotCanonical, joblib, npy, pickles, tars, zips
+from picklestep.scan.canonical import NotCanonical, archives, joblib, npy, pickles, tars
 from picklestep.scan.canonical.layouts import layout_of
 from picklestep.scan.containers import CONTAINERS
 from picklestep.scan.zips import unpacker_of
@@ -31,6 +31,13 @@ from test_scan_gate import DEBIAN, is_told
 MAKER = Path(__file__).resolve().parent / 'honest.py'
 # These hold code, so no set that comes with the package allows them.
 CODE = ('functions/', 'torch/script.pt')
+# Archives that the program does not know, and why: two readers may name their members otherwise, or one of them has no method for them.
+ODD_ZIPS = {
+    'commands/bsd.zip': 'an extra field', 'commands/seven.zip': 'an extra field', 'commands/git.zip': 'without a comment', 'zip/method_8.zip': 'a folder with content',
+    'zip/method_12.zip': 'packed neither by none', 'zip/method_14.zip': 'packed neither by none',
+    **{f'commands/info{how}.zip': 'a name that is not plain' for how in ('', '_0', '_x', '_links', '_pipe')}}
+# What the gate lets pass by no list: arrays with fields, beside objects or with some in them; an archive in another one.
+NOT_PASSED = ('numpy/all.npz', 'numpy/all_packed.npz', 'numpy/fields.npy', 'zip/nested.zip')
 # The set that alone allows the files of a folder; `plain` allows those of the others.
 SET_OF = {'torch': 'torch-modules', 'numpy': 'numpy', 'joblib': 'joblib', 'sklearn': 'sklearn', 'pandas': 'pandas'}
 # Changes in a run of the tests, some seconds. More are tried by hand: CHANGES=200000 python3 test_scan_honest.py
@@ -53,10 +60,16 @@ class Honest(ScanCase):
             name = str(path.relative_to(self.folder))
             with self.subTest(name):
                 result = look(str(path))
+                if name in ODD_ZIPS:
+                    self.assertRegex(notes_of(result), f'^! : not in the form .*: .*{ODD_ZIPS[name]}')
+                    self.assertEqual(sum(note.is_marked for note in result.notes), 1)
+                    continue
                 self.assertFalse(is_told(result), notes_of(result))
                 if not name.startswith(CODE):
                     word = SET_OF.get(name.partition(os.sep)[0], 'plain')
-                    self.assertEqual(looks_at(Judge(read_names([word])), path), [], word)
+                    looks = looks_at(Judge(read_names([word])), path)
+                    self.assertEqual([look for look in looks if name not in NOT_PASSED or look.rule != 'not-passed'], [], word)
+                    self.assertEqual(len(looks), name in NOT_PASSED)
         # (So many are there without torch, and the lesser number is what Python's own library and the usual commands write.)
         others = [line for line in missing.splitlines() if not line.startswith('of_torch: ')]
         self.assertGreaterEqual(len(files), 100 if others else 300)
@@ -126,7 +139,7 @@ def unpacked(kind: str, content: bytes) -> bytes:
 def members_of_zip(content: bytes) -> List[bytes]:
     """The members of an archive, read strictly."""
     blob, found = BytesBlob(content), []
-    for member in zips.verify(blob).members:
+    for member in archives.verify(blob).members:
         start = unpacker_of(blob, member.method, member.offset)
         assert start is not None
         unpacking = start(blob.part(member.offset, member.size))

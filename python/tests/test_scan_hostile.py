@@ -47,7 +47,7 @@ class HostileZip(ScanCase):
     def test_a_wrong_checksum(self) -> None:
         for method in (0, 8):
             with self.subTest(method):
-                self.found(zip_of([Made(b'data.pkl', HOSTILE, method, checksum=1)]), "! data.pkl: not in the form that torch, zipfile, Info-ZIP and 7-Zip write: the checksum of 'data.pkl' is wrong")
+                self.found(zip_of([Made(b'data.pkl', HOSTILE, method, checksum=1)]), "! data.pkl: not in the form that torch, numpy, zipfile and Info-ZIP write: the checksum of 'data.pkl' is wrong")
 
     def test_python_refuses_these_and_the_call_is_found(self) -> None:
         for made in (Made(b'a', HOSTILE, 8, checksum=1), Made(b'a', HOSTILE, 8, local_name=b'b'), Made(b'a', HOSTILE, 8, flags=1),
@@ -90,7 +90,7 @@ class HostileZip(ScanCase):
     def test_two_members_of_one_name(self) -> None:
         result = self.look('a.zip', zip_of([Made(b'data.pkl', HARMLESS), Made(b'data.pkl', HOSTILE)]))
         self.assertEqual(names_of(result), ['collections.OrderedDict', 'posix.system'])
-        self.assertIn("two members are named 'data.pkl'", notes_of(result))
+        self.assertIn('a name that a member before has', notes_of(result))
         self.assertIn('  data.pkl: several members have this name: each is looked at', notes_of(result))
 
     def test_two_methods_for_one_member(self) -> None:
@@ -187,9 +187,9 @@ class HostileZip(ScanCase):
         sums = struct.pack('<III', zlib.crc32(b'text'), 4, 4)
         for record in (sums, b'PK\x07\x08' + sums, sums[:4] + struct.pack('<QQ', 4, 4), b'PK\x07\x08' + sums[:4] + struct.pack('<QQ', 4, 4)):
             data = zip_of([Made(b'a', b'text', flags=8, after=record), Made(b'b', b'text')])
-            # (No known writer leaves the signature out.)
+            # (No known writer leaves the signature out, or writes long sizes where the header has none.)
             self.assertEqual(notes_of(self.look('a.zip', data)).count('\n'), 0)
-            self.assertEqual(notes_of(self.look('a.zip', data)) == '', record.startswith(b'PK'))
+            self.assertEqual(notes_of(self.look('a.zip', data)) == '', record.startswith(b'PK') and len(record) == 16)
 
     def test_an_ending_that_says_nothing(self) -> None:
         self.found(zip_of([Made(b'weights.bin', HOSTILE, 8)]))

@@ -46,7 +46,7 @@ class Words(unittest.TestCase):
     def test_questions(self) -> None:
         with Session(LIST) as session:
             session.goto(6)
-            self.assertEqual(session.where(), Where(6, 7, 16, 0, (), End('stopped')))
+            self.assertEqual(session.where(), Where(6, 7, 16, 0, (), End('stopped'), 2, 1, 0, 1))
             self.assertEqual(list(session.objects()), [Object(0, 'list', None, (), (Change('append', 1),)), Object(1, 'int', 1, (), ())])
             self.assertEqual(list(session.show(0)), [Shown(0, 0, session.objects()[0]), Shown(1, 1, session.objects()[1])])
             self.assertEqual((session.stack(), session.memo()), ((Ref(0),), {0: 0}))
@@ -173,7 +173,7 @@ class Refusals(unittest.TestCase):
             self.refused(session, 'X8', lambda: session.insert(0, 'BININT1', raw=b'\x01\x02'))
             self.refused(session, 'X7', lambda: session.insert(0, 'BINBYTES', b'x' * 40000))
             for line, code in (('fly', 'X1'), ('goto', 'X2'), ('goto x', 'X3'), ('insert 0 BININT1 0', 'X5'), ('step 1', 'X6'),
-                               ('show', 'X2'), ('items 1', 'X6'), ('objects x', 'X6')):
+                               ('show', 'X2'), ('items 1', 'X2'), ('objects x 1', 'X3'), ('items 1 2 3', 'X6')):
                 self.refused(session, code, lambda line=line: session.ask(line))  # type: ignore[misc]
 
     def test_places(self) -> None:

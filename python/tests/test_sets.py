@@ -150,8 +150,10 @@ class RealFiles(ScanCase):
         for file in sorted(MODELS.iterdir()):
             if file.name not in ('WRITTEN_BY.txt', SCRIPT):
                 word = set_for(file.name.partition('_')[0], file.name)
-                looks = [each.lines for each in looks_at(Judge(read_names([word])), file)]
-                self.assertEqual(looks, [], f'{word}: {file.name}')
+                looks = looks_at(Judge(read_names([word])), file)
+                # (The gate knows no array with fields.)
+                is_passed = [each.rule for each in looks] == ['not-passed'] if file.name == 'numpy_fields.npy' else not looks
+                self.assertTrue(is_passed, f'{word}: {file.name}: {looks}')
 
 
 def _add(library: str) -> None:

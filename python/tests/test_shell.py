@@ -497,10 +497,10 @@ class Words(unittest.TestCase):
                     with self.subTest(name, line=line), Shell(shell.pickle.content(), '', many=True) as fresh:
                         self.assertEqual(shell.pickle.lines.makers.codes, fresh.pickle.lines.makers.codes)
                         self.assertEqual(shell.pickle.lines.text, fresh.pickle.lines.text)
-                        self.assertEqual(shell.pickle.final.text, fresh.pickle.final.text)
+                        self.assertEqual(shell.pickle._final.text, fresh.pickle._final.text)
                         self.assertEqual(shell.pickle.reaches.answer.text, fresh.pickle.reaches.answer.text)
                         self.assertEqual(shell.pickle.lines.closing, fresh.pickle.lines.closing)
-                        made = len(fresh.pickle.final.text.split(b'\n')) - 1
+                        made = len(fresh.pickle._final.text.split(b'\n')) - 1
                         self.assertEqual([*map(shell.pickle.maker, range(made))], [*map(fresh.pickle.maker, range(made))])
 
     def test_undone_and_made_again(self) -> None:
@@ -741,7 +741,7 @@ class Words(unittest.TestCase):
         for line, name in (('C:\\tmp\\#1.pickle', 'C:\\tmp\\#1.pickle'), ('"C:\\my files\\a.pickle"', 'C:\\my files\\a.pickle'), ("'a\\ b\\'", 'a\\ b\\')):
             with mock.patch.object(shell.pickle, 'save') as save:
                 self.assertEqual(shell.obey(f'save {line}'), f'saved {name}')
-                save.assert_called_once_with(name, True)
+                save.assert_called_once_with(name)
 
     def test_batch(self) -> None:
         with tempfile.TemporaryDirectory() as folder:

@@ -1,4 +1,4 @@
-"""The page of a pickle: what it is given, who may ask, and how it ends. No browser is needed."""
+"""The server of the page: what it gives, who may ask, what it saves, and how it ends. No browser is needed."""
 
 from __future__ import annotations
 
@@ -8,9 +8,6 @@ import http.client
 import io
 import json
 import os
-import pickle
-import pickletools
-import random
 import re
 import signal
 import socket
@@ -20,280 +17,33 @@ import tempfile
 import threading
 import unittest
 from pathlib import Path
-from typing import Any, Dict, Iterator, List, Optional, Tuple
+from typing import Any, Dict, List, Optional, Tuple
 from unittest import mock
-from urllib.parse import urlsplit
+from urllib.parse import quote, urlsplit
 
 import picklestep
-from picklestep import Refused, Session, lines
-from pickles import real_pickles
+from pickles import ROOT
+from picklestep.document import Document
 from picklestep.view import export
 from picklestep.view.command import main
-from picklestep.document import Document
-from picklestep.view.viewed import Viewed
-from picklestep.view.opcodes import opcode_table
-from picklestep.view.server import IDLE, SCRIPTS, Viewer
+from picklestep.view.server import IDLE, Served, Viewer
 
 PACKAGE = Path(picklestep.__file__).resolve().parent.parent
-DATA = Path(__file__).resolve().parent / 'data' / 'models'
+PAGE = ROOT / 'dist' / 'picklestep.html'
 SYSTEM = b'cposix\nsystem\n(X\x02\x00\x00\x00idtR.'
 HOSTILE = b'c</script><img src=x onerror=alert(1)>\n<b>&\n.'
-
-
-@contextlib.contextmanager
-def opened(data: Any, many: bool = False) -> Iterator[Document]:
-    """A document, which is closed at the end."""
-    document = Document(data, 'a pickle', many)
-    try:
-        yield document
-    finally:
-        document.close()
-
-
-class Documents(unittest.TestCase):
-    """What the page is given about a pickle."""
-
-    def test_lines_are_those_of_pickletools(self) -> None:
-        for path in sorted(DATA.glob('sklearn_*.pkl')):
-            data = path.read_bytes()
-            with opened(data) as document:
-                wanted = [(at, opcode.name) for opcode, _, at in pickletools.genops(data)]
-                rows = document.slice(0, 2000)
-                self.assertEqual([(row[0], row[2]) for row in rows], wanted[:2000], path)
-                self.assertEqual(len(document.lines), len(wanted))
-
-    def test_opcodes_that_make_objects(self) -> None:
-        """Each object is made by the opcode that the page names: the session has one object more behind it."""
-        for path in sorted(DATA.glob('sklearn_tree.pkl')):
-            with opened(path) as document, Session(path) as session:
-                for number in range(len(document._makers)):
-                    session.goto(document._makers.place(number))
-                    self.assertEqual(len(session.objects()), number)
-                    session.step()
-                    self.assertEqual(len(session.objects()), number + 1)
-
-    def test_opcodes_that_make_none(self) -> None:
-        """Each real pickle makes as many objects as it has opcodes that make one."""
-        seen = set()
-        for name, data in real_pickles().items():
-            listing = picklestep.listing(data)
-            names = [opcode.name for opcode in listing][:listing.end.item]
-            seen |= {*names}
-            self.assertEqual(sum(name not in lines.MAKE_NONE for name in names), len(picklestep.objects(data)), name)
-        self.assertEqual(seen, {*opcode_table()})
-
-    def test_views_of_what_is_only_read(self) -> None:
-        """READONLY_BUFFER makes no object where its own can only be read already."""
-        with opened(b'C\x01a\x98\x97\x98\x98N\x87.') as document:
-            document.move('run', 0)
-            self.assertEqual(document.state()['made'], 5)
-            self.assertEqual([document.about(number)['maker'] for number in range(5)], [0, 2, 3, 5, 6])
-
-    def test_moves(self) -> None:
-        with opened(SYSTEM) as document:
-            self.assertEqual(document.move('step', 0), 'at 1')
-            self.assertEqual(document.move('back', 0), 'at 0')
-            self.assertEqual(document.move('next', 0), 'at 4')
-            self.assertEqual(document.move('next', 0), 'no call there')
-            self.assertEqual(document.move('run', 0), 'at 6: end, stopped')
-            self.assertEqual(document.move('previous', 0), 'at 4')
-            self.assertEqual(document.state()['imports'], [1, 1])
-            self.assertEqual(document.state()['calls'], [0, 1])
-            with self.assertRaises(Refused):
-                document.move('goto', 7)
-
-    def test_kinds(self) -> None:
-        with opened(b'(ia\nb\nPx\n\x97N(NNNe.') as document:
-            self.assertEqual([row[5] for row in document.slice(0, 5)], ['', 'call', 'other', 'other', ''])
-            self.assertEqual(document.reaches.before(100), (document.reaches.answer.imports, document.reaches.answer.calls))
-
-    def test_stack_memo_and_objects(self) -> None:
-        with opened(b'(]q\x05K\x07aK\x08.') as document:
-            document.move('goto', 5)
-            state = document.state()
-            self.assertEqual((state['stack']['words'], state['memo']['words']), (['(0', '#0'], ['5=#0']))
-            self.assertEqual(document.objects(0, 10), [('list +#1', None), ('int 7', None)])
-            self.assertEqual(document.holds(0), {'parts': [['append', 1, 'int 7', None]], 'more': 0})
-            about = document.about(0)
-            self.assertEqual((about['maker'], about['stack'], about['memo'], about['held']), (1, [1], [5], []))
-            self.assertEqual(document.about(1)['held'], [0])
-            document.move('goto', 3)
-            document.state()
-            self.assertEqual(document.objects(0, 10), [('list', None)])
-
-    def test_holders_are_not_read_out_of_texts(self) -> None:
-        with opened(pickle.dumps([('(#1 #2)', "' #1"), {'#0': 1}], 2)) as document:
-            document.move('run', 0)
-            document.state()
-            held = {number: document.about(number)['held'] for number in range(document.state()['made'])}
-            with Session(pickle.dumps([('(#1 #2)', "' #1"), {'#0': 1}], 2)) as session:
-                session.run()
-                for thing in session.objects():
-                    for part in {*thing.parts, *(change.value for change in thing.changes)}:
-                        self.assertIn(thing.number, held[part])
-                self.assertEqual(sum(map(len, held.values())), 6)
-
-    def test_what_is_imported_and_called(self) -> None:
-        with opened(pickle.dumps([len, len], 4) + b'(.') as document, opened(SYSTEM) as other:
-            place = next(place for place in range(len(document.lines)) if document.lines.at(place).code == '\\x93')
-            imported = {'kind': 'import', 'offset': 31, 'module': 'builtins', 'name': 'len', 'object': 3, 'text': ''}
-            self.assertEqual(document.reached(0, 9), [[place, document.lines.offset(place), 'import', imported]])
-            self.assertEqual(document.slice(place, 1)[0][8], imported)
-            document.move('goto', place + 1)
-            document.state()
-            self.assertEqual((document.thing(3), document.thing(2)), (('stack-global (#1 #2)', imported), ("text 'len'", None)))
-            self.assertEqual([(row[3]['kind'], row[3].get('args')) for row in other.reached(0, 9)],
-                             [('import', None), ('call', [{'kind': 'text', 'value': 'id'}])])
-            self.assertEqual((other.reached(1, 9)[0][0], other.reached(2, 9)), (4, []))
-
-    def test_finding(self) -> None:
-        with opened(SYSTEM) as document:
-            self.assertEqual([document.find(text, 0) for text in ('TUPLE', '16', "'id'", 'absent', '')], [3, 2, 2, None, None])
-            self.assertEqual(document.find('posix', 3), 0)
-        with opened(pickle.dumps(['a', 'caf\xe9'], 4)) as document:
-            self.assertEqual(document.lines.at(document.find('f\xe9', 0) or 0).argument, r"'caf\xc3\xa9'")
-        texts = ["it's", 'a\\b', 'x' * 700 + "need'le" + 'y' * 700, 'need']
-        data = pickle.dumps(texts, 3)
-        places = {value: place for place, (_, value, _) in enumerate(pickletools.genops(data)) if isinstance(value, str)}
-        with opened(data) as document:
-            for wanted, text in (("it's", texts[0]), ('a\\b', texts[1]), ("need'le", texts[2]), ('y' * 600, texts[2]), ('need', texts[2])):
-                self.assertEqual(document.find(wanted, 0), places[text], wanted)
-            self.assertEqual([document.find('need', places[text]) for text in texts[2:]], [places[texts[3]], places[texts[2]]])
-
-    def test_refused_opcodes_stay_in_view(self) -> None:
-        with opened(b'N0R\x8c\x01a.') as document:
-            self.assertEqual([row[:4] for row in document.slice(0, 9)],
-                             [[0, 'N', 'NONE', ''], [1, '0', 'POP', ''], [2, 'R', 'REDUCE', ''], [3, '\\x8c', 'SHORT_BINUNICODE', "'a'"],
-                              [6, '.', 'STOP', '']])
-
-    def test_several_pickles(self) -> None:
-        data = b'NN(N.' + SYSTEM + b'(N.' + b']K\x01a.' * 8
-        with opened(data) as document:
-            self.assertIn(f'kept: {len(data) - 5} bytes after STOP', document.state()['closing'])
-        with opened(data, many=True) as document, Session(data, many=True) as session:
-            listed = picklestep.listing(data, many=True)
-            self.assertEqual([(row[0], row[2], row[4]) for row in document.slice(0, 99)], [(line.offset, line.name, line.marks) for line in listed])
-            session.run()
-            self.assertEqual(document.move('run', 0), f'at {session.where().places}: end, stopped')
-            self.assertEqual((document.state()['results'], document.state()['results_before']), (list(session.where().results[-5:]), 6))
-            self.assertEqual(document.state()['made'], len(session.objects()))
-            self.assertEqual(document.move('previous', 0), 'at 9')
-            self.assertEqual(document.edit('delete', 9, '', '', 0), 'edited 9')
-            self.assertEqual((document.session.bytes(), len(document.lines)), (data.replace(b'tR', b't'), session.where().places - 1))
-
-    def test_long_texts_are_cut(self) -> None:
-        with opened(pickle.dumps(['x' * 3_000_000, b'\0' * 3_000_000, 'y'], 4)) as document:
-            argument = document.slice(0, 20)[4][3]
-            self.assertTrue(argument.startswith("'xxx") and argument.endswith("bytes more'"), argument[-40:])
-            self.assertLess(len(document.lines.text), 5000)
-            document.move('run', 0)
-            document.state()
-            self.assertEqual(document.about(3)['held'], [0])
-
-
-class Opening(unittest.TestCase):
-    def test_how_far_it_is(self) -> None:
-        texts: List[str] = []
-        document = Document(b'(' + b'K\x01' * 300_000 + b'l.', 'a pickle', progress=texts.append)
-        document.close()
-        self.assertIn('list: 300,004 lines', texts)
-        self.assertEqual([word for word in ('list', 'objects') if any(text.startswith(f'{word}: ') for text in texts)], ['list', 'objects'])
-
-
-class Cutting(unittest.TestCase):
-    """Lines that come in blocks of any size."""
-
-    def test_blocks(self) -> None:
-        rng = random.Random(37)
-        text = ''.join(f"#{at} text '{'x#' * rng.choice((1, 300, 5000))}' (#1 #2)\n" for at in range(50)).encode('ascii')
-        whole = lines.lines_of(text.decode('ascii'))
-        for _ in range(30):
-            into, at = lines.Lines(), 0
-            cutter = lines._Cutter(into)
-            while at < len(text):
-                size = rng.choice((1, 7, 400, 9000, 100_000))
-                cutter.feed(text[at:at + size])
-                at += size
-            self.assertEqual(into.text, whole.text)
-            self.assertEqual([*map(into.start, range(51))], [*map(whole.start, range(51))])
-            self.assertEqual([into.number_at(into.start(at)) for at in range(50)], [*range(50)])
-        self.assertTrue(all(whole.raw(at).endswith("' (#1 #2)") for at in range(50)))
-
-
-class Edits(unittest.TestCase):
-    """Edits ahead of the cursor."""
-
-    def test_edits(self) -> None:
-        with opened(SYSTEM) as document:
-            document.toggle_break(4)
-            self.assertEqual(document.edit('insert', 1, 'GLOBAL', b'os\ngetcwd\n'.hex(), 0), 'edited 1')
-            self.assertEqual((document.breaks, document.edited), ({5}, {1}))
-            self.assertEqual(document.session.bytes(), b'cposix\nsystem\ncos\ngetcwd\n(X\x02\x00\x00\x00idtR.')
-            self.assertEqual((document.state()['undo'], document.undo()), ('insert GLOBAL at 1', 'undone 1: insert GLOBAL at 1'))
-            self.assertEqual((document.breaks, document.edited, document.session.bytes()), ({4}, set(), SYSTEM))
-            self.assertEqual((document.state()['redo'], document.redo()), ('insert GLOBAL at 1', 'redone 1: insert GLOBAL at 1'))
-            self.assertEqual(document.edit('delete', 1, '', '', 0), 'edited 1')
-            self.assertEqual(document.edit('frame', 0, '', '', 2), 'edited 0')
-            self.assertEqual(document.edit('unframe', 0, '', '', 0), 'edited 0')
-            self.assertEqual(document.session.bytes(), SYSTEM)
-
-    def test_a_breakpoint_comes_back_with_its_opcode(self) -> None:
-        with opened(SYSTEM) as document:
-            document.toggle_break(3)
-            document.edit('delete', 3, '', '', 0)
-            self.assertEqual(document.breaks, set())
-            document.undo()
-            self.assertEqual(document.breaks, {3})
-
-    def test_refused_edits_change_nothing(self) -> None:
-        with opened(SYSTEM) as document:
-            document.move('goto', 3)
-            for what, place, name in (('replace', 0, 'NONE'), ('delete', 99, ''), ('insert', 4, 'NOTHING')):
-                with self.assertRaises(Refused):
-                    document.edit(what, place, name, '', 0)
-            self.assertEqual((document.version, document._edits, document.session.bytes()), (1, [], SYSTEM))
-
-    def test_arguments_as_they_stand(self) -> None:
-        with opened(SYSTEM) as document:
-            self.assertEqual([document.argument(place) for place in (0, 1, 2)],
-                             [{'raw': b'posix\nsystem\n'.hex()}, {'raw': ''}, {'raw': b'\x02\0\0\0id'.hex()}])
-            document.edit('replace', 2, 'BINUNICODE', b'\x04\0\0\0safe'.hex(), 0)
-            self.assertEqual(document.argument(2), {'raw': b'\x04\0\0\0safe'.hex()})
-            self.assertRaises(ValueError, document.argument, 6)
-        with opened(pickle.dumps('x' * 70_000, 4)) as document:
-            self.assertEqual([document.argument(place)['raw'] for place in range(4)], ['04', None, '', ''])
-
-    def test_reading_on(self) -> None:
-        with opened(b'NN0.' + SYSTEM) as document:
-            document.edit('delete', 1, '', '', 0)
-            document.edit('insert', 1, 'NONE', '', 0)
-            document.toggle_break(2)
-            self.assertEqual(document.read_on(), 'open')
-            state = document.state()
-            self.assertEqual((state['places'], state['reaches'], state['undo'], state['breaks'], state['closing']),
-                             (10, 2, '', 0, ['highest protocol among opcodes = 1']))
-            self.assertEqual(document.session.bytes(), b'NN0.' + SYSTEM)
-
-    def test_saving(self) -> None:
-        with tempfile.TemporaryDirectory() as folder, opened(SYSTEM) as document:
-            path = Path(folder) / 'saved.pickle'
-            document.edit('insert', 0, 'NONE', '', 0)
-            document.save(str(path), False)
-            self.assertEqual(path.read_bytes(), b'N' + SYSTEM)
-            document.undo()
-            self.assertRaises(FileExistsError, document.save, str(path), False)
-            document.save(str(path), True)
-            self.assertEqual(path.read_bytes(), SYSTEM)
-            self.assertRaises(ValueError, document.save, ' ', False)
 
 
 class Asking(unittest.TestCase):
     """Who may ask the server."""
 
     def setUp(self) -> None:
-        self.document = Viewed(SYSTEM, 'a pickle')
-        self.addCleanup(self.document.close)
-        self.viewer = Viewer(self.document)
+        folder = tempfile.TemporaryDirectory()
+        self.addCleanup(folder.cleanup)
+        self.folder = Path(folder.name)
+        self.file = self.folder / 'a.pickle'
+        self.file.write_bytes(SYSTEM)
+        self.viewer = Viewer(Served(self.file, '</script><b>', True, lesson='0: <!-- it begins'))
         self.thread = threading.Thread(target=self.viewer.serve, daemon=True)
         self.thread.start()
         self.addCleanup(self._end, self.thread)
@@ -312,7 +62,7 @@ class Asking(unittest.TestCase):
             response.begin()
             return response.status, dict(response.getheaders()), response.read()
 
-    def ask(self, method: str, path: str, body: bytes = b'{}', **headers: Optional[str]) -> Tuple[int, Dict[str, str], bytes]:
+    def ask(self, method: str, path: str, body: bytes = b'', **headers: Optional[str]) -> Tuple[int, Dict[str, str], bytes]:
         """The status, the headers and the body of an answer."""
         host, port = self.viewer.host.split(':')
         connection = http.client.HTTPConnection(host, int(port), timeout=600)
@@ -331,20 +81,90 @@ class Asking(unittest.TestCase):
     def test_only_the_loopback_address(self) -> None:
         self.assertEqual(self.viewer._server.server_address[0], '127.0.0.1')
 
+    def say(self, word: str, body: bytes = b'') -> Any:
+        """What the server answers to a question."""
+        status, _, answer = self.ask('POST', f'/{self.viewer.token}/{word}', body)
+        self.assertEqual(status, 200)
+        return json.loads(answer)
+
     def test_the_page(self) -> None:
-        kinds = {'': 'text/html', 'style.css': 'text/css', 'icon.svg': 'image/svg+xml', **dict.fromkeys(SCRIPTS, 'text/javascript')}
-        for name, kind in kinds.items():
-            status, headers, body = self.ask('GET', f'/{self.viewer.token}/{name}')
-            self.assertEqual((status, headers['Content-Type'].split(';')[0]), (200, kind))
-            self.assertTrue(headers['Content-Security-Policy'].startswith("default-src 'none'; script-src 'self'; style-src 'self';"))
-            self.assertNotIn('unsafe', headers['Content-Security-Policy'])
-            self.assertNotRegex(body.decode('utf-8'), 'https?://(?!www.w3.org/2000/svg)')
-        self.assertEqual(self.ask('GET', f'/{self.viewer.token}/other')[0], 404)
+        """It is the one that stands alone, with what it is to show, and it may ask this server alone."""
+        status, headers, body = self.ask('GET', f'/{self.viewer.token}/')
+        text, alone = body.decode('utf-8'), PAGE.read_text(encoding='utf-8')
+        self.assertEqual((status, headers['Content-Type']), (200, 'text/html; charset=utf-8'))
+        told = re.search('<script id="served" type="application/json">(.*)</script>\n', text)
+        assert told is not None
+        self.assertNotIn('<', told[1])
+        self.assertEqual(json.loads(told[1]), {'name': '</script><b>', 'many': True, 'unframed': False, 'whole': False, 'lesson': '0: <!-- it begins'})
+        self.assertEqual(text.replace(told[1], 'null').replace("; connect-src 'self'", ''), alone)
+        self.assertRegex(headers['Content-Security-Policy'], "^default-src 'none'; script-src 'sha256-[^']+' 'wasm-unsafe-eval'; .*; connect-src 'self'; "
+                                                             "frame-ancestors 'none'$")
+        self.assertIn(headers['Content-Security-Policy'].replace("; frame-ancestors 'none'", ''), text)
+        self.assertNotIn('unsafe-inline', headers['Content-Security-Policy'])
+        self.assertEqual(self.ask('GET', f'/{self.viewer.token}/style.css')[0], 404)
+
+    def test_the_pickle(self) -> None:
+        for data in (SYSTEM, SYSTEM * 200_000, b''):
+            self.file.write_bytes(data)
+            status, headers, body = self.ask('GET', f'/{self.viewer.token}/pickle')
+            self.assertEqual((status, headers['Content-Type'], body), (200, 'application/octet-stream', data))
+        self.file.unlink()
+        self.assertEqual(self.ask('GET', f'/{self.viewer.token}/pickle')[::2], (404, b'the pickle cannot be read\n'))
+
+    def test_saving(self) -> None:
+        path = self.folder / 'saved & more.pickle'
+        name = f'save?name={quote(str(path))}'
+        self.assertEqual(self.say(f'{name}&over=false', b'N.'), {'said': f'saved {path}'})
+        self.assertEqual(path.read_bytes(), b'N.')
+        self.assertEqual(self.say(f'{name}&over=false', SYSTEM), {'said': 'not saved: there is such a file', 'failed': True})
+        self.assertEqual(path.read_bytes(), b'N.')
+        path.chmod(0o640)
+        self.assertEqual(self.say(f'{name}&over=true', SYSTEM * 200_000), {'said': f'saved {path}'})
+        self.assertEqual((path.read_bytes(), path.stat().st_mode & 0o777), (SYSTEM * 200_000, 0o640))
+        for wrong, said in (('', 'not done: a name is wanted'), ('%20', 'not done: a name is wanted'), ('/nowhere/at/all', 'not done: [Errno 2]'), ('a%00', 'not done: '),
+                            (quote(f'{self.file} > b'), f'not done: cannot write {self.file} > b: nothing is written into a container')):
+            answer = self.say(f'save?name={wrong}', SYSTEM)
+            self.assertEqual((answer['said'][:len(said)], answer['failed']), (said, True))
+        self.assertEqual(sorted(os.listdir(self.folder)), ['a.pickle', path.name])
+
+    def test_what_is_not_saved_whole(self) -> None:
+        """A browser that goes away leaves no file behind."""
+        path, token = self.folder / 'half.pickle', self.viewer.token
+        host, port = self.viewer.host.split(':')
+        for over in ('false', 'true'):
+            with socket.create_connection((host, int(port)), 600) as connection:
+                connection.sendall(f'POST /{token}/save?name={quote(str(path))}&over={over} HTTP/1.1\r\nHost: {self.viewer.host}\r\n'
+                                   f'Origin: http://{self.viewer.host}\r\nContent-Length: 99\r\n\r\nN.'.encode('ascii'))
+            self.assertEqual(self.say('alive'), {})
+            for _ in range(500):
+                if os.listdir(self.folder) == ['a.pickle']:
+                    break
+                threading.Event().wait(0.02)
+            self.assertEqual(os.listdir(self.folder), ['a.pickle'])
+
+    def test_the_container_stays(self) -> None:
+        with contextlib.ExitStack() as stack:
+            viewer = stack.enter_context(Viewer(Served(b'N.', 'a.zip::a', container=str(self.file))))
+            self.viewer, before = viewer, self.viewer
+            thread = threading.Thread(target=viewer.serve, daemon=True)
+            thread.start()
+            answer = self.say(f'save?name={quote(str(self.file))}&over=true', b'N.')
+            viewer.stop()
+            thread.join()
+            self.viewer = before
+        self.assertEqual((answer['failed'], self.file.read_bytes()), (True, SYSTEM))
+
+    def test_where_the_bytes_go(self) -> None:
+        answer = self.say('sizes?width=300&height=200&many=false&unframed=false', SYSTEM)
+        self.assertEqual(answer['heading'], ['25 bytes: 4 objects of 23 bytes, 2 of overhead, protocol 1'])
+        self.assertIn('<svg xmlns="http://www.w3.org/2000/svg" viewBox="0 0 300 200"', answer['drawing'])
+        for query in ('width=x&height=1', 'width=' + '9' * 5000):
+            self.assertTrue(self.say(f'sizes?{query}', SYSTEM)['said'].startswith('not done: '))
 
     def test_every_answer_has_the_policy_and_own_words(self) -> None:
         token = self.viewer.token
         asked = [(method, path) for method in ('GET', 'HEAD', 'POST', 'PUT', 'DELETE', 'OPTIONS', 'TRACE', 'BURN')
-                 for path in ('/', '/x/', f'/{token}/', f'/{token}/other', f'/{token}/open', f'/{token}')]
+                 for path in ('/', '/x/', f'/{token}/', f'/{token}/other', f'/{token}/pickle', f'/{token}/alive', f'/{token}')]
         answers = [(f'{method} {path}', self.ask(method, path)) for method, path in asked]
         host = f'\r\nHost: {self.viewer.host}\r\n\r\n'.encode('ascii')
         for line in (b'burn', b'GET', b'GET /%s/' % token.encode('ascii'), b'PUT /', b'GET / HTTP/9.9', b'GET / HTTP/x', b'POST / HTTP/1.1 x',
@@ -360,54 +180,35 @@ class Asking(unittest.TestCase):
         statuses = {name: status for name, (status, _, _) in answers}
         self.assertEqual([statuses[f'{method} /x/'] for method in ('GET', 'HEAD', 'POST', 'PUT', 'BURN')], [403] * 5)
         self.assertEqual([statuses[f'{method} /{token}/'] for method in ('GET', 'HEAD', 'POST', 'PUT', 'BURN')], [200, 200, 404, 501, 501])
-        self.assertEqual(self.ask('HEAD', f'/{token}/')[2], b'')
+        self.assertEqual([self.ask('HEAD', f'/{token}/{name}')[2] for name in ('', 'pickle')], [b'', b''])
 
     def test_without_the_token(self) -> None:
-        for path in ('/', '/open', '/style.css', f'/{self.viewer.token[:-1]}/', f'/{self.viewer.token}', '/x/../open', '//', '*'):
+        for path in ('/', '/pickle', '/alive', f'/{self.viewer.token[:-1]}/', f'/{self.viewer.token}', '/x/../pickle', '//', '*', '/?x=/' + self.viewer.token):
             self.assertEqual(self.ask('GET', path)[0], 404 if path == f'/{self.viewer.token}' else 403, path)
             if path != f'/{self.viewer.token}':
                 self.assertEqual(self.ask('POST', path)[0], 403, path)
 
     def test_wrong_host_and_origin(self) -> None:
-        path = f'/{self.viewer.token}/open'
+        path = f'/{self.viewer.token}/alive'
         port = self.viewer.host.split(':')[1]
         for host in ('127.0.0.1', f'localhost:{port}', 'evil.example', f'evil.example:{port}', '', None):
             self.assertEqual(self.ask('POST', path, Host=host)[0], 403, host)
-            self.assertEqual(self.ask('GET', f'/{self.viewer.token}/', Host=host, Origin=None)[0], 403, host)
+            for name in ('', 'pickle'):
+                self.assertEqual(self.ask('GET', f'/{self.viewer.token}/{name}', Host=host, Origin=None)[0], 403, host)
         for origin in ('null', 'http://evil.example', f'https://{self.viewer.host}', f'http://localhost:{port}', '', None):
             self.assertEqual(self.ask('POST', path, Origin=origin)[0], 403, origin)
+            if origin is not None:
+                self.assertEqual(self.ask('GET', f'/{self.viewer.token}/pickle', Origin=origin)[0], 403, origin)
         self.assertEqual(self.ask('POST', path)[0], 200)
 
-    def test_questions_that_are_none(self) -> None:
-        path = f'/{self.viewer.token}/'
-        self.assertEqual(self.ask('POST', path + 'open', b'[]')[0], 400)
-        self.assertEqual(self.ask('POST', path + 'open', b'{')[0], 400)
-        self.assertEqual(self.ask('POST', path + 'nothing')[0], 404)
-        self.assertEqual(self.ask('PUT', path + 'open')[0], 501)
-        for word, body in (('move', b'{"place": "x"}'), ('edit', b'{"what": "burn"}'), ('move', b'{"what": "goto", "place": 9}'),
-                           ('save', b'{"name": "/nowhere/at/all"}'), ('break', b'{"place": -1}')):
-            status, _, answer = self.ask('POST', path + word, body)
-            self.assertEqual((status, json.loads(answer).get('failed')), (200, True), (word, answer))
-        self.assertEqual(json.loads(self.ask('POST', path + 'move', b'{"what": "step"}')[2])['place'], 1)
-
     def test_odd_questions_get_an_answer_and_no_traceback(self) -> None:
-        path = f'/{self.viewer.token}/'
         with contextlib.redirect_stderr(io.StringIO()) as told:
-            for body in (b'[' * 200_000, b'{"a":' * 200_000, b'9' * 5000, b'{"after": %s}' % (b'9' * 5000), b'\xff', b'"', b'null'):
-                self.assertEqual(self.ask('POST', path + 'find', body)[::2], (400, b'no such question\n'), body[:20])
-            for word, body, said in (('find', b'{"text": "a", "after": -1000000}', 'not done: after is no number from 0 on'),
-                                     ('lines', b'{"start": -5, "count": 9}', 'not done: start is no number from 0 on'),
-                                     ('move', b'{"what": "goto", "place": 1e99}', 'not done: place is no number from 0 on'),
-                                     ('find', b'{"text": "%s"}' % (b'9' * 5000), 'not done: '), ('save', b'{"name": "a\\u0000"}', 'not done: '),
-                                     ('edit', b'{"what": "insert", "name": "\\ud800"}', 'not done: '), ('holds', b'{"number": true}', 'not done: '),
-                                     ('find', b'{"text": %s%s}' % (b'[' * 900, b']' * 900), '')):
-                status, _, answer = self.ask('POST', path + word, body)
-                self.assertEqual(status, 200, body[:50])
-                self.assertTrue(json.loads(answer).get('said', '').startswith(said), answer)
-            for length in ('9' * 5000, '-1', '+1', '1_0', ''):
-                status, _, _ = self.raw(f'POST {path}open HTTP/1.1\r\nHost: {self.viewer.host}\r\nOrigin: http://{self.viewer.host}\r\n'
+            for length in ('9' * 5000, '-1', '+1', '1_0', '', str((1 << 30) + 1)):
+                status, _, _ = self.raw(f'POST /{self.viewer.token}/alive HTTP/1.1\r\nHost: {self.viewer.host}\r\nOrigin: http://{self.viewer.host}\r\n'
                                         f'Content-Length: {length}\r\n\r\n'.encode('ascii'))
                 self.assertEqual(status, 413)
+            self.assertEqual(self.say('alive?' + 'a=b&' * 900), {})
+            self.assertEqual(self.say('sizes?width=300&height=300', b'\xff')['heading'][0][:7], '1 byte:')
         self.assertEqual(told.getvalue(), '')
 
     def test_it_ends_when_its_page_was_closed(self) -> None:
@@ -418,20 +219,19 @@ class Asking(unittest.TestCase):
         self.assertFalse(self.thread.is_alive())
 
     def test_many_at_a_time(self) -> None:
-        places: List[int] = []
-        path = f'/{self.viewer.token}/move'
+        said: List[str] = []
 
-        def step() -> None:
-            for what in (b'step', b'back') * 10:
-                places.append(json.loads(self.ask('POST', path, b'{"what": "%s"}' % what)[2]).get('place', -1))
+        def save(name: str) -> None:
+            for _ in range(10):
+                said.append(self.say(f'save?name={quote(str(self.folder / name))}&over=true', name.encode() * 100_000)['said'])
 
-        threads = [threading.Thread(target=step) for _ in range(4)]
+        threads = [threading.Thread(target=save, args=(name,)) for name in 'abcd']
         for thread in threads:
             thread.start()
         for thread in threads:
             thread.join()
-        self.assertEqual(len(places), 80)
-        self.assertEqual(json.loads(self.ask('POST', f'/{self.viewer.token}/open')[2])['place'], 0)
+        self.assertEqual(len([each for each in said if each.startswith('saved ')]), 40)
+        self.assertEqual([(self.folder / name).read_bytes() for name in 'abcd'], [name.encode() * 100_000 for name in 'abcd'])
 
 
 class Running(unittest.TestCase):

@@ -1,11 +1,10 @@
-"""The page without a server, dist/picklestep.html: it shows the same as the page with a server, opens what people have, and asks nobody."""
+"""The page without a server, dist/picklestep.html: it shows what a session says, opens what people have, and asks nobody."""
 
 from __future__ import annotations
 
 import ast
 import base64
 import contextlib
-import copy
 import gzip
 import hashlib
 import io
@@ -27,9 +26,8 @@ import firefox
 from chromium import ACCESSIBILITY, CONTRASTS, FILLED, FOCUS_LINE, PROGRAM, READY, SEEN, SETTLED, Browser
 from pickles import REAL, ROOT, known_opcodes, real_pickles
 from picklestep.python_source import source
-from picklestep.document import Document
-from picklestep.view.server import Viewer
-from picklestep.view.viewed import Viewed
+from picklestep import Ref, Session
+from picklestep.view.server import Served, Viewer
 
 PAGE = ROOT / 'dist' / 'picklestep.html'
 MODELS = Path(__file__).resolve().parent / 'data' / 'models'
@@ -39,19 +37,14 @@ SHOWN = [*REAL[::max(1, len(REAL) // 15)][:15], *sorted(MODELS.glob('sklearn_*.p
 HOSTILE = ['</script><img src=x onerror="document.title=1">', '<b>bold</b>', '\u202eevil', '\u05d0\u05d1', '\x1b[31m\r\n', '\u200b\ufeff\u2028', '\0']
 HOSTILE_NAMES = b''.join(b'c%s\n%s\n0' % (text.encode('utf-8').replace(b'\n', b' '), b'<i>x</i>') for text in HOSTILE)
 UNKNOWN = 'what the rest imports and calls is not known'
-# The same keys for both pages. What begins with a sharp is clicked, with an equals sign in it it is written there; a key behind `>` is pressed
-# where the focus is, the others in the listing.
+# What begins with a sharp is clicked, with an equals sign in it it is written there; a key behind `>` is pressed where the focus is, the others in the
+# listing.
 KEYS = ['n', '#tab-result', 'ArrowRight', 'p', 'ArrowDown', 'b', ' ', 'End', '#objects .thing', '#result .thing', 'Home', 'Delete', 'u', 'r',
         '#read-on:not([hidden])']
 OTHER_KEYS = ['PageDown', 'PageDown', 'PageUp', 'ArrowUp', 'Enter', 'ArrowLeft', '#bar=3', '#there', 'w', 'w', '/', '#sought=MARK', '>Enter', '>Enter',
               '>Escape', '?', '#help-dialog .close', 's', '#save-dialog .close', 'Home', 'ArrowDown', 'e', '>Enter', 'u', 'e', '#edit-what=insert',
               '#edit-name=EMPTY_LIST', '>Enter', 'u', 'e', '#edit-what=frame', '#edit-count=2', '>Enter', '#edit-dialog .close', 'e', '#edit-what=unframe',
               '#edit-place=1', '>Enter', '#edit-dialog .close', 'e', '#edit-as=hex', '#edit-argument=zz', '>Enter', '#edit-dialog .close', 'r']
-
-
-# What the page with a server shows of the pickles that were driven with so many keys, after each key. (A file is saved there over another too:
-# that field is not looked at.)
-SERVED: Dict[Tuple[Path, int], List[Dict[str, Any]]] = {}
 
 
 def with_memory(module: bytes, pages: int) -> bytes:
@@ -126,15 +119,9 @@ class Driven(unittest.TestCase):
         """What the browser asked for: the page itself and its worker are not counted."""
         return [url for url in self.browser.requested() if url != PAGE.as_uri() and not url.startswith(('blob:null/', 'data:image/svg+xml;base64,'))]
 
-    # --- The same in both pages ---
-
     def drive(self, keys: List[str]) -> List[Dict[str, Any]]:
-        """What is seen after each key, where the listing has as many rows on both pages. No frame of the screen is waited for."""
+        """What is seen after each key. No frame of the screen is waited for."""
         self.browser.js('void (window.requestAnimationFrame = (draw) => setTimeout(draw))')
-        height = 600
-        for _ in range(3):
-            height += 200 - self.browser.js("document.querySelector('#listing').clientHeight")
-            self.browser.size(900, height)
         seen = [self.browser.js(f'{SETTLED}.then(() => {SEEN})')]
         for key in keys:
             if key[0] == '#' and '=' in key:
@@ -150,18 +137,10 @@ class Driven(unittest.TestCase):
             seen.append(self.browser.js(f'{SETTLED}.then(() => {SEEN})'))
         return seen
 
-    def with_server(self, path: Path, keys: List[str]) -> List[Dict[str, Any]]:
-        """What the page with a server shows. A second browser shows only the page without one, where the first has shown both."""
-        if (path, len(keys)) not in SERVED:
-            with self.served(path):
-                SERVED[path, len(keys)] = self.drive(keys)
-        return copy.deepcopy(SERVED[path, len(keys)])
-
     @contextlib.contextmanager
     def served(self, path: Path) -> Iterator[None]:
         """Opens a pickle in the page with a server."""
-        document = Viewed(path, path.name)
-        viewer = Viewer(document)
+        viewer = Viewer(Served(path, path.name))
         thread = threading.Thread(target=viewer.serve, daemon=True)
         thread.start()
         try:
@@ -174,31 +153,43 @@ class Driven(unittest.TestCase):
             viewer.stop()
             thread.join()
             viewer.__exit__()
-            document.close()
 
     def compare(self, paths: List[Path]) -> None:
-        """Drives both pages over pickles, in a small window: fewer rows are drawn. Every fourth gets all keys."""
-        keys = [KEYS if at % 4 else KEYS + OTHER_KEYS for at in range(len(paths))]
-        self.browser.size(900, 500)
-        wanted = [self.with_server(path, each) for path, each in zip(paths, keys)]
+        """Drives the page over pickles, in a small window: fewer rows are drawn. Every fourth gets all keys. What is seen is what a session says."""
         self.load()
-        for path, each, seen in zip(paths, keys, wanted):
+        for at, path in enumerate(paths):
             self.browser.size(900, 500)
             self.give(path)
-            for at, (here, there) in enumerate(zip(self.drive(each), seen)):
-                self.equal(here, there, f'{path.name} after {each[:at]}')
-        # (the page with a server says that it is closed, and a browser may send that late)
-        self.assertEqual(([url for url in self.requests() if not url.endswith('/closed')], self.browser.errors()), ([], []))
+            opcodes = [(offset, opcode.name) for opcode, _, offset in known(path.read_bytes())]
+            keys = KEYS if at % 4 else KEYS + OTHER_KEYS
+            with Session(path) as session:
+                for pressed, seen in enumerate(self.drive(keys)):
+                    if pressed <= KEYS.index('Delete'):
+                        self.same(seen, session, opcodes, f'{path.name} after {keys[:pressed]}')
+        self.assertEqual((self.requests(), self.browser.errors()), ([], []))
 
-    def equal(self, here: Dict[str, Any], there: Dict[str, Any], what: str) -> None:
-        """Compares what two pages show. A page that was just resized may not have drawn a row at its lower edge: those count that both show."""
-        rows, others = here.pop('rows'), there.pop('rows')
-        both = rows.keys() & others.keys()
-        self.assertGreaterEqual(len(both), min(8, len(others)), what)
-        for part in both:
-            self.assertEqual(rows[part], others[part], f'{what}: row {part}')
-        for part, shown in there.items():
-            self.assertEqual(here[part], shown, f'{what}: {part}')
+    def same(self, seen: Dict[str, Any], session: Session, opcodes: List[Tuple[int, str]], what: str) -> None:
+        """Compares what is seen with the session at the place, and the rows with the opcodes as far as these are known."""
+        place = int(seen['#where'][0].split()[1])
+        session.goto(place)
+        where = session.where()
+        results = ''.join(f' #{number}' for number in where.results)
+        self.assertEqual(seen['#where'], [f'at {place} of {where.places}, offset {where.offset}, end {where.end.text}{results and ", result" + results}'], what)
+        stack = [f'#{each.number}' if isinstance(each, Ref) else f'mark, set by the opcode at place {each.place}' for each in reversed(session.stack())]
+        shown = [text if text.startswith('mark') else text.partition(' ')[0] for text in seen['#stack li']]
+        self.assertEqual(shown, stack[:500] + ([f'{len(stack) - 500}'] if len(stack) > 500 else []) if stack else ['empty'], what)
+        memo = [f'{key} = #{number}' for key, number in session.memo().items()]
+        self.assertEqual([' '.join(text.split()[:3]) for text in seen['#memo li']][-500:], memo[-500:] if memo else ['empty'], what)
+        self.assertEqual(len(seen['#objects .thing']) - len(seen['#objects .inner .thing']), min(200, len(session.objects())), what)
+        for row, (_, label, _) in seen['rows'].items():
+            if int(row) < min(len(opcodes), where.places):
+                self.assertIn('{}, {}'.format(*opcodes[int(row)]), label, f'{what}: row {row}')
+
+
+def known(data: bytes) -> Iterator[Tuple[Any, Any, int]]:
+    """The opcodes of a pickle, as far as pickletools reads them."""
+    with contextlib.suppress(ValueError):
+        yield from pickletools.genops(data)
 
 
 @unittest.skipIf(PROGRAM is None, "there is no Chromium: Debian's chromium has it")
@@ -223,14 +214,14 @@ class InFirefox(Driven):
         cls.browser = firefox.Firefox(1200, 800)
         cls.addClassCleanup(cls.browser.close)
 
-    def test_real_pickles_show_the_same(self) -> None:
+    def test_real_pickles(self) -> None:
         self.compare(SHOWN)
 
 
 class Alone(InChromium):
     """What is opened, shown, taught, edited and saved."""
 
-    def test_twenty_real_pickles_show_the_same(self) -> None:
+    def test_twenty_real_pickles(self) -> None:
         self.assertEqual(len(SHOWN), 20)
         self.compare(SHOWN)
 
@@ -408,7 +399,7 @@ class Alone(InChromium):
         self.load()
         self.pasted((SYSTEM[:-1] + b']K\x07ah\x05.').hex(), 10)
         here = ['nothing → #0 posix.system', 'nothing → mark', "nothing → #1 text 'id'", "mark, #1 text 'id' → #2 tuple (#1)",
-                "#0 posix.system, #2 tuple (#1) → #3 posix.system('id')", 'nothing → #4 list', 'nothing → #5 int 7', '#4 list, #5 int 7 → #4 list',
+                "#0 posix.system, #2 tuple (#1) → #3 posix.system('id')", 'nothing → #4 list', 'nothing → #5 int 7', '#4 list, #5 int 7 → #4 list +#5',
                 'refused, C3 item 8: S3 no memo entry 5']
         for place, wanted in enumerate(here):
             self.browser.js(f'void go({place})')
@@ -418,22 +409,6 @@ class Alone(InChromium):
         self.browser.js(SETTLED)
         self.assertEqual(self.texts('#opcode .effect'), ['stack: nothing → what is imported'])
         self.assertEqual(self.browser.errors(), [])
-
-    def test_finding(self) -> None:
-        """What is found is what the document of the server finds, from each place on."""
-        texts = ["it's", 'a\\b', 'x' * 700 + "need'le" + 'y' * 700, 'need', '\u20ac']
-        data = pickle.dumps(texts, 3)
-        path = self.file('long.pickle', data)
-        self.load()
-        self.give(path)
-        document = Document(data, 'a pickle', False)
-        self.addCleanup(document.close)
-        wanted = ["it's", 'a\\b', 'a\\\\b', "need'le", 'y' * 600, 'need', '\u20ac', "'need'", '2', '200000', 'nowhere', 'MARK', '']
-        places = range(len(document.lines))
-        asked = json.dumps([[text, place] for text in wanted for place in places])
-        found = self.browser.js(f'(async () => {{ const found = []; for (const [text, after] of {asked}) '
-                                "found.push((await host.ask('find', { text, after })).place); return found; })()")
-        self.assertEqual(found, [document.find(text, place) for text in wanted for place in places])
 
     # --- Values ---
 
@@ -456,6 +431,17 @@ class Alone(InChromium):
                 read += 1
         self.assertGreater(read, 500)
         self.assertGreater(sum(text is not None for text in typed), 0.98 * len(typed))
+
+    def test_numbers_are_found(self) -> None:
+        """In each form in which an opcode may hold them."""
+        values = [-7, 1.5, 70_000, 3, -(1 << 40), 1 << 70]
+        data = pickle.dumps([*values, b'x'], 4)
+        self.load()
+        self.give(self.file('numbers.pickle', data))
+        places = {value: place for place, (opcode, value, _) in enumerate(pickletools.genops(data)) if 'INT' in opcode.name or opcode.name in ('LONG1', 'BINFLOAT')}
+        for value in values[:3] + values[4:]:
+            self.browser.js(f'void find({json.dumps(str(value))})')
+            self.said(f'found at place {places[value]}')
 
     def test_what_is_no_value_is_said(self) -> None:
         self.load()
@@ -620,13 +606,17 @@ class Alone(InChromium):
         self.browser.key('ArrowRight')
         self.browser.wait("document.querySelector('#where').textContent.startsWith('at 1 of 300000,')")
         self.browser.js("toggle(7)")
+        self.browser.js("select(9)")
         self.browser.key('Delete')
-        self.said('not done: edits wait until the rest is read')
-        self.assertEqual(self.browser.js("['edit', 'save'].map((id) => document.getElementById(id).disabled)"), [True, True])
+        self.said('edited 9')
+        self.browser.wait("document.querySelector('#where').textContent.startsWith('at 1 of 299999,')")
         self.browser.js('void mayRead()')
-        self.browser.wait("document.querySelector('#where').textContent.startsWith('at 1 of 2500005,')")
+        self.browser.wait("document.querySelector('#where').textContent.startsWith('at 1 of 2500004,')")
         self.assertTrue(any(text.startswith('The rest is being read: list: ') for text in self.browser.js('window.said')))
         self.assertEqual((self.texts('#rest'), self.texts('#said')), ([''], ['all is read']))
+        self.browser.key('u')
+        self.said('undone 9: delete at 9')
+        self.browser.wait("document.querySelector('#where').textContent.startsWith('at 1 of 2500005,')")
         self.browser.key(' ')
         self.browser.wait("document.querySelector('#where').textContent.startsWith('at 7 of 2500005,')")
         self.browser.key('End')
@@ -636,18 +626,18 @@ class Alone(InChromium):
     def test_more_opcodes_than_are_read(self) -> None:
         """It says what it shows, what all of it imports and calls, and another pickle opens as before."""
         self.load()
-        self.give(self.file('larger.pickle', SYSTEM[:-1] + b'(' + b'N' * 8_100_000 + b'1' + SYSTEM))
+        self.give(self.file('larger.pickle', SYSTEM[:-1] + b'(' + b'N' * 16_100_000 + b'1' + SYSTEM))
         self.browser.wait("document.querySelector('#reached').textContent === 'imports 0 of 2, calls 0 of 2'")
         self.browser.wait("document.querySelectorAll('#reaches .thing').length === 4")
-        self.assertEqual(self.texts('#reaches .thing'), ['0 import posix.system', "23 posix.system('id')", '8100026 import posix.system',
-                                                         "8100049 posix.system('id')"])
-        for key, said in (('n', 'at 4'), ('n', 'the next call is at offset 8100049, which is not read')):
+        self.assertEqual(self.texts('#reaches .thing'), ['0 import posix.system', "23 posix.system('id')", '16100026 import posix.system',
+                                                         "16100049 posix.system('id')"])
+        for key, said in (('n', 'at 4'), ('n', 'the next call is at offset 16100049, which is not read')):
             self.browser.key(key)
             self.said(said)
         self.browser.js("document.querySelectorAll('#reaches .thing')[2].click()")
-        self.said('offset 8100026 is not read: it cannot be shown')
-        self.browser.wait("document.querySelector('#rest').textContent === 'The first part is shown alone: more than 8,000,000 opcodes are not "
-                          "read here (picklestep view shows them)'")
+        self.said('offset 16100026 is not read: it cannot be shown')
+        self.browser.wait("document.querySelector('#rest').textContent === 'The first part is shown alone: more than 16,000,000 opcodes are not "
+                          "read here (picklestep shell opens them)'")
         self.assertTrue(self.texts('#where')[0].startswith('at 4 of 300000,'))
         self.browser.js("showPane('result')")
         self.browser.js(SETTLED)
@@ -735,10 +725,12 @@ class Alone(InChromium):
         self.browser.js(SETTLED)
         self.assertEqual(self.texts('#source'), [source(one, full=False).text])
         self.assertLess(len(self.texts('#source')[0]), 3000)
-        self.give(self.file('marks.pickle', b'(' * 300_000 + b'N' + b't' * 300_000 + b'.'))
-        self.browser.wait("document.querySelector('#rest').textContent === 'The first part is shown alone: too many marks are open at once to be shown'")
-        self.choose(self.file('frame.pickle', b'\x80\x04\x95' + (600_002).to_bytes(8, 'little') + b'(' * 300_000 + b'N' + b't' * 300_000 + b'.'))
-        self.said('not done: too many marks are open at once to be shown')
+        marks = b'(' * 300_000 + b'N' + b't' * 300_000 + b'.'
+        for name, before in (('marks.pickle', b''), ('frame.pickle', b'\x80\x04\x95' + len(marks).to_bytes(8, 'little'))):
+            self.give(self.file(name, before + marks))
+            self.browser.wait(f"document.querySelector('#where').textContent.startsWith('at 0 of {len(marks) + 2 * bool(before)},')")
+            self.browser.key('End')
+            self.browser.wait("document.querySelector('#objects-shown').textContent.endsWith('of 300001')")
         self.assertEqual(self.browser.errors(), [])
 
     def test_many_opcodes_in_frames(self) -> None:

@@ -1,7 +1,6 @@
 """The page of a pickle in a real browser: steps, breakpoints, edits, and a million opcodes.
 
-The page without a server is compared with this one in test_view_alone, which also looks for texts, reads several pickles, shows hostile texts in
-both pages, and tries widths.
+It is the page of test_view_alone, which looks at what it shows; here it comes from a server.
 With PICKLESTEP_LARGE set, a pickle of 200 MB is opened and edited too.
 """
 
@@ -17,15 +16,12 @@ import time
 import unittest
 from pathlib import Path
 from typing import Any, List
-from unittest import mock
 
 import picklestep
 from chromium import ACCESSIBILITY, CONTRASTS, FILLED, PROGRAM, Browser
-from picklestep import Ref, Session, first
+from picklestep import Ref, Session
 from picklestep.view.command import _leading_to, main
-from picklestep.view.server import Viewer
-from picklestep.view.viewed import Viewed
-from test_shell_part import ROWS, Call
+from picklestep.view.server import Served, Viewer
 
 REAL = Path(__file__).resolve().parent / 'data' / 'models' / 'sklearn_tree.pkl'
 SYSTEM = b'cposix\nsystem\n(X\x02\x00\x00\x00idtR.'
@@ -47,9 +43,7 @@ class InBrowser(unittest.TestCase):
 
     def open(self, source: Any) -> Viewer:
         """Opens the page of a pickle, and waits until it is shown."""
-        document = Viewed(source, 'a pickle')
-        self.addCleanup(document.close)
-        viewer = Viewer(document)
+        viewer = Viewer(Served(source, 'a pickle'))
         thread = threading.Thread(target=viewer.serve, daemon=True)
         thread.start()
         self.addCleanup(self._end, viewer, thread)
@@ -334,36 +328,10 @@ class InBrowser(unittest.TestCase):
         self.assertIn(HOSTILE_NAME, self.browser.js("document.querySelector('#sizes').textContent"))
         self.assertEqual(self.browser.js("document.querySelectorAll('#sizes :not(svg, g, title, rect, text)').length"), 0)
         self.browser.key('Escape')
-        with mock.patch('picklestep.view.sizes.MOST_OPCODES', 3):
-            self.browser.key('z')
-            self.browser.wait("document.querySelector('#sizes-said').textContent.startsWith('Too long')")
+        self.browser.js('void (view.state.places = 1_000_001)')
+        self.browser.key('z')
+        self.browser.wait("document.querySelector('#sizes-said').textContent.startsWith('Too long')")
         self.browser.key('Escape')
-
-    def test_the_first_part_of_a_long_pickle(self) -> None:
-        """What is read is shown, with what all of it imports and calls; a button reads the rest."""
-        data = pickle.dumps([*ROWS, Call(), Call()], 2)
-        with Session(data) as session, mock.patch.object(first, 'MOST_FIRST', 40):
-            places = session.where().places
-            self.open(data)
-            self.assertEqual(self.texts('#where'), ['at 0 of 40, offset 0, end not read yet'])
-            self.browser.wait("document.querySelector('#reached').textContent === 'imports 0 of 1, calls 0 of 2'")
-            self.assertEqual(self.texts('#closing'), ['the first 40 opcodes: the rest is not read'])
-            self.assertRegex(self.texts('#rest-takes')[0], '^It may take .* of memory.$')
-            self.assertEqual(self.browser.js(ACCESSIBILITY), [])
-            self.browser.key('n')
-            self.browser.wait("document.querySelector('#said').textContent.endsWith(', which is not read')")
-            self.browser.js("document.querySelector('#listing').focus()")
-            self.browser.key('Delete')
-            self.said('edited 0')
-            self.browser.wait("document.querySelector('#reached').textContent === 'imports 0 of 1, calls 0 of 2'")
-            self.browser.key('u')
-            self.said('undone 0')
-            self.press('ArrowRight', 1)
-            self.browser.js("document.querySelector('#read-rest').click()")
-            self.said(f'all {places:,} opcodes are read')
-            self.assertTrue(self.texts('#where')[0].startswith(f'at 1 of {places}, '))
-            self.assertTrue(self.browser.js("document.querySelector('#part').hidden"))
-            self.press('End', places)
 
     def test_the_page_of_its_own(self) -> None:
         with tempfile.TemporaryDirectory() as folder:
@@ -395,6 +363,7 @@ class InBrowser(unittest.TestCase):
 
     def test_a_million_opcodes(self) -> None:
         self.open(b'\x80\x04](' + b'K\x01' * 1_000_000 + b'e.')
+        self.browser.wait('!view.state.part')
         self.assertLess(self.browser.js("document.querySelectorAll('.row').length"), 60)
         self.browser.call('Performance.enable', timeDomain='threadTicks')
         before = self.page_seconds()
@@ -420,7 +389,8 @@ class InBrowser(unittest.TestCase):
             new MutationObserver(() => window.told.push(said.textContent)).observe(said, { childList: true }); })()""")
         self.edit_and_undo()
         told = self.browser.js('window.told')
-        self.assertEqual([told[told.index(text) - 1] for text in ('edited 0', 'undone 0: insert MARK at 0')], ['working ..'] * 2)
+        done = [told.index(text) for text in ('edited 0', 'undone 0: insert MARK at 0')]
+        self.assertEqual(['working ..' in told[:done[0]], 'working ..' in told[done[0]:done[1]]], [True, True])
 
     @unittest.skipUnless(os.environ.get('PICKLESTEP_LARGE'), 'PICKLESTEP_LARGE is not set')
     def test_200_megabytes(self) -> None:

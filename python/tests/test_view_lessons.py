@@ -15,7 +15,7 @@ from typing import List
 from chromium import ACCESSIBILITY, PROGRAM, READY, SETTLED, Browser
 from pickles import ROOT
 from picklestep.plain import PLAIN
-from picklestep.view.command import _opened, _parser
+from picklestep.view.command import _parser, _served
 from picklestep.view.server import Viewer
 
 PAGE = ROOT / 'dist' / 'picklestep.html'
@@ -80,11 +80,10 @@ class Lessons(unittest.TestCase):
 
     def serve(self, *words: str) -> None:
         """Opens the page with a server, of a file."""
-        document = _opened(_parser().parse_args(words))
-        viewer = Viewer(document)
+        viewer = Viewer(_served(_parser().parse_args(words)))
         thread = threading.Thread(target=viewer.serve, daemon=True)
         thread.start()
-        for end in (document.close, lambda: viewer.__exit__(), thread.join, viewer.stop):
+        for end in (lambda: viewer.__exit__(), thread.join, viewer.stop):
             self.addCleanup(end)
         self.browser.go(viewer.address)
         self.browser.wait("document.querySelector('#where')?.textContent.startsWith('at ')")
