@@ -21,16 +21,15 @@ import subprocess
 import sys
 import tempfile
 import time
-import urllib.request
 from dataclasses import asdict, dataclass
 from pathlib import Path
-from typing import Any, Callable, Dict, Iterator, List, Optional, Sequence, Tuple
+from typing import Callable, Dict, Iterator, List, Optional, Sequence, Tuple
 
 import inputs
 import limit
 import processes
 from inputs import MEGABYTE, ROOT
-from processes import Watch, environment, least, run
+from processes import least, run
 
 sys.path.insert(0, str(ROOT / 'python'))
 import picklestep  # noqa: E402
@@ -231,34 +230,6 @@ def rows_of_slow(folder: Path, scale: fractions.Fraction) -> Iterator[Row]:
 
 # --- The debugger ---
 
-def ask(address: str, word: str, **fields: Any) -> Any:
-    """The answer of the page's server to a question."""
-    origin = address.rstrip('/').rpartition('/')[0]
-    request = urllib.request.Request(f'{address.rstrip("/")}/{word}', json.dumps(fields).encode(), {'Origin': origin})
-    with urllib.request.urlopen(request) as answer:
-        return json.load(answer)
-
-
-def first_page(path: Path, given: str) -> Row:
-    """How long `view` takes until a browser has what it shows first."""
-    start = time.perf_counter()
-    server = subprocess.Popen([ENTRANCE, 'view', '--no-browser', str(path)], stdout=subprocess.PIPE, stderr=subprocess.DEVNULL, text=True, env=environment())
-    watch = Watch(server.pid, with_itself=True)
-    watch.start()
-    try:
-        assert server.stdout is not None
-        address = server.stdout.readline().strip()
-        ask(address, 'open')
-        ask(address, 'lines', start=0, count=200)
-        seconds = time.perf_counter() - start
-    finally:
-        most = watch.end()
-        server.terminate()
-        server.wait()
-    print(f'view: {seconds:.2f} s, {most / MEGABYTE:.1f} MB', file=sys.stderr)
-    return Row('debugger', '`view`: until the page is there', given, seconds, None, most)
-
-
 def rows_of_debugger(folder: Path, scale: fractions.Fraction) -> Iterator[Row]:
     """Steps and edits, and how long a debugger takes to open."""
     path, given, count = folder / '10.pickle', f'records of {sized(float(10 * scale))}', int(MEGABYTE * scale)
@@ -266,7 +237,6 @@ def rows_of_debugger(folder: Path, scale: fractions.Fraction) -> Iterator[Row]:
     for what, lines in {f'{count:,} single steps': b'step\n' * count, f'run to the end, and {count:,} steps back': back}.items():
         yield from command_row('debugger', f'`debug`: {what}', given, [ENTRANCE, 'debug', str(path)], folder, lines)
     yield from command_row('debugger', '`shell`: open it, and quit', given, [ENTRANCE, 'shell', str(path)], folder, b'quit\n')
-    yield first_page(path, given)
     yield from rows_of_long(folder / 'long.pickle', scale)
 
 

@@ -230,6 +230,8 @@ class Kept:
             '`picklestep: too large`, with status 2. Then ask `gate` about the pickle in it, or let `scan` ask the gate:\n\n'
             "    picklestep gate LIST 'model.pt > archive/data.pkl'\n"
             '    picklestep scan --allow LIST model.pt\n\n'
+            'With `--allow` `scan` asks `gate` about an archive of up to 64 MiB [as a whole](../reference/scan.md#a-file-that-gate-does-not-let-pass). It then '
+            'reads all of the archive. Of a larger one it reads no more than without a list.\n\n'
             'In Python [`check`](../reference/check.md) gives back the bytes of the whole file, so it needs as much memory as the file has bytes.')
 
     def _daily(self) -> str:

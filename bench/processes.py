@@ -61,17 +61,16 @@ class Taken:
 class Watch(threading.Thread):
     """Looks now and then how much memory all processes have together that a process started: often at first, in a long run less often."""
 
-    def __init__(self, process: int, with_itself: bool = False) -> None:
+    def __init__(self, process: int) -> None:
         super().__init__(daemon=True)
         self._most = 0
         self._ended = threading.Event()
         self._process = process
-        self._first = 0 if with_itself else 1
 
     def run(self) -> None:
         start = time.perf_counter()
         while not self._ended.wait(max(0.02, (time.perf_counter() - start) / 20)):
-            self._most = max(self._most, memory(family(self._process)[self._first:]))
+            self._most = max(self._most, memory(family(self._process)[1:]))
 
     def end(self) -> int:
         """The most that was seen."""

@@ -10,11 +10,10 @@ from json_of_texts import OPCODE_OF_ITEM, Fields, Nested, of_argument, of_end, o
 PLACED = {"at": "at", "break": "broke", "clear": "cleared", "edited": "edited", "undone": "undone", "redone": "redone"}
 RAN = re.compile(r"at (\d+): (end|breakpoint|refused)(?:, (.*))?")
 REFUSED = re.compile(r"refused: ([CXVM]\d*) ?(.*)")
-ITEM = re.compile(r"item (\d+): (.*)")
+ITEM, ENTRY = re.compile(r"item (\d+): (.*)"), re.compile(r"(\d+)=#(\d+)")
 PLACE = re.compile(r"(?:edit at|no item at offset) (\d+)(?: behind the cursor)?")
 INNER = re.compile(r"([EFM]\d*) (.*?)(?: 0x[0-9a-f]{2})?")
 WHERE = re.compile(r"at (\d+) of (\d+), offset (\d+), buffers (\d+), result (none|#.*), end (.*)")
-ENTRY = re.compile(r"(\d+)=#(\d+)")
 
 
 def groups(pattern: re.Pattern[str], text: str) -> tuple[str, ...]:
@@ -67,6 +66,13 @@ def item(line: str) -> Nested:
     cursor, breaks, place, offset, name, argument = groups(OPCODE_OF_ITEM, line)
     return {"kind": "opcode", "place": int(place), "offset": int(offset), "opcode": name, **(of_argument(argument) if argument else {}),
             "cursor": cursor == ">", "breakpoint": breaks == "*"}
+
+
+def own(looks: Mapping[str, str]) -> Sequence[Nested]:
+    """The answers to `breaks`, `items 1 3`, `items 3 1` and `objects 1 9`, which are cut out of what `items` and `objects` show."""
+    items, objects = ([one(each) for each in looks[name].splitlines()] for name, one in (("items", item), ("objects", of_object)))
+    return [{"kind": "breaks", "places": [each["place"] for each in items if each["breakpoint"]]}, {"kind": "items", "items": items[1:3]},
+            {"kind": "items", "items": []}, {"kind": "objects", "objects": objects[1:9]}]
 
 
 def of_answer(line: str, text: str, looks: Mapping[str, str]) -> Nested:

@@ -49,7 +49,9 @@ SAID = {
         "broken": r"(?:not deflated: (?:(?P<offset>\d+): )?|(?=another checksum))(?P<words>.*)",
         "archive": "an archive itself: .*",
         "container": "a container itself: .*",
-        "same_names": "two names .*",
+        "same_names": "two names that .*",
+        "unclear_names": "two names for .*",
+        "two_kinds": "a loader may take the archive itself .*",
         "too_large": "it unpacks to .*",
     }.items()
 }
@@ -176,8 +178,9 @@ def of_gate(text: str) -> Fields:
     """The object of what the gate says, with the text in it. How a reason of form is named no text says."""
     fields: Fields = {"kind": "verdict"}
     said = text
-    if match := MEMBER.fullmatch(said):
-        fields.update(of_bytes("member", unquoted(match[1])))
+    while match := MEMBER.fullmatch(said):
+        is_packed = MEMBER.fullmatch(match[2])  # a tar archive in a packed file
+        fields.update(of_bytes("archive" if is_packed else "member", unquoted(match[1])))
         said = match[2]
     if said.startswith(BEHIND):
         fields["behind_header"], said = True, said[len(BEHIND) :]

@@ -56,7 +56,8 @@ NOT_THERE = {
     "test_stores_vanish": "servers of Linux are started",
     "test_view.Running.test_nothing_is_left_after_a_signal": "Windows has no SIGHUP",
     "test_view_alone": "the page is a browser's, and asks no program",
-    "test_view_browser": "the page is a browser's; what it asks is tried by test_view",
+    "test_view_browser": "the page is a browser's; its server is tried by test_view",
+    "test_view_worker": "the worker is a browser's, and asks no program",
 }
 # Beginnings of what is in no sample, with the processor seconds that it takes: rules of Python alone, which are the same on each machine
 # where the answers are (others try that), and terminals and clusters, which Windows has not.

@@ -180,9 +180,8 @@ def install(python: str, program: str, folder: Path) -> Tuple[str, str]:
     for name in LICENCES:
         shutil.copy(ROOT / name, folder)
     environment = {} if is_released(program) else {'PICKLESTEP_PROGRAM': program}
-    if not environment:
-        # The wheel looks for the released files next to its sources.
-        shutil.copytree(ROOT / 'dist', folder / 'dist')
+    # The wheel looks for the released files next to its sources.
+    shutil.copytree(ROOT / 'dist', folder / 'dist')
     installed = str(folder / 'environment' / 'bin' / 'python')
     wheels = folder / 'wheels'
     pip = [python, '-m', 'pip', '--disable-pip-version-check', '-q']

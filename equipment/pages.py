@@ -104,13 +104,11 @@ CHECKLISTS = [
             "python/picklestep/scan/results.py": "scan has a field of that name",
             "python/picklestep/shell/words.py": "the shell has words of its own",
             "python/picklestep/view/alone/document.js": "the page shows it",
-            "python/picklestep/document.py": "the page shows it",
             "python/picklestep/view/export.py": "the page shows it",
-            "python/picklestep/lines.py": "the page asks it",
+            "python/picklestep/pickle_lines.py": "a document asks it",
             "python/tests/test_gate.py": "scan has a field of that name",
             "python/tests/test_other_systems.py": "asks it of files on other drives",
             "python/tests/test_shell.py": "the shell has words of its own",
-            "python/tests/test_view.py": "the page shows it",
             "share/picklestep-scan.schema.json": "scan has a field of that name",
         },
     ),
@@ -396,8 +394,9 @@ def fault_of_notices(root: Path) -> str:
     """THIRD-PARTY names each library of others that is linked in, with the licence that the toolchain has of it, where that is there."""
     notices = (root / "THIRD-PARTY").read_text(encoding="utf-8")
     lines = [line.split(":") for line in (root / "crates.txt").read_text(encoding="utf-8").splitlines() if line.strip() and not line.startswith("#")]
-    own = {line[0].split()[0] for line in lines}
-    used = {name for line in lines for name in line[1].split()}
+    libraries = {line[0].split()[0]: line[1].split() for line in lines}
+    own, linked = set(libraries), {"picklestep", "picklestep_library"}
+    used = functools.reduce(lambda found, _: found | {name for crate in found & own for name in libraries[crate]}, own, linked)
     lacking = [f"the crate {name}" for name in sorted(used - own - set(OF_KIT)) if f"\n{name}, after the crate " not in notices]
     packages = [line.split() for line in (root / "dist" / "TOOLS").read_text(encoding="utf-8").splitlines()]
     lacking += [f"{name} {version}" for name, version in packages if name not in TOOLS and f"{name} {version}" not in " ".join(notices.split())]

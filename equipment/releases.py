@@ -521,8 +521,8 @@ ZSH = "share/zsh/site-functions/_picklestep"
 PLAIN = ("members",)  # (words without options)
 WORDS = ("scan", "view", "list", "objects", "calls", "form", "gate", "reach", "members", "assemble", "debug", "shell", "dap", "source", "diff", "size", "mend", "rename", "convert", "optimize")
 PAGES_OF = {"scan": PAGES[1], "view": PAGES[2]}
-PROGRAM = ("picklestep", "TOOLCHAIN", "libpicklestep.so")
-MODULE = ("picklestep.mjs", "picklestep.wasm", "libpicklestep.wasm", "TOOLCHAIN")
+PROGRAM = ("picklestep", "TOOLCHAIN", "libpicklestep.so", "picklestep.html")
+MODULE = ("picklestep.mjs", "picklestep.wasm", "libpicklestep.wasm", "TOOLCHAIN", "picklestep.html")
 ASK_LIBRARY = "from picklestep import library, place; print(library.answer(['list'], b'N.') is not None, place.find_program().rpartition('/')[2])"
 
 

@@ -37,13 +37,14 @@ sys.path.append(str(ROOT / "python"))
 
 import conversations  # noqa: E402
 import fuzz  # noqa: E402
+import json_of_answers  # noqa: E402
 import json_of_texts  # noqa: E402
 from picklestep import listed, made  # noqa: E402
 from picklestep.listing_records import Change, Object, Opcode  # noqa: E402
+from picklestep.made import object_of  # noqa: E402
 from picklestep.records import End, Ref  # noqa: E402
 from picklestep.session_records import Mark  # noqa: E402
-from picklestep.replies import memo_of, stack_of  # noqa: E402
-from picklestep.texts import object_of  # noqa: E402
+from picklestep.conversation import Memo, Stack  # noqa: E402
 from trials.trial import Noted, Trial  # noqa: E402
 
 OPS = "Rattle.pickle_ops.specs"
@@ -140,9 +141,9 @@ def results_of(line: str) -> Sequence[int]:
     return made.results_in(b"".join(json.dumps(fields, separators=(",", ":")).encode() + b"\n" for fields in json_of_texts.of_objects(line)))
 
 
-def opcode_in(line: str) -> Opcode:
-    """The opcode in a line of a listing, as the package reads it of the line of JSON that says the same."""
-    return listed.opcode_of(json_of_texts.of_opcode(line))
+def answer_in(line: str) -> bytes:
+    """The answer of `debug --json` that says the same as this line of `debug`."""
+    return json.dumps(json_of_answers.of_answer(line.split()[0], line, {}), separators=(",", ":")).encode("ascii") + b"\n"
 
 
 def end_in(line: str, *refused: Optional[int]) -> End:
@@ -219,7 +220,7 @@ class Lines:
         name = text_of(self.words.name_of(opcode))
         self.shown.add(name)
         of = Opcode(offsets[-1], bytes([self.words.code_of(opcode)]), name, self.argument(operation), said, len(marked))
-        return Line(text_of(self.words.item_line(operation, offsets[-1], len(marked), note)), of, opcode_in)
+        return Line(text_of(self.words.item_line(operation, offsets[-1], len(marked), note)), of, lambda line: listed.opcode_of(json_of_texts.of_opcode(line)))
 
     def said(self, kind: Made) -> Union[None, int, float, bytes, tuple[bytes, bytes]]:
         """What the opcode of an object says of it."""
@@ -237,16 +238,16 @@ class Lines:
         self.shown.add(kind.name)
         word = text_of(self.words.kind_text(kind)).partition(" ")[0]
         of = Object(number, word, self.said(kind), made["parts"], tuple(map(change_of, made["changes"])))
-        return Line(text_of(self.words.object_line(number, made)), of, object_of)
+        return Line(text_of(self.words.object_line(number, made)), of, lambda line: object_of(json_of_texts.of_object(line)))
 
     def of_stack(self, state: dict[str, Value]) -> Line:
         under: list[Union[Ref, Mark]] = []
         for marked in reversed(state["marked"]):
             under += [*map(Ref, marked["section"]), Mark(marked["place"])]
-        return Line(text_of(self.words.stack_text(state)), (*under, *map(Ref, state["top"])), stack_of)
+        return Line(text_of(self.words.stack_text(state)), (*under, *map(Ref, state["top"])), lambda line: Stack(answer_in(line)).all())
 
     def of_memo(self, state: dict[str, Value]) -> Line:
-        return Line(text_of(self.words.memo_text(state["memo"])), dict(entry.parts for entry in state["memo"]), memo_of)
+        return Line(text_of(self.words.memo_text(state["memo"])), dict(entry.parts for entry in state["memo"]), lambda line: Memo(answer_in(line)).all())
 
     # --- Closing lines ---
 

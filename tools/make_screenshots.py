@@ -15,8 +15,7 @@ ROOT = Path(__file__).resolve().parent.parent
 sys.path[:0] = [str(ROOT / 'python'), str(ROOT / 'python' / 'tests')]
 
 from chromium import PROGRAM, Browser  # noqa: E402
-from picklestep.view.server import Viewer  # noqa: E402
-from picklestep.view.viewed import Viewed  # noqa: E402
+from picklestep.view.server import Served, Viewer  # noqa: E402
 
 MODELS = ROOT / 'python' / 'tests' / 'data' / 'models'
 
@@ -28,8 +27,7 @@ def settle(browser: Browser) -> None:
 
 def take(browser: Browser, source: Path, keys: Sequence[str], shots: Sequence[Sequence[object]]) -> None:
     """Opens a pickle, presses keys, points at the top of the stack, and takes pictures: a name, a scheme, a width and a height."""
-    document = Viewed(source, source.name)
-    viewer = Viewer(document)
+    viewer = Viewer(Served(source, source.name))
     thread = threading.Thread(target=viewer.serve)
     thread.start()
     try:
@@ -50,7 +48,6 @@ def take(browser: Browser, source: Path, keys: Sequence[str], shots: Sequence[Se
         viewer.stop()
         thread.join()
         viewer.__exit__()
-        document.close()
 
 
 def main() -> int:

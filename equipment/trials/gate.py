@@ -4,9 +4,11 @@ from __future__ import annotations
 
 import functools
 import gzip
+import io
 import json
 import pickle
 import struct
+import tarfile
 import zipfile
 import zlib
 from dataclasses import dataclass
@@ -20,6 +22,9 @@ from .samples import NOT_ALLOWED, SEVERAL
 from .trial import Trial
 
 PASSES = "passes\n"
+# Lists that let this dictionary pass, and lines that have the arguments of this call.
+ALLOWING = (*(b"collections.OrderedDict" + uses for uses in (b": call made-fill\n", b"", b": call")), b"# a note\n\r\n\t collections.* # dictionaries\r\n", b"coll*.*Dict", b"**", b"collections.OrderedDict: call made\ncollections.*: made-fill\n")
+FITTING = (b"call(text 'latin1')\n", b"call() call(short|held 'latin-1'|'latin1') made\n", b"call()\n_codecs.*: call(any text)\n", b"call()\n**: call\n", b"call() call\n")
 # `OrderedDict(a=1)` in protocol 2.
 ORDERED = b"\x80\x02ccollections\nOrderedDict\nq\x00)Rq\x01X\x01\x00\x00\x00aq\x02K\x01s."
 # The same in protocol 4, where names are on the stack.
@@ -62,6 +67,7 @@ STATE = "27: not allowed: state #3 to #2\n"
 CHECKSUMS, SIZES = (CHECKSUM, CHECKSUM + 2), (SIZE, SIZE + 2)
 # `N.` as one block of deflate that stores it: the last block, the length, its complement, the bytes.
 BLOCK = b"\x01\x02\x00\xfd\xffN."
+UNCLEAR = "two names for one file, or a name with an empty part, . or ..: it is not looked at\n"
 TOO_LARGE = f"it unpacks to more than {1 << 30} bytes: it is not looked at\n"
 
 
@@ -73,6 +79,17 @@ def deflated(content: bytes, data: bytes) -> bytes:
     """An archive of one member, of which it is told that this content unpacks to these data."""
     made = in_both(zipped(("a.pkl", content)), METHOD, b"\x08")
     return in_both(in_both(made, SIZES, number(len(data))), CHECKSUMS, number(zlib.crc32(data)))
+
+
+def tarred(*members: "tuple[str, bytes]", form: int = tarfile.PAX_FORMAT) -> bytes:
+    """A tar archive. A name that ends with a slash is that of a directory."""
+    out = io.BytesIO()
+    with tarfile.open(fileobj=out, mode="w", format=form) as archive:
+        for name, content in members:
+            info = tarfile.TarInfo(name.rstrip("/"))
+            info.size, info.type = len(content), tarfile.DIRTYPE if name.endswith("/") else tarfile.REGTYPE
+            archive.addfile(info, io.BytesIO(content))
+    return out.getvalue()
 
 
 def broken(why: str) -> str:
@@ -88,6 +105,7 @@ def array(items: str, shape: str, width: int = 2) -> bytes:
 ARRAY, WIDE_ARRAY = array("'|O'", "()"), array("'|O'", "()", 4)
 OTHER_SIZE = "not in form: 128: more or fewer bytes than the header of the array tells\n"
 PACKED = zipped(("a.pkl", ORDERED), ("b.npy", array("'<f8'", "(80,)") + bytes(640)), method=zipfile.ZIP_DEFLATED)
+TAR = tarred(("./", b""), ("./a.pkl", ORDERED), ("./b.npy", array("'<f8'", "(80,)") + bytes(640)))
 MODEL = zipped(("archive/data.pkl", ORDERED), ("archive/data/0", bytes(64)), ("archive/version", b"3\n"))
 
 
@@ -120,28 +138,15 @@ class Case:
 
 
 CASES = (
-    Case("a name with its uses", b"collections.OrderedDict: call made-fill\n", ORDERED, PASSES),
     Case("the same of names on the stack", b"collections.OrderedDict: call made-fill\n", ORDERED_ON_STACK, PASSES),
-    Case("a name without a colon", b"collections.OrderedDict", ORDERED, PASSES),
-    Case("a call without a word for what it makes", b"collections.OrderedDict: call", ORDERED, PASSES),
-    Case("a pattern among notes and blanks", b"# a note\n\r\n\t collections.* # dictionaries\r\n", ORDERED, PASSES),
-    Case("a star inside a name", b"coll*.*Dict", ORDERED, PASSES),
-    Case("two stars", b"**", ORDERED, PASSES),
-    Case("two entries that have the name", b"collections.OrderedDict: call made\ncollections.*: made-fill\n", ORDERED, PASSES),
-    Case("an empty list", b"", ORDERED, IMPORT),
+    *(Case(f"names and uses that {listed!r} has", listed, ORDERED, PASSES) for listed in ALLOWING),
+    *(Case(f"a name that {listed!r} has not", listed, ORDERED, IMPORT) for listed in (b"", *(b"collections.%s\n" % name for name in (b"deque", b"OrderedDict.x", b"Ordered")), b"*\n")),
     Case("a pickle without an import, and an empty list", b"", b"N.", PASSES),
-    Case("a name that is not there", b"collections.deque\n", ORDERED, IMPORT),
-    Case("a name that goes on", b"collections.OrderedDict.x\n", ORDERED, IMPORT),
-    Case("a name that ends before", b"collections.Ordered\n", ORDERED, IMPORT),
-    Case("a star goes over no point", b"*\n", ORDERED, IMPORT),
-    Case("a call that is not allowed", b"collections.OrderedDict: new state fill made-fill\n", ORDERED, CALL),
-    Case("no use at all", b"collections.OrderedDict:\n", ORDERED, CALL),
-    Case("what a call made is filled", b"collections.OrderedDict: call made\n", ORDERED, FILL),
-    Case("what a call made has other uses", b"collections.OrderedDict: call fill made-call made-new made-state\n", ORDERED, FILL),
-    Case("a state, by its uses", b"m.C: new made-state\n", WITH_STATE, PASSES),
-    Case("a call allows __new__ too", b"m.C: call made-state\n", WITH_STATE, PASSES),
-    Case("__new__ that is not allowed", b"m.C: state made-state\n", WITH_STATE, NEW),
-    Case("a state that is not allowed", b"m.C: new state made-fill\n", WITH_STATE, STATE),
+    *(Case(f"a call without {uses!r}", b"collections.OrderedDict:%s\n" % uses, ORDERED, CALL) for uses in (b" new state fill made-fill", b"")),
+    *(Case(f"what a call made is filled, by {uses!r}", b"collections.OrderedDict: call %s\n" % uses, ORDERED, FILL) for uses in (b"made", b"fill made-call made-new made-state")),
+    *(Case(f"a state by {uses!r}", b"m.C: %s made-state\n" % uses, WITH_STATE, PASSES) for uses in (b"new", b"call")),
+    *(Case(f"__new__ without {uses!r}", b"m.C: %s\n" % uses, WITH_STATE, NEW) for uses in (b"state made-state", b"call(held)", b"new call(held)")),
+    *(Case(f"a state without {uses!r}", b"m.C: new %s\n" % uses, WITH_STATE, STATE) for uses in (b"state made-fill", b"then(held)")),
     Case("a second state of an object with slots", ANY_STATE, SLOT_TWICE, "66: not allowed: state 'id' to #2\n"),
     Case("a second state", ANY_STATE, STATE_TWICE, "62: not allowed: state 'id' to #2\n"),
     Case("a second state of an object that changed its class", ANY_STATE, CLASS_TWICE, "63: not allowed: state 'id' to #2\n"),
@@ -164,8 +169,7 @@ CASES = (
     Case("a name of Python 2", b"__builtin__.reduce:\n", RENAMED, "2: not allowed: import 'functools' 'reduce' for '__builtin__' 'reduce' as #0\n"),
     Case("a persistent id", b"persistent\n", PERSISTENT, PASSES),
     Case("a persistent id that is not allowed", b"buffer\n**.x\n", PERSISTENT, "10: not allowed: persistent 'a' as #1\n"),
-    Case("an extension", b"ext 5\n", EXTENSION, PASSES),
-    Case("any extension", b"ext *\n", EXTENSION, PASSES),
+    *(Case(f"an extension by {listed!r}", listed, EXTENSION, PASSES) for listed in (b"ext 5\n", b"ext *\n")),
     Case("another extension", b"ext 6\n", EXTENSION, "2: not allowed: import ext 5 as #0\n"),
     Case("a buffer", b"buffer\n", BUFFER, PASSES),
     Case("a buffer that is not allowed", b"persistent\n", BUFFER, "2: not allowed: buffer 0 as #0\n"),
@@ -176,20 +180,9 @@ CASES = (
     Case("bytes behind STOP", b"**", b"N.N.", "not in form: item 2 at 2: bytes behind STOP\n"),
     Case("another form before what is not allowed", b"", b"J\x01\0\0\0" + ORDERED, "not in form: item 0 at 0: a number that has a shorter form\n"),
     Case("another form behind what is not allowed", b"", ORDERED[:-1] + b"0N.", IMPORT),
-    Case("arguments of a shape", b"_codecs.encode: call(text 'latin1')\n", ENCODED, PASSES),
-    Case("arguments of one of two shapes", b"_codecs.encode: call() call(short|held 'latin-1'|'latin1') made\n", ENCODED, PASSES),
-    Case("arguments of a shape in another entry", b"_codecs.encode: call()\n_codecs.*: call(any text)\n", ENCODED, PASSES),
-    Case("an entry without shapes", b"_codecs.encode: call()\n**: call\n", ENCODED, PASSES),
+    *(Case(f"arguments by {listed!r}", b"_codecs.encode: " + listed, ENCODED, PASSES) for listed in FITTING),
     Case("an entry without shapes and without a call", b"_codecs.encode: call()\n**: state\n", ENCODED, ENCODE),
-    Case("a call without a shape beside one with a shape", b"_codecs.encode: call() call\n", ENCODED, PASSES),
-    Case("another text", b"_codecs.encode: call(text 'latin-1')\n", ENCODED, ENCODE),
-    Case("the text of another argument", b"_codecs.encode: call('latin1' text)\n", ENCODED, ENCODE),
-    Case("too few arguments", b"_codecs.encode: call(text text text)\n", ENCODED, ENCODE),
-    Case("too many arguments", b"_codecs.encode: call(text)\n", ENCODED, ENCODE),
-    Case("no arguments", b"_codecs.encode: call()\n", ENCODED, ENCODE),
-    Case("arguments of __new__", b"m.C: call(held)\n", WITH_STATE, NEW),
-    Case("arguments of __new__ by its own word", b"m.C: new call(held)\n", WITH_STATE, NEW),
-    Case("a state of a shape, of what __new__ made", b"m.C: new then(held)\n", WITH_STATE, STATE),
+    *(Case(f"arguments that are not {shape!r}", b"_codecs.encode: call(%s)\n" % shape, ENCODED, ENCODE) for shape in (b"text 'latin-1'", b"'latin1' text", b"text text text", b"text", b"")),
     Case("a list that the pickle wrote out", b"builtins.set: call(listed)\n", SET, PASSES),
     Case("what a call made in its place", b"builtins.set: call(listed)\ncollections.OrderedDict: call\n", SET_OF_CALL, "52: not allowed: call 'builtins' 'set' (#3) as #5\n"),
     Case("bytes that a call makes", b"builtins.bytearray: call(bytes)\n_codecs.encode: call\n", ARRAY_OF_BYTES, PASSES),
@@ -220,8 +213,7 @@ CASES = (
     Case("a member that unpacks to too much", b"", in_both(PACKED, SIZES, number((1 << 30) + 1), 1), TOO_LARGE),
     Case("members that do so together", b"", in_both(in_both(PACKED, SIZES, number(1 << 29), 0), SIZES, number((1 << 29) + 1), 1), TOO_LARGE),
     Case("names that differ in case alone", b"", zipped(("a.pkl", b"N."), ("A.pkl", b"N.")), "two names that differ in case alone: it is not looked at\n"),
-    Case("an archive in an archive", b"**", zipped(("a.zip", zipped(("a.pkl", b"N.")))), "'a.zip': an archive itself: it is not looked at\n"),
-    Case("an archive without members in an archive", b"**", zipped(("a.zip", zipped())), "'a.zip': an archive itself: it is not looked at\n"),
+    *(Case(f"an archive of {len(given)} bytes in an archive", b"**", zipped(("a", given)), "'a': an archive itself: it is not looked at\n") for given in (zipped(("a.pkl", b"N.")), zipped(), TAR)),
     Case("arrays of numbers", b"", zipped(("a.npy", array("'<f8'", "(2,)") + bytes(16)), ("b.npy", array("'<U2'", "(1, 2)", 4) + b"c" * 16)), PASSES),
     Case("an array of fewer bytes than are told", b"", zipped(("a.npy", array("'<f8'", "(2,)") + bytes(13))), f"'a.npy': {OTHER_SIZE}"),
     Case("an array in a file", b"", array("'<M8[ns]'", "(3, 2)") + b"c" * 48, PASSES),
@@ -231,10 +223,15 @@ CASES = (
     Case("bytes behind a packed file", b"**", gzip.compress(b"N.") * 2, "not in form: 22: bytes behind the end of the stream\n"),
     Case("a packed file with another checksum", b"**", zlib.compress(b"N.")[:-1] + b"?", "not in form: 6: another checksum than is told\n"),
     Case("a packed file in a packed file", b"**", gzip.compress(zlib.compress(b"N.")), "'(gzip)': a container itself: it is not looked at\n"),
+    *(Case(f"a tar archive, {number}", b"collections.OrderedDict: call made-fill", given, PASSES) for number, given in enumerate((TAR, gzip.compress(TAR), *(tarred(("m.pkl", ORDERED), ("n" * 120, b""), form=form) for form in (tarfile.GNU_FORMAT, tarfile.PAX_FORMAT))))),
+    Case("a member of a tar archive that is not allowed", b"", TAR, f"'./a.pkl': {IMPORT}"),
+    Case("one in a packed file", b"", gzip.compress(TAR), f"'(gzip)': './a.pkl': {IMPORT}"),
+    Case("a tar archive with a byte behind", b"**", TAR + b"\n", "not in form: 3072: an end that is not filled with zeros as writers fill it\n"),
+    *(Case(f"a tar archive with {name}", b"**", tarred(("a", b"N."), (name, b"N.")), UNCLEAR) for name in ("a", "./A", "a/../b", "/a")),
+    Case("a tar archive from which a loader imports", b"**", tarred(("cos.x", b"N.\n\n")), "a loader may take the archive itself for something else: it is not looked at\n"),
     Case("a command behind a persistent id", b"persistent\n", zipped(("a.pkl", PERSISTENT[:-1] + SYSTEM)), "'a.pkl': 11: not allowed: import 'posix' 'system' as #2\n"),
     Case("a persistent id in a member", b"", zipped(("a.pkl", PERSISTENT)), "'a.pkl': 10: not allowed: persistent 'a' as #1\n"),
-    Case("numbers that begin as a persistent id of nothing", b"", zipped(("data/0", b"Q" + SYSTEM)), PASSES),
-    Case("numbers that begin as a persistent id that is not ASCII", b"", zipped(("data/0", b"Pa\xff\n" + SYSTEM)), PASSES),
+    *(Case(f"numbers that begin as a persistent id of {given!r}", b"", zipped(("data/0", given + SYSTEM)), PASSES) for given in (b"Q", b"Pa\xff\n")),
     Case("one that the file ends", b"", zipped(("data/0", b"Pab\xff")), "'data/0': not in form: item 0 at 0: no opcode can be read\n"),
     Case("one that is ASCII", b"persistent\n", zipped(("data/0", b"Pa\n" + SYSTEM)), "'data/0': 3: not allowed: import 'posix' 'system' as #1\n"),
     Case("an array of objects", b"", zipped(("a.npy", ARRAY + SYSTEM)), "'a.npy': behind its header: 0: not allowed: import 'posix' 'system' as #0\n"),

@@ -27,17 +27,12 @@ MODES: Sequence[Sequence[str]] = ((), ("--many",), ("--unframed",), ("--many", "
 TOGETHER = 20  # pickles whose lines Node reads in one start
 CALLS_MODES: Sequence[Sequence[str]] = ((), ("--first",), ("--memo", "kept"), ("--full",), ("--memo", "kept", "--full"))
 # Reads lines of JSON, and writes each again without white space.
-NODE = """
-const lines = require('fs').readFileSync(0, 'utf8').split('\\n');
-lines.pop();
-process.stdout.write(lines.map((line) => JSON.stringify(JSON.parse(line)) + '\\n').join(''));
-"""
+NODE = r"process.stdout.write(require('fs').readFileSync(0, 'utf8').split('\n').slice(0, -1).map((line) => JSON.stringify(JSON.parse(line)) + '\n').join(''))"
 
 
 def of_node(room: Room, lines: bytes) -> bytes:
     """The lines as Node reads them, written again."""
-    node = shutil.which("node")
-    if node is None:
+    if (node := shutil.which("node")) is None:
         raise Lack("there is no node (Node 20 or later: equipment/install_servers)")
     return run([node, "-e", NODE], room.files, lines).output
 
@@ -130,7 +125,8 @@ def fault_of_forms(room: Room, page: Path) -> str:
 
 # No item has this offset: the refusal of it marks where the answer to a line ends.
 MARK, MARKED = "goto @18446744073709551614", "refused: V2 no item at offset 18446744073709551614\n"
-LOOKS = ("stack", "memo", "objects")
+LOOKS = ("stack", "memo", "objects", "items")
+OWN = ("breaks", "items 1 3", "items 3 1", "objects 1 9")  # what JSON alone answers
 
 
 def fault_of_answers(room: Room, page: Path) -> str:
@@ -144,10 +140,11 @@ def fault_of_answers(room: Room, page: Path) -> str:
         file.write_bytes(block.pickle)
         lines = [each for line in block.script for each in (line, *LOOKS)]
         text = run([room.program, "debug", *block.options, file], folder, "".join(f"{line}\n{MARK}\n" for line in lines).encode())
-        found = run([room.program, "debug", "--json", *block.options, file], folder, "".join(f"{line}\n" for line in lines).encode())
+        own = () if "quit" in block.script else OWN
+        found = run([room.program, "debug", "--json", *block.options, file], folder, "".join(f"{line}\n" for line in (*lines, *own)).encode())
         texts = text.output.decode().split(MARKED)[: len(lines)]
-        looks = [dict(zip(LOOKS, texts[at - at % 4 + 1 :])) for at in range(len(texts))]
-        wanted = [json_of_answers.of_answer(*each) for each in zip(lines, texts, looks)]
+        looks = [dict(zip(LOOKS, texts[at - at % 5 + 1 :])) for at in range(len(texts))]
+        wanted = [*(json_of_answers.of_answer(*each) for each in zip(lines, texts, looks)), *(json_of_answers.own(looks[-1]) if own else ())]
         why = found.fault_of_status(int(any(each["kind"] == "refused" for each in wanted))) or fault_of_lines(found.output, wanted)
         if why or found.errors:
             return f"{block.name}: {why or beginning(found.errors)}"
@@ -159,16 +156,14 @@ def opcode(offset: int, name: str, rest: str = "") -> str:
     return f'{{"kind":"opcode","offset":{offset},"opcode":"{name}",{rest}"marks":0}}\n'
 
 
-TWICE = "".join(
-    opcode(at, "BININT1", '"argument":1,') + opcode(at + 2, "DUP") + opcode(at + 3, "TUPLE2") + opcode(at + 4, "STOP") for at in (0, 5)
-) + '{"kind":"end","how":"stopped","kept":0,"protocol":2}\n'
+TWICE = "".join(opcode(at, "BININT1", '"argument":1,') + opcode(at + 2, "DUP") + opcode(at + 3, "TUPLE2") + opcode(at + 4, "STOP") for at in (0, 5))
+TWICE += '{"kind":"end","how":"stopped","kept":0,"protocol":2}\n'
 ROWS = (
     Row("JSON of a pair", ("list", "--json", "pair.pickle"), output=PAIR_JSON),
     Row("JSON of a pair, by the option behind it", ("list", "pair.pickle", "--json"), output=PAIR_JSON),
     Row("JSON of the objects of a pair", ("objects", "--json", "pair.pickle"), output=PAIR_OBJECTS_JSON),
     Row("JSON of two pickles", ("list", "--many", "--json", "twice.pickle"), output=TWICE),
-    Row("JSON of an argument that is cut", ("list", "--json", "cut_short.pickle"), status=1,
-        output='{"kind":"end","how":"fault","code":"F3","words":"truncated","offset":0,"of_frame":false}\n'),
+    Row("JSON of an argument that is cut", ("list", "--json", "cut_short.pickle"), status=1, output='{"kind":"end","how":"fault","code":"F3","words":"truncated","offset":0,"of_frame":false}\n'),
     fails("JSON of a file past the size limit", "too large", "list", "--json", "too_large.pickle"),
     fails("JSON, on a full device", "cannot write", "list", "--json", "pair.pickle", through=FULL),
     fails("JSON, with closed standard output", "cannot write", "list", "--json", "pair.pickle", through=CLOSED),
@@ -177,8 +172,7 @@ ROWS = (
 
 def trials(room: Room) -> list[Trial]:
     pickles = sorted(room.pickles.glob("*.pickle"))
-    parts = [pickles[at : at + TOGETHER] for at in range(0, len(pickles), TOGETHER)]
-    named = {f"{part[0].stem} to {part[-1].stem}": part for part in parts}
+    named = {f"{part[0].stem} to {part[-1].stem}": part for part in (pickles[at : at + TOGETHER] for at in range(0, len(pickles), TOGETHER))}
     return [
         *trials_of(ROWS, room),
         Trial("JSON of conversations", functools.partial(fault_of_answers, room, room.equipment / "conversations.txt")),

@@ -196,8 +196,8 @@ REFUSED = (
     ("BININT1 hex: 0102", "the bytes are no argument of the opcode"),
     ("NONE (a note", "the line goes on behind the argument"),
 )
-GIVEN = "4: K BININT1 7 (a note) # a comment\n5: # another\nraw: 7F00\nGET 007\nLONG1 255\nLONG1 -128\nBINUNICODE '\xe9\\x0a'\nSHORT_BINBYTES hex: 0107\nSHORT_BINBYTES b\"'\\n\"\nINT -7\nFLOAT 1e3\nBINFLOAT 0.1\nSTOP"
-MADE = b"K\x07\x7f\0g007\n\x8a\2\xff\0\x8a\1\x80X\3\0\0\0\xc3\xa9\nC\1\7C\2'\nI-7\nF1e3\nG" + pack(">d", 0.1) + b"."
+GIVEN = "4: K BININT1 7 (a note) # a comment\n5: # another\nraw: 7F00\nGET 007\nPUT key_1\nBINGET key_1 # 8\nLONG1 255\nLONG1 -128\nBINUNICODE '\xe9\\x0a'\nSHORT_BINBYTES hex: 0107\nSHORT_BINBYTES b\"'\\n\"\nINT -7\nFLOAT 1e3\nBINFLOAT 0.1\nSTOP"
+MADE = b"K\x07\x7f\0g007\np8\nh\x08\x8a\2\xff\0\x8a\1\x80X\3\0\0\0\xc3\xa9\nC\1\7C\2'\nI-7\nF1e3\nG" + pack(">d", 0.1) + b"."
 ROWS = (
     *(Row(f"no line: {line[:20]}", ("assemble", "/dev/stdin"), f"STOP\n{line}\n", 1, f"refused: line 2: {why}\n") for line, why in REFUSED),
     Row("lines of each kind", ("assemble", "/dev/stdin"), GIVEN, output=MADE.hex(), through='"$@" | od -An -v -tx1 | tr -d " \\n"'),

@@ -125,9 +125,9 @@ WHAT_EACH_DOES = (
 )
 GATE_DOES = ("gate", "Says whether all that the pickle in FILE imports and uses is in LIST, else what is not")
 REACH_DOES = ("reach", "Says whether any loader of FILE comes to an import or a call, whatever FILE is")
-MEMBERS_DOES = ("members", "Prints the members of FILE, if it is a zip archive in the form that writers write, else where it is not and why")
+MEMBERS_DOES = ("members", "Prints the members of FILE, if it is an archive in the form that writers write, else where it is not and why")
 ASSEMBLE_DOES = ("assemble", "Writes the pickle whose opcodes stand in FILE as `list` prints them, else says which line is none")
-GATE_FILES = (("<LIST>", "the list of names, and of what may be done with each"), ("<FILE>...", "a pickle or a zip archive, or several"))
+GATE_FILES = (("<LIST>", "the list of names, and of what may be done with each"), ("<FILE>...", "a pickle or an archive, or several"))
 OPTIONS = {
     "list": (("    --many", MANY_HELP), ("    --unframed", UNFRAMED_HELP), JSON_HELP, ("    --whole", WHOLE_HELP)),
     "objects": (("    --many", MANY_HELP), ("    --unframed", UNFRAMED_HELP), JSON_HELP),
