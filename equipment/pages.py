@@ -453,7 +453,7 @@ def fault_of_bodies(root: Path) -> str:
 
 # The laws stand below a heading of the first pages. A law may stand on the last instead, but not on two.
 LAWS_PAGES = ("docs/why/proved.md", "docs/why/proved_unpicklers.md")
-CONTRACTS_PAGE = "docs/why/contracts.md"
+CONTRACTS_PAGES = ("docs/why/contracts.md", "docs/why/contracts_archives.md")
 
 
 def laws_of_crates(root: Path) -> set[tuple[str, str]]:
@@ -467,7 +467,7 @@ def laws_of_crates(root: Path) -> set[tuple[str, str]]:
 def fault_of_laws(root: Path) -> str:
     """These pages together name each law with its crate, once, and no other."""
     laws_part = "\n".join(text_of(root / page).partition("\n## Laws\n")[2].partition("\n## ")[0] for page in LAWS_PAGES)
-    text = " ".join(f"{laws_part}\n{text_of(root / CONTRACTS_PAGE)}".split())
+    text = " ".join("\n".join((laws_part, *(text_of(root / page) for page in CONTRACTS_PAGES))).split())
     named = [(crate, name) for crate, names in re.findall(r"`(\w+)`: ((?:(?:, )?`\w+`)+)", text) for name in re.findall(r"\w+", names)]
     laws = laws_of_crates(root)
     faults = [f"{crate}: {name} is no law" for crate, name in sorted(set(named) - laws)]
