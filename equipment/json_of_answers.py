@@ -75,6 +75,36 @@ def own(looks: Mapping[str, str]) -> Sequence[Nested]:
             {"kind": "items", "items": []}, {"kind": "objects", "objects": objects[1:9]}]
 
 
+PUTS = ("PUT", "BINPUT", "LONG_BINPUT", "MEMOIZE")
+NO_STEP: Nested = {"kind": "refused", "code": "V3", "words": "no record of the step"}
+
+
+def taken_and_put(before: Sequence[str], after: Sequence[str]) -> tuple[Sequence[str], Sequence[str]]:
+    """What is no longer on a stack, and what is newly on it: no opcode takes an object and puts the same one there."""
+    same = next((at for at, pair in enumerate(zip(before, after)) if pair[0] != pair[1]), min(len(before), len(after)))
+    return before[same:], after[same:]
+
+
+def trace(before: Mapping[str, str], after: Mapping[str, str]) -> Nested:
+    """The answer to `trace` after a step, by what `items`, `stack`, `memo`, `objects` and `where` show before it and after it."""
+    items = [item(line) for line in before["items"].splitlines()]
+    place = next(at for at, each in enumerate(items) if each["cursor"])
+    over = {name: value for name, value in items[place].items() if name not in ("cursor", "breakpoint")}
+    begins = place > 0 and items[place - 1]["opcode"] == "STOP"
+    old, new = ({whole(key): int(value) for key, value in ENTRY.findall(looks["memo"])} for looks in (before, after))
+    was, now = ([of_object(line) for line in looks["objects"].splitlines()] for looks in (before, after))
+    removed, added = taken_and_put([] if begins else before["stack"].split()[1:], after["stack"].split()[1:])
+    counts = [(each["object"], len(each.get("changes", ()))) for each in was]
+    changes = [(number, len(now[number].get("changes", ())) - count) for number, count in counts if len(now[number].get("changes", ())) > count]
+    key = len({} if begins else old) if over["opcode"] == "MEMOIZE" else over.get("argument", over.get("argument_digits"))
+    entry = {"kind": "entry", "memo": key, "object": new[key], **({"before": old[key]} if key in old and not begins else {})} if over["opcode"] in PUTS else None
+    return {**over, "kind": "step", **({"begins": True} if begins else {}), **({"made": len(was)} if len(now) > len(was) else {}),
+            **{"pushed": int(word[1:]) for word in added if word.startswith("#")}, "took": [int(word[1:]) for word in removed if word.startswith("#")],
+            **{"cut_mark": int(word[1:]) for word in removed if not word.startswith("#")}, **({"set_mark": True} if any(not word.startswith("#") for word in added) else {}),
+            **{"changed": {"kind": "change", "object": number, "changes": count} for number, count in changes}, **({"memo": entry} if entry else {}),
+            **{name: value for name, value in where(after["where"].partition("\n")[0], after).items() if name in ("buffers", "results")}}
+
+
 def of_answer(line: str, text: str, looks: Mapping[str, str]) -> Nested:
     """The object of the answer to a line; `looks` has what `stack`, `memo` and `objects` show after it."""
     words: Sequence[str] = line.split() or [""]

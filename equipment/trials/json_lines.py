@@ -125,8 +125,10 @@ def fault_of_forms(room: Room, page: Path) -> str:
 
 # No item has this offset: the refusal of it marks where the answer to a line ends.
 MARK, MARKED = "goto @18446744073709551614", "refused: V2 no item at offset 18446744073709551614\n"
-LOOKS = ("stack", "memo", "objects", "items")
-OWN = ("breaks", "items 1 3", "items 3 1", "objects 1 9")  # what JSON alone answers
+LOOKS = ("stack", "memo", "objects", "items", "where")
+GROUP = 1 + len(LOOKS)
+AROUND = ("back", "step")  # by what is shown after each of them, it is known what the step did
+OWN = ("breaks", "items 1 3", "items 3 1", "objects 1 9", "trace")  # what JSON alone answers
 
 
 def fault_of_answers(room: Room, page: Path) -> str:
@@ -138,13 +140,15 @@ def fault_of_answers(room: Room, page: Path) -> str:
         if not block.script:
             continue
         file.write_bytes(block.pickle)
-        lines = [each for line in block.script for each in (line, *LOOKS)]
+        ends = "quit" in block.script
+        lines = [each for line in (*block.script, *(() if ends else AROUND)) for each in (line, *LOOKS)]
         text = run([room.program, "debug", *block.options, file], folder, "".join(f"{line}\n{MARK}\n" for line in lines).encode())
-        own = () if "quit" in block.script else OWN
+        own = () if ends else OWN
         found = run([room.program, "debug", "--json", *block.options, file], folder, "".join(f"{line}\n" for line in (*lines, *own)).encode())
         texts = text.output.decode().split(MARKED)[: len(lines)]
-        looks = [dict(zip(LOOKS, texts[at - at % 5 + 1 :])) for at in range(len(texts))]
+        looks = [dict(zip(LOOKS, texts[at - at % GROUP + 1 :])) for at in range(len(texts))]
         wanted = [*(json_of_answers.of_answer(*each) for each in zip(lines, texts, looks)), *(json_of_answers.own(looks[-1]) if own else ())]
+        wanted += ([json_of_answers.NO_STEP if texts[-GROUP].startswith("refused: ") else json_of_answers.trace(looks[-GROUP - 1], looks[-1])] if own else [])
         why = found.fault_of_status(int(any(each["kind"] == "refused" for each in wanted))) or fault_of_lines(found.output, wanted)
         if why or found.errors:
             return f"{block.name}: {why or beginning(found.errors)}"

@@ -11,10 +11,10 @@ from typing import Any, Callable, Dict, Iterable, Iterator, List, Optional, Sequ
 from . import made
 from .listed import Fields, argument_of, shown_argument, words_of
 from .records import End, Ref
-from .session_records import Item, Mark, Ran, Where
+from .session_records import Changed, Item, Mark, Ran, Step, Stored, Where
 
 __all__ = ['EDITS', 'ITEM', 'Entry', 'Memo', 'REFUSED', 'Stack', 'element_at', 'elements_in', 'item_of', 'ran_of', 'read', 'refusal_in',
-           'refusal_of', 'shown_text', 'starts_of', 'text_of', 'where_of']
+           'refusal_of', 'shown_text', 'starts_of', 'step_of', 'text_of', 'where_of']
 
 # An entry of the stack.
 Entry = Union[Ref, Mark]
@@ -246,6 +246,21 @@ def item_of(fields: Fields) -> Item:
     Item(place=0, offset=0, name='BININT1', argument=7, at_cursor=True, has_break=False)
     """
     return Item(fields['place'], int(fields['offset']), fields['opcode'], argument_of(fields), fields['cursor'], fields['breakpoint'])
+
+
+# --- What a step did ---
+
+def step_of(fields: Fields) -> Step:
+    """What the answer to `trace` says.
+
+    >>> step_of({'place': 0, 'offset': 0, 'opcode': 'NONE', 'made': 0, 'pushed': 0, 'took': [], 'buffers': 0, 'results': []}).made
+    0
+    """
+    changed, entry = fields.get('changed'), fields.get('memo')
+    return Step(fields['place'], int(fields['offset']), fields['opcode'], argument_of(fields), fields.get('begins', False), fields.get('made'),
+                fields.get('pushed'), tuple(fields['took']), fields.get('cut_mark'), fields.get('set_mark', False),
+                None if changed is None else Changed(changed['object'], changed['changes']),
+                None if entry is None else Stored(int(entry['memo']), entry['object'], entry.get('before')), fields['buffers'], tuple(fields['results']))
 
 
 # --- The same as `debug` prints it ---

@@ -25,7 +25,7 @@ from .made import object_of
 from .program import Process, check_timeout, run_program
 from .saving import written_whole
 from .session_answers import Heap, Items, ShownObjects
-from .session_records import Ran, Where
+from .session_records import Ran, Step, Where
 from .sources import Input, OwnFile, Source, is_opened, is_word, small_content
 from .tasks import AskedOfSession, calls_of, frames_of, listing_of, modes
 
@@ -459,6 +459,15 @@ class Session(ContextManager['Session']):
         (2, 1, (1, 2))
         """
         return tuple(self._talk.fields(b'breaks')['places'])
+
+    def trace(self) -> Step:
+        """What the step over the opcode before the cursor did. Raises Refused at the start, or if `window` steps back no record of it is kept.
+
+        >>> with Session(b']K\\x01a.') as session:
+        ...     session.goto(3), session.trace().name, session.trace().changed
+        (3, 'APPEND', Changed(number=0, changes=1))
+        """
+        return conversation.step_of(self._talk.fields(b'trace'))
 
     def show(self, number: int) -> ShownObjects:
         """An object and all that it holds.

@@ -8,7 +8,7 @@ from typing import Optional, Tuple
 from .listing_records import Object
 from .records import SLOTS, Argument, End
 
-__all__ = ['Item', 'Mark', 'Ran', 'Shown', 'Where']
+__all__ = ['Changed', 'Item', 'Mark', 'Ran', 'Shown', 'Step', 'Stored', 'Where']
 
 
 @dataclass(frozen=True, **SLOTS)
@@ -98,3 +98,60 @@ class Where:
     on_stack: int = 0
     marks: int = 0
     in_memo: int = 0
+
+
+@dataclass(frozen=True, **SLOTS)
+class Changed:
+    """An object that a step changed, and how many changes it got: its last ones.
+
+    >>> import picklestep
+    >>> with picklestep.Session(b']Na.') as session:
+    ...     session.goto(3), session.trace().changed
+    (3, Changed(number=0, changes=1))
+    """
+
+    number: int
+    changes: int
+
+
+@dataclass(frozen=True, **SLOTS)
+class Stored:
+    """An entry that a step put into the memo: its key, the object under it, and the one that was there before, if there was one.
+
+    >>> import picklestep
+    >>> with picklestep.Session(b'Nq\\x05.') as session:
+    ...     session.goto(2), session.trace().stored
+    (2, Stored(key=5, number=0, before=None))
+    """
+
+    key: int
+    number: int
+    before: Optional[int]
+
+
+@dataclass(frozen=True, **SLOTS)
+class Step:
+    """What the step over an opcode did: whether a further pickle began with it; the object that it made, and the one that it put on the stack; the
+    objects that it took off the stack, the lowest first, without one that it changed; the place of the MARK that it took, and whether it set a mark;
+    the object that it changed; the entry of the memo; and how many buffers were asked for after it, and the results.
+
+    >>> import picklestep
+    >>> with picklestep.Session(b'K\\x01K\\x02\\x86.') as session:
+    ...     session.goto(3), session.trace().made, session.trace().took
+    (3, 2, (0, 1))
+    """
+
+    place: int
+    offset: int
+    name: str
+    argument: Argument
+    begins: bool
+    made: Optional[int]
+    pushed: Optional[int]
+    took: Tuple[int, ...]
+    cut_mark: Optional[int]
+    set_mark: bool
+    changed: Optional[Changed]
+    stored: Optional[Stored]
+    buffers: int
+    results: Tuple[int, ...]

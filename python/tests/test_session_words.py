@@ -4,16 +4,48 @@ from __future__ import annotations
 
 import contextlib
 import unittest
+from dataclasses import dataclass
+from typing import Dict, List, Sequence, Tuple
 
-from picklestep import Refused, Session
+from picklestep import Mark, Ref, Refused, Session, Step
+from picklestep.conversation import Entry
 from pickles import real_pickles
+
+
+@dataclass
+class Shown:
+    """What a session shows: the stack, the memo, how many changes each object has, the count of buffers and the results."""
+
+    stack: Sequence[Entry]
+    memo: Dict[int, int]
+    changes: List[int]
+    buffers: int
+    results: Tuple[int, ...]
+
+
+def shown(session: Session) -> Shown:
+    where = session.where()
+    return Shown(session.stack(), session.memo(), [len(made.changes) for made in session.objects()], where.buffers, where.results)
+
+
+def parted(before: Sequence[Entry], after: Sequence[Entry]) -> Tuple[Sequence[Entry], Sequence[Entry]]:
+    """What is no longer on a stack, and what is newly on it. (No opcode takes an object and puts the same one there.)"""
+    same = 0
+    while same < min(len(before), len(after)) and before[same] == after[same]:
+        same += 1
+    return before[same:], after[same:]
+
+
+def marks_in(entries: Sequence[Entry]) -> List[int]:
+    return [each.place for each in entries if isinstance(each, Mark)]
 
 
 def has_words() -> bool:
     """Whether the program has them."""
     try:
         with Session(b'N.') as session:
-            return session.breaks() == ()
+            session.step()
+            return session.breaks() == () and session.trace().made == 0
     except Refused:
         return False
 
@@ -48,6 +80,53 @@ class SessionWords(unittest.TestCase):
             self.assertEqual(session.breaks(), (1, 6))
             self.assertEqual(session.breaks(), tuple(item.place for item in session.items() if item.has_break))
             self.assertEqual(session.ask('breaks'), '{"kind":"breaks","places":[1,6]}\n')
+
+    def test_trace(self) -> None:
+        """What a step did is what the session shows before it and after it."""
+        for name, data in {**real_pickles(), 'several': b'(NK\x01l.N}.q'}.items():
+            with self.subTest(name), Session(data, many=name == 'several') as session:
+                with self.assertRaises(Refused) as caught:
+                    session.trace()
+                self.assertEqual(caught.exception.code, 'V3')
+                before = shown(session)
+                for item in session.items(0, 200):
+                    try:
+                        session.step()
+                    except Refused:
+                        break
+                    after, step = shown(session), session.trace()
+                    self.assertEqual((step.place, step.offset, step.name), (item.place, item.offset, item.name))
+                    self.assertEqual(repr(step.argument), repr(item.argument))
+                    self.assertEqual(step.begins, item.place > 0 and session.items(item.place - 1, item.place)[0].name == 'STOP')
+                    self.compare(step, (Shown((), {}, before.changes, 0, before.results) if step.begins else before), after)
+                    before = after
+
+    def compare(self, step: Step, before: Shown, after: Shown) -> None:
+        removed, added = parted(before.stack, after.stack)
+        self.assertEqual(list(step.took), [each.number for each in removed if isinstance(each, Ref)])
+        self.assertEqual(marks_in(removed), [] if step.cut_mark is None else [step.cut_mark])
+        self.assertEqual(marks_in(added), [step.place] if step.set_mark else [])
+        self.assertEqual([each.number for each in added if isinstance(each, Ref)], [] if step.pushed is None else [step.pushed])
+        self.assertEqual(list(range(len(before.changes), len(after.changes))), [] if step.made is None else [step.made])
+        self.assertEqual([(at, new - old) for at, (old, new) in enumerate(zip(before.changes, after.changes)) if new != old],
+                         [] if step.changed is None else [(step.changed.number, step.changed.changes)])
+        memo = dict(before.memo)
+        if step.stored is not None:
+            self.assertEqual(step.stored.before, memo.get(step.stored.key))
+            memo[step.stored.key] = step.stored.number
+        self.assertEqual(memo, after.memo)
+        self.assertEqual((step.stored is not None), step.name in ('PUT', 'BINPUT', 'LONG_BINPUT', 'MEMOIZE'))
+        self.assertEqual((step.buffers, step.results), (after.buffers, after.results))
+
+    def test_trace_in_a_window(self) -> None:
+        with Session(b'NNN000N.', window=2) as session:
+            session.goto(6)
+            session.back()
+            self.assertEqual(session.trace().took, (1,))
+            session.back()
+            self.assertRaises(Refused, session.trace)
+            session.step()
+            self.assertEqual(session.trace().place, 4)
 
 
 if __name__ == '__main__':

@@ -13,8 +13,9 @@ use Rattle.pickle_script.specs.Grammar.{words_of, longest, word_says, words_say,
 use Rattle.pickle_script.specs.Inside.Progress.{line_start}
 use Rattle.pickle_script.specs.Transcript.{quits}
 use Rattle.debug_json.specs.declared.asked.Own.{Own}
+use Rattle.debug_json.specs.declared.asked.Own.TheVariants as own
 use Rattle.debug_json.specs.declared.asked.Asked.{Asked}
-use Rattle.debug_json.specs.Asked.{items_says, objects_says, items_asked, objects_asked, word_asks, words_ask, line_asks, as_own, as_line, IsAsked}
+use Rattle.debug_json.specs.Asked.{at_end, items_says, objects_says, items_asked, objects_asked, word_asks, words_ask, line_asks, as_own, as_line, IsAsked}
 
 -- ---- a range
 
@@ -52,15 +53,21 @@ alone_stays : (words : List (List ℕ)) (l : Line) → quits (Ok l) ≡ false �
 alone_stays [] l h = h
 alone_stays (w ∷ words) l h = refl
 
-word_stays : (w : List ℕ) (words : List (List ℕ)) (own : Result Own Syntax) → word_asks w words ≡ Some own → quits (word_says w words) ≡ false
-word_stays w words own e = by_breaks (bytes_eq w (codes "breaks")) refl
+word_stays : (w : List ℕ) (words : List (List ℕ)) (asks : Result Own Syntax) → word_asks w words ≡ Some asks → quits (word_says w words) ≡ false
+word_stays w words asks e = by_breaks (bytes_eq w (codes "breaks")) refl
   where
-    by_objects : (b : Bool) → bytes_eq w (codes "objects") ≡ b → (if b then objects_asked words else None) ≡ Some own → quits (word_says w words) ≡ false
+    by_trace : (b : Bool) → bytes_eq w (codes "trace") ≡ b → (if b then Some (at_end own.Trace words) else None) ≡ Some asks → quits (word_says w words) ≡ false
+    by_trace true h k = rw (same_bytes w (codes "trace") h) refl
+    by_trace false h k = absurd cc
+
+    by_objects : (b : Bool) → bytes_eq w (codes "objects") ≡ b
+        → (if b then objects_asked words else if bytes_eq w (codes "trace") then Some (at_end own.Trace words) else None) ≡ Some asks → quits (word_says w words) ≡ false
     by_objects true h k = rw (same_bytes w (codes "objects") h) (alone_stays words (line.Query query.Objects) refl)
-    by_objects false h k = absurd cc
+    by_objects false h k = by_trace (bytes_eq w (codes "trace")) refl k
 
     by_items : (b : Bool) → bytes_eq w (codes "items") ≡ b
-        → (if b then items_asked words else if bytes_eq w (codes "objects") then objects_asked words else None) ≡ Some own → quits (word_says w words) ≡ false
+        → (if b then items_asked words else if bytes_eq w (codes "objects") then objects_asked words
+        else if bytes_eq w (codes "trace") then Some (at_end own.Trace words) else None) ≡ Some asks → quits (word_says w words) ≡ false
     by_items true h k = rw (same_bytes w (codes "items") h) (alone_stays words (line.Query query.Items) refl)
     by_items false h k = by_objects (bytes_eq w (codes "objects")) refl k
 

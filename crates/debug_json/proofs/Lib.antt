@@ -8,6 +8,7 @@ pub mod Memos
 pub mod Itemized
 pub mod Obeyed
 pub mod Answering
+pub mod Stepping
 mod Printed
 mod Agreeing
 mod Readable

@@ -1,5 +1,5 @@
 -- The fields of each line can be read back, and so the line is.
-use Rattle.std.proofs.Common.{◌≡◌, ℕ, zero, suc, ◌+◌, ◌<◌, ◌≤◌, Bool, true, false, List, [], ◌∷◌, length, Option, None, Some, Result, Ok, Err, refl, arith}
+use Rattle.std.proofs.Common.{◌≡◌, ℕ, zero, suc, ◌+◌, ◌-◌, ◌<◌, ◌≤◌, Bool, true, false, List, [], ◌∷◌, length, Option, None, Some, Result, Ok, Err, refl, arith}
 use Rattle.std.specs.Prelude.{codes, map, nat_lt, slice_get, if◌then◌else◌, MatchOption, ⊤}
 use Rattle.std.specs.List.{list_all}
 use Rattle.std.proofs.lemmas.Bool.{ltb-true}
@@ -20,8 +20,11 @@ use Rattle.pickle_ops.specs.declared.fault.OpFault.{OpFault}
 use Rattle.pickle_ops.specs.declared.fault.OpFault.TheVariants as op_fault
 use Rattle.pickle_ops.specs.Object.{Object}
 use Rattle.pickle_ops.specs.Spelling.{Operation}
+use Rattle.pickle_ops.specs.Row.{row_of}
 use Rattle.pickle_machine.specs.declared.refusal.Refusal.{Refusal}
 use Rattle.pickle_machine.specs.State.{State, stack_of, marks_of}
+use Rattle.pickle_machine.specs.declared.told.Stored.{Stored}
+use Rattle.pickle_machine.specs.Doing.{Doing, does}
 use Rattle.pickle_session.specs.declared.reply.Fault.{Fault}
 use Rattle.pickle_session.specs.declared.reply.Fault.TheVariants as fault
 use Rattle.pickle_session.specs.declared.reply.Why.{Why}
@@ -29,7 +32,7 @@ use Rattle.pickle_session.specs.declared.reply.Why.TheVariants as why
 use Rattle.pickle_session.specs.declared.reply.Reply.{Reply}
 use Rattle.pickle_session.specs.declared.reply.Reply.TheVariants as reply
 use Rattle.pickle_session.specs.Session.{Session, state_at, len_of}
-use Rattle.pickle_session.specs.Allowed.{SessionState}
+use Rattle.pickle_session.specs.Allowed.{SessionState, kept_of}
 use Rattle.pickle_script.specs.declared.conversation.line.Line.{Line}
 use Rattle.pickle_script.specs.declared.conversation.line.Line.TheVariants as line_says
 use Rattle.pickle_script.specs.declared.conversation.line.Place.TheVariants as place
@@ -58,8 +61,10 @@ use Rattle.debug_json.specs.WhereFields.{cursor_fields, count_fields, reached_fi
 use Rattle.debug_json.specs.ShownFields.{id_json, mark_fields, mark_json, ids_field, marks_field, stack_fields, stack_line, entry_fields, entry_value, entry_json, memo_fields, memo_line, heap_json, heap_fields, heap_line, show_line}
 use Rattle.debug_json.specs.ItemsFields.{sign_fields, item_fields, item_json, items_fields, items_line}
 use Rattle.debug_json.specs.OwnFields.{break_at, breaks_fields, breaks_line, some_items_fields, some_items_line, some_heap_fields, some_heap_line}
+use Rattle.debug_json.specs.StepFields as step
+use Rattle.debug_json.specs.StepFields.{optional_field, flag_field, marking_fields, change_fields, one_change, changed_field, stored_fields, one_entry, stored_field, doing_fields, stepped_fields, step_over, step_fields, step_line, no_step_words, no_step_fields, no_step_line}
 use Rattle.debug_json.specs.Lines.{nothing_line, quit_line, said_line}
-use Rattle.debug_json.specs.Says.{SaysOnly, SaysReply, SaysLine, SaysOwn, SaysBy, shown}
+use Rattle.debug_json.specs.Says.{SaysOnly, SaysReply, SaysLine, SaysOwn, SaysBy, shown, traced}
 use Rattle.debug_json.specs.Readable.{ReadsBack, AnswersReadBack}
 use Rattle.debug_json.proofs.Printed.{same_state}
 
@@ -407,6 +412,73 @@ unfolding some_heap_line some_heap_fields
 some_heap_is law heap a b =
     reads law (codes "objects") _ refl (wide 4 _ (omega arith) (alone 4 (codes "objects") _ refl (range 3 heap_json a b heap heap_fits)))
 
+-- ---- what a step did
+
+optional : (name : List ℕ) (found : Option ℕ) → list_all is_plain name ≡ true → ArePlain (optional_field name found)
+unfolding optional_field
+optional name None h = tt
+optional name (Some n) h = number name n h
+
+flag : (name : List ℕ) (is_so : Bool) → list_all is_plain name ≡ true → ArePlain (flag_field name is_so)
+unfolding flag_field
+flag name true h = truth name true h
+flag name false h = tt
+
+objects_told : (x : Doing) → Deep 8 (step.object_fields x)
+unfolding step.object_fields
+objects_told x =
+    joined 8 _ _ (of_plain 8 _ (both _ _ (both _ _ (flag (codes "begins") x.begins refl) (optional (codes "made") x.made refl)) (optional (codes "pushed") x.pushed refl)))
+    (alone 8 (codes "took") (numbers_json x.took) refl (results x.took))
+
+marks_told : (x : Doing) → Deep 8 (marking_fields x)
+unfolding marking_fields
+marks_told x = of_plain 8 _ (both _ _ (optional (codes "cut_mark") x.cut refl) (flag (codes "set_mark") x.marked refl))
+
+change_told : (c : ℕ × ℕ) → Deep 8 (one_change c)
+unfolding one_change change_fields
+change_told c =
+    wide 1 _ (omega arith) (alone 1 (codes "changed") _ refl (value 0 (codes "change") _ refl (of_plain 0 _ (both _ _ (number (codes "object") c.0 refl) (number (codes "changes") c.1 refl)))))
+
+change_when : (b : Bool) (c : ℕ × ℕ) → Deep 8 (if b then one_change c else [])
+change_when true c = change_told c
+change_when false c = of_plain 8 [] tt
+
+changed_told : (found : Option (ℕ × ℕ)) → Deep 8 (changed_field found)
+unfolding changed_field
+changed_told None = of_plain 8 [] tt
+changed_told (Some c) = change_when (nat_lt 0 c.1) c
+
+entry_told : (e : Stored) → Deep 8 (one_entry e)
+unfolding one_entry stored_fields
+entry_told e =
+    wide 1 _ (omega arith) (alone 1 (codes "memo") _ refl (value 0 (codes "entry") _ refl
+    (of_plain 0 _ (both _ _ (both _ _ (number (codes "memo") e.key refl) (number (codes "object") e.object refl)) (optional (codes "before") e.before refl)))))
+
+stored_told : (found : Option Stored) → Deep 8 (stored_field found)
+unfolding stored_field
+stored_told None = of_plain 8 [] tt
+stored_told (Some e) = entry_told e
+
+doing_told : (x : Doing) → Deep 8 (doing_fields x)
+doing_told x = joined 8 _ _ (joined 8 _ _ (joined 8 _ _ (objects_told x) (marks_told x)) (changed_told x.changed)) (stored_told x.stored)
+
+stepped : (s : Session) (t : State) (k : ℕ) (o : Operation) (x : Doing) → Deep 8 (stepped_fields s t k o x)
+stepped s t k o x =
+    joined 8 _ _ (joined 8 _ _ (of_plain 8 _ (both _ _ (both _ _ (placed k) (head o (offset_of s.document k))) (argument o))) (doing_told x)) (reached t)
+
+step_by : (s : Session) (t : State) (o : Option Operation) (before : Option State) → Deep 8 (step_over s t o before)
+step_by s t (Some o) (Some before) = stepped s t (s.cursor - 1) o (does (row_of o) before)
+step_by s t (Some o) None = of_plain 8 [] tt
+step_by s t None before = of_plain 8 [] tt
+
+step_is : LinesReadBack → (s : Session) (t : State) → ReadsBack (step_line s t)
+unfolding step_line step_fields
+step_is law s t = reads law (codes "step") _ refl (step_by s t _ _)
+
+no_step : LinesReadBack → ReadsBack no_step_line
+unfolding no_step_line no_step_fields no_step_words
+no_step law = reads law (codes "refused") _ refl (of_plain 8 _ (coded (codes "V3") _ refl refl))
+
 -- ---- answers
 
 -- an object that is shown is there
@@ -434,6 +506,8 @@ said_reads law (said.Shown query.Where) s t h = where_is law s t
 said_reads law said.Breaks s t h = breaks_is law s
 said_reads law (said.SomeItems a b) s t h = some_items_is law s a b
 said_reads law (said.SomeObjects a b) s t h = some_heap_is law t.heap a b
+said_reads law said.Step s t h = step_is law s t
+said_reads law said.NoStep s t h = no_step law
 
 by_number : (b : Bool) (n : ℕ) (t : State) → nat_lt n (length t.heap) ≡ b → IsThere (if b then said.Shown (query.Show n) else said.NoObject n) t
 by_number true n t e = ltb-true n (length t.heap) e
@@ -465,10 +539,15 @@ there_line (line_says.At (place.Offset offset) a) p q t what r w = go w.found w.
 there_line (line_says.Query asked) p q t what r w = asked_there asked t what (rw (same_state asked p q t what r w) at w.is_shown)
 there_line line_says.Quit p q t what r w = is_there said.Quit what t w.said_is tt
 
+trace_there : (b : Bool) (t : State) → IsThere (if b then said.Step else said.NoStep) t
+trace_there true t = tt
+trace_there false t = tt
+
 there_own : (o : Own) (p q : SessionState) (t : State) (what : Said) → SaysOwn o p what q → IsThere what t
 there_own own.Breaks p q t what w = is_there said.Breaks what t w.said_is tt
 there_own (own.Items a b) p q t what w = is_there (said.SomeItems a b) what t w.said_is tt
 there_own (own.Objects a b) p q t what w = is_there (said.SomeObjects a b) what t w.said_is tt
+there_own own.Trace p q t what w = is_there (traced p) what t w.said_is (trace_there (nat_lt 0 (kept_of p)) t)
 
 there_by : (says : Result Asked Syntax) (p q : SessionState) (t : State) (what : Said) → state_at q.session.document q.session.cursor ≡ Some t
     → SaysBy says p what q → IsThere what t

@@ -28,6 +28,8 @@ said_text (said.Shown query) s t = query_text query s t
 said_text said.Breaks s t = []
 said_text (said.SomeItems a b) s t = []
 said_text (said.SomeObjects a b) s t = []
+said_text said.Step s t = []
+said_text said.NoStep s t = []
 
 abbrev pub answer_text : Answer → List ℕ
 answer_text a = said_text a.said a.session a.state
@@ -44,3 +46,5 @@ refuses (said.Shown query) = false
 refuses said.Breaks = false
 refuses (said.SomeItems a b) = false
 refuses (said.SomeObjects a b) = false
+refuses said.Step = false
+refuses said.NoStep = true

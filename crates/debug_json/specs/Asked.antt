@@ -46,6 +46,7 @@ word_asks w words =
     if bytes_eq w (codes "breaks") then Some (at_end own.Breaks words)
     else if bytes_eq w (codes "items") then items_asked words
     else if bytes_eq w (codes "objects") then objects_asked words
+    else if bytes_eq w (codes "trace") then Some (at_end own.Trace words)
     else None
 
 abbrev pub words_ask : List (List ℕ) → Option (Result Own Syntax)

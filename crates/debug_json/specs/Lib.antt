@@ -6,6 +6,7 @@ pub mod Array
 pub mod RefusedFields
 pub mod ReplyFields
 pub mod WhereFields
+pub mod StepFields
 pub mod ShownFields
 pub mod ItemsFields
 pub mod OwnFields

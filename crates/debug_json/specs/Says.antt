@@ -1,6 +1,6 @@
 -- What the lines of a script may be answered: as in a transcript for people, but for what is said in the place of its text.
 -- Source: own. It is a relation, since a line may also be answered by running out of memory.
-use Rattle.std.specs.Prelude.{◌≡◌, ◌≢◌, ℕ, List, length, nat_lt, true, false, if◌then◌else◌, MatchOption, Option, Some, Result, Ok, Err}
+use Rattle.std.specs.Prelude.{◌≡◌, ◌≢◌, ℕ, ◌<◌, ⊤, List, length, nat_lt, true, false, if◌then◌else◌, MatchOption, Option, Some, Result, Ok, Err}
 use Rattle.pickle_doc.specs.Place.{IsPlaceAt}
 use Rattle.pickle_machine.specs.State.{State}
 use Rattle.pickle_session.specs.declared.command.Command.{Command}
@@ -9,7 +9,7 @@ use Rattle.pickle_session.specs.declared.reply.Fault.TheVariants as fault
 use Rattle.pickle_session.specs.declared.reply.Reply.{Reply}
 use Rattle.pickle_session.specs.declared.reply.Reply.TheVariants as reply
 use Rattle.pickle_session.specs.Session.{state_at}
-use Rattle.pickle_session.specs.Allowed.{SessionState, Answers, Goes, Stays, IsFree, IsFreeAgain, goes_beyond, is_at_place}
+use Rattle.pickle_session.specs.Allowed.{SessionState, Answers, Goes, Stays, IsFree, IsFreeAgain, goes_beyond, is_at_place, kept_of}
 use Rattle.pickle_script.specs.declared.conversation.line.Line.{Line}
 use Rattle.pickle_script.specs.declared.conversation.line.Line.TheVariants as line
 use Rattle.pickle_script.specs.declared.conversation.line.Query.{Query}
@@ -79,15 +79,25 @@ SaysLine (line.At place a) p what q = SaysPlaced place a p what q
 SaysLine (line.Query query) p what q = SaysShown query p what q
 SaysLine line.Quit p what q = SaysOnly p said.Quit what q
 
+-- what the latest step did, where its record is kept
+abbrev pub traced : SessionState → Said
+traced p = if nat_lt 0 (kept_of p) then said.Step else said.NoStep
+
 abbrev pub SaysOwn : Own → SessionState → Said → SessionState → Type 0
 SaysOwn own.Breaks p what q = SaysOnly p said.Breaks what q
 SaysOwn (own.Items a b) p what q = SaysOnly p (said.SomeItems a b) what q
 SaysOwn (own.Objects a b) p what q = SaysOnly p (said.SomeObjects a b) what q
+SaysOwn own.Trace p what q = SaysOnly p (traced p) what q
 
 abbrev pub SaysBy : Result Asked Syntax → SessionState → Said → SessionState → Type 0
 SaysBy (Ok (asked.Line l)) p what q = SaysLine l p what q
 SaysBy (Ok (asked.Own o)) p what q = SaysOwn o p what q
 SaysBy (Err f) p what q = SaysOnly p (said.Bad f) what q
+
+-- what is told of a step has a record
+abbrev pub IsTold : Said → SessionState → Type 0
+IsTold said.Step p = 0 < kept_of p
+IsTold _ p = ⊤
 
 -- what a line says is obeyed, and answered of the session after it
 pub record Says (p : SessionState) (bytes : List ℕ) (a : Answer) (q : SessionState) : Type 0 where

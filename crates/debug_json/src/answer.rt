@@ -4,6 +4,7 @@ ghost use Rattle.std.specs.Prelude.{◌≡◌, Some};
 ghost use Rattle.pickle_io.specs.Device.{Writes};
 ghost use Rattle.pickle_session.specs.Session.{state_at};
 ghost use Rattle.debug_json.specs.Lines.{nothing_line, quit_line, shown_line, said_line};
+ghost use Rattle.debug_json.specs.Says.{IsTold};
 ghost use Rattle.debug_json.specs.Answered.{AnswersSaying, AnswersJsonLine};
 
 use crate::asked::{Asked, read_asked};
@@ -17,6 +18,7 @@ use crate::refused::{write_no_item, write_no_object, write_refused_syntax};
 use crate::reply::write_reply;
 use crate::said::{Said, refuses};
 use crate::stack::write_stack;
+use crate::step::{write_no_step, write_step};
 use json_lines::{begin_line, end_line};
 use pickle_io::{Failed, Page};
 use pickle_machine::Machine;
@@ -62,12 +64,14 @@ fn write_shown<A: Past, P: Page>(
     }
 }
 
-/// Writes what is said of a session. Its machine is at its cursor.
+/// Writes what is said of a session. Its machine is at its cursor. What is told of a step has a record.
+#[tactic(auto, using(crate::proofs::Stepping::told_step))]
 fn write_said<A: Past, P: Page>(
     session: &Session<A>,
     said: Said,
     page: &mut P,
 ) -> Result<(), Failed>
+    requires { IsTold said session.now }
     ensures line { Writes (P.told page.old) (P.told page.new) result (said_line said session.now.session session.now.machine.state) }
     ensures reached { state_at session.now.session.document session.now.session.cursor ≡ Some session.now.machine.state }
 {
@@ -83,6 +87,8 @@ fn write_said<A: Past, P: Page>(
         Said::Breaks => write_breaks(session, page),
         Said::SomeItems(from, to) => write_some_items(session, from, to, page),
         Said::SomeObjects(from, to) => write_some_objects(machine.heap(), from, to, page),
+        Said::Step => write_step(session, page),
+        Said::NoStep => write_no_step(page),
     }
 }
 

@@ -17,6 +17,8 @@ pub enum Own {
     Items(usize, usize),
     /// `objects A B`: the objects from number A on, and before number B.
     Objects(usize, usize),
+    /// `trace`: what the step over the item before the cursor did.
+    Trace,
 }
 
 /// What a line asks for.
@@ -90,6 +92,9 @@ fn read_own(word: &[u8], rest: &[u8]) -> Option<Result<Own, Syntax>>
     }
     if word == b"objects".as_slice() {
         return objects_asked(rest);
+    }
+    if word == b"trace".as_slice() {
+        return Some(at_end(Own::Trace, rest));
     }
     None
 }

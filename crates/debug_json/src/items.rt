@@ -67,7 +67,7 @@ fn write_form<P: Page>(op: &Op, page: &mut P) -> Result<(), Failed>
 
 /// Writes the argument of an operation, where there is one.
 #[tactic(auto, unfolding(pickle_json::specs::ItemFields::arg_fields))]
-fn write_argument<P: Page>(op: &Op, page: &mut P) -> Result<(), Failed>
+pub(crate) fn write_argument<P: Page>(op: &Op, page: &mut P) -> Result<(), Failed>
     ensures { Writes (P.told page.old) (P.told page.new) result (fields_text (arg_fields op.now)) }
 {
     if is_long(op.opcode()) {
@@ -79,7 +79,7 @@ fn write_argument<P: Page>(op: &Op, page: &mut P) -> Result<(), Failed>
 
 /// Writes where an operation is, and its name.
 #[tactic(auto, using(json_lines::proofs::Lines::fields_steps), unfolding(pickle_json::specs::ItemFields::head_fields))]
-fn write_head<P: Page>(op: &Op, offset: u64, page: &mut P) -> Result<(), Failed>
+pub(crate) fn write_head<P: Page>(op: &Op, offset: u64, page: &mut P) -> Result<(), Failed>
     ensures { Writes (P.told page.old) (P.told page.new) result (fields_text (head_fields op.now offset)) }
 {
     write_number_field("offset", offset, page)?;

@@ -15,6 +15,7 @@ mod refused;
 mod reply;
 mod said;
 mod stack;
+mod step;
 mod value;
 mod words;
 

@@ -67,6 +67,7 @@ fn obey_line<P: Past>(alloc: Global, session: &mut Session<P>, line: Line) -> Sa
 }
 
 /// What is told in JSON alone.
+#[tactic(auto, using(crate::proofs::Stepping::tracing_steps))]
 fn tell<P: Past>(session: &Session<P>, own: Own) -> Said
     ensures { SaysOwn own session.now result session.now }
 {
@@ -74,6 +75,13 @@ fn tell<P: Past>(session: &Session<P>, own: Own) -> Said
         Own::Breaks => Said::Breaks,
         Own::Items(from, to) => Said::SomeItems(from, to),
         Own::Objects(from, to) => Said::SomeObjects(from, to),
+        Own::Trace => {
+            if 0 < session.kept() {
+                Said::Step
+            } else {
+                Said::NoStep
+            }
+        }
     }
 }
 

@@ -33,7 +33,7 @@ fn write_counts<P: Page>(machine: &Machine, page: &mut P) -> Result<(), Failed>
 
 /// Writes the count of buffers and the results of a machine.
 #[tactic(auto, using(json_lines::proofs::Lines::fields_steps), unfolding(crate::specs::WhereFields::reached_fields))]
-fn write_reached<P: Page>(machine: &Machine, page: &mut P) -> Result<(), Failed>
+pub(crate) fn write_reached<P: Page>(machine: &Machine, page: &mut P) -> Result<(), Failed>
     ensures { Writes (P.told page.old) (P.told page.new) result (fields_text (reached_fields machine.now.state)) }
 {
     write_number_field("buffers", machine.buffers(), page)?;

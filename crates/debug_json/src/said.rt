@@ -30,6 +30,10 @@ pub enum Said {
     SomeItems(usize, usize),
     /// The objects from one number on and before another are shown.
     SomeObjects(usize, usize),
+    /// What the step over the item before the cursor did is shown.
+    Step,
+    /// No record of the step over the item before the cursor is kept.
+    NoStep,
 }
 
 /// Whether a reply is a refusal.
@@ -63,5 +67,7 @@ pub(crate) fn refuses(said: Said) -> bool
         Said::Breaks => false,
         Said::SomeItems(_, _) => false,
         Said::SomeObjects(_, _) => false,
+        Said::Step => false,
+        Said::NoStep => true,
     }
 }

@@ -16,7 +16,8 @@ impl Core {
     ghost use Rattle.pickle_machine.specs.State.{top_mark_place};
     ghost use Rattle.pickle_machine.specs.Move.{refusal_of, last_of, cut, deep};
     ghost use Rattle.pickle_machine.specs.Held.{is_free_within};
-    ghost use Rattle.pickle_machine.specs.Inside.Records.{recorded, lost, stored_entry, record_of};
+    ghost use Rattle.pickle_machine.specs.Records.{lost, stored_entry, record_of};
+    ghost use Rattle.pickle_machine.specs.Inside.Records.{recorded};
 
     /// The record of a step of this effect.
     #[inline(always)]

@@ -24,7 +24,7 @@ returns-clause-stands g c =
     let kept = rw (c.ready.ensures.limit, c.ready.ensures.records) at c.keep.ensures.records in
     let more = size_more d c.args.self.now.place c.unwrap-op.result.now there in
     record {
-      trail = trail_next _ c.unwrap-op.result.now _ _ _ _ _ _ (g.P.Past.holds c.args.past.now).limit c.requires.stands.trail there c.in_ok-step.ensures.ok c.in_ok-step.ensures.leads c.step.ensures.fits c.step.ensures.rooms kept;
+      trail = trail_next _ c.unwrap-op.result.now _ _ _ _ _ _ (g.P.Past.holds c.args.past.now).limit c.requires.stands.trail there c.in_ok-step.ensures.ok c.in_ok-step.ensures.kept c.in_ok-step.ensures.leads c.step.ensures.fits c.step.ensures.rooms kept;
       offset = omega (arith, more, c.size.ensures, c.requires.stands.offset);
     }
 
