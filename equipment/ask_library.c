@@ -143,6 +143,15 @@ static uint8_t ask_gate(const char *path, memory given, memory out, picklestep_w
     return found;
 }
 
+static uint8_t ask_same(const char *path, memory given, memory out, picklestep_written *written) {
+    const char *many = "--many ";
+    bool is_many = begins(path, many);
+    memory one = content_of(path + (is_many ? strlen(many) : 0));
+    uint8_t found = picklestep_same(is_many, one.bytes, one.size, given.bytes, given.size, out.bytes, out.size, written);
+    free(one.bytes);
+    return found;
+}
+
 static uint8_t ask_reach(const char *task, memory given, memory out, picklestep_written *written) {
     uint32_t granted = 0;
     for (size_t i = 0; i < sizeof GRANTED / sizeof *GRANTED; i++)
@@ -153,14 +162,11 @@ static uint8_t ask_reach(const char *task, memory given, memory out, picklestep_
 
 // A task is asked of the function without options where there is one.
 static uint8_t ask(const char *task, memory given, memory out, picklestep_written *written) {
-    if (!strcmp(task, "list"))
-        return picklestep_list(false, given.bytes, given.size, out.bytes, out.size, written);
-    if (!strcmp(task, "list --many"))
-        return picklestep_list(true, given.bytes, given.size, out.bytes, out.size, written);
-    if (!strcmp(task, "objects"))
-        return picklestep_objects(false, given.bytes, given.size, out.bytes, out.size, written);
-    if (!strcmp(task, "objects --many"))
-        return picklestep_objects(true, given.bytes, given.size, out.bytes, out.size, written);
+    bool many = strstr(task, " --many") != NULL;
+    if (!strcmp(task, many ? "list --many" : "list"))
+        return picklestep_list(many, given.bytes, given.size, out.bytes, out.size, written);
+    if (!strcmp(task, many ? "objects --many" : "objects"))
+        return picklestep_objects(many, given.bytes, given.size, out.bytes, out.size, written);
     if (!strcmp(task, "calls"))
         return picklestep_calls(given.bytes, given.size, out.bytes, out.size, written);
     if (!strcmp(task, "calls --first"))
@@ -177,14 +183,14 @@ static uint8_t ask(const char *task, memory given, memory out, picklestep_writte
         return picklestep_form_json(given.bytes, given.size, out.bytes, out.size, written);
     if (begins(task, "gate "))
         return ask_gate(task + strlen("gate "), given, out, written);
+    if (begins(task, "same "))
+        return ask_same(task + strlen("same "), given, out, written);
     if (begins(task, "reach"))
         return ask_reach(task, given, out, written);
     if (begins(task, "session") || begins(task, "saved"))
         return ask_session(task, given, out, written);
-    if (!strcmp(task, "debug"))
-        return picklestep_debug(false, given.bytes, given.size, script.bytes, script.size, out.bytes, out.size, written);
-    if (!strcmp(task, "debug --many"))
-        return picklestep_debug(true, given.bytes, given.size, script.bytes, script.size, out.bytes, out.size, written);
+    if (!strcmp(task, many ? "debug --many" : "debug"))
+        return picklestep_debug(many, given.bytes, given.size, script.bytes, script.size, out.bytes, out.size, written);
     return ask_with(task, given, out, written);
 }
 

@@ -26,11 +26,12 @@ if (WebAssembly.Module.imports(module).length) throw new Error('it has imports')
 // The function for a task, and what comes before its other arguments: holes and lists are put into its memory.
 function asked(task, library) {
     if (TASKS[task]) return TASKS[task];
-    if (task.startsWith('gate ')) {
-        const json = task.startsWith('gate --json ') ? '--json ' : '';
-        const list = readFileSync(task.slice(`gate ${json}`.length)), place = library.take(BigInt(list.length + 1));
-        if (place) new Uint8Array(library.memory.buffer).set(list, Number(place));
-        return [json ? 'picklestep_gate_json' : 'picklestep_gate', place, BigInt(list.length)];
+    const [, word, option, path] = /^(gate|same) (--json |--many )?(.+)$/.exec(task) ?? [];
+    if (word) {
+        const before = readFileSync(path), place = library.take(BigInt(before.length + 1));
+        if (place) new Uint8Array(library.memory.buffer).set(before, Number(place));
+        const name = word === 'same' ? ['picklestep_same', option ? 1 : 0] : [option ? 'picklestep_gate_json' : 'picklestep_gate'];
+        return [...name, place, BigInt(before.length)];
     }
     const words = task.split(' '), sum = (values) => words.map((word) => values[word] ?? 0).reduce((all, one) => all | one);
     const options = sum(words[0] === 'reach' ? GRANTED : OPTIONS);

@@ -176,6 +176,12 @@ class Libraries(Machines):
         """The bytes of the trial of the members of archives."""
         return self.in_files("members", ((("members",), case.given) for case in MEMBERS))
 
+    @functools.cached_property
+    def of_pairs(self) -> list[Asked]:
+        """Real pickles that are compared with themselves, and with others."""
+        files = sorted(self.pickles.glob("*.pickle"))
+        return [Asked(("same", *many, str(one)), other) for one, next_one in zip(files, files[1:]) for other in (one, next_one) for many in ((), ("--many",))]
+
     # --- The ways to link it ---
 
     def static(self) -> list["str | Path"]:
@@ -390,6 +396,7 @@ ROWS: list[tuple[str, Callable[[Libraries], "str | Noted"]]] = [
     *((f"the library, {WAYS[way]}: lists of the gate", functools.partial(compared, way=way, kind="at_gate")) for way in (WHOLE, "arm", "module")),
     *((f"the library, {WAYS[way]}: what is reached", functools.partial(compared, way=way, kind="of_reach")) for way in (WHOLE, "arm", "module")),
     *((f"the library, {WAYS[way]}: members of archives", functools.partial(compared, way=way, kind="of_members")) for way in (WHOLE, "arm", "module")),
+    *((f"the library, {WAYS[way]}: pickles that are compared", functools.partial(compared, way=way, kind="of_pairs")) for way in (WHOLE, "arm", "module")),
     *((f"the library, {WAYS[way]}: options of no task", functools.partial(no_tasks, way=way)) for way in (WHOLE, "module")),
     ("the library: a window keeps few records", keeps_a_window),
     ("the library: random pickles and scripts", fuzzed),

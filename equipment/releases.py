@@ -519,7 +519,7 @@ PAGES = ("share/man/man1/picklestep.1", "share/man/man1/picklestep-scan.1", "sha
 BASH = "share/bash-completion/completions/picklestep"
 ZSH = "share/zsh/site-functions/_picklestep"
 PLAIN = ("members",)  # (words without options)
-WORDS = ("scan", "view", "list", "objects", "calls", "form", "gate", "reach", "members", "assemble", "debug", "shell", "dap", "source", "diff", "size", "mend", "rename", "convert", "optimize")
+WORDS = ("scan", "view", "list", "objects", "calls", "form", "gate", "reach", "members", "assemble", "same", "debug", "shell", "dap", "source", "diff", "size", "mend", "rename", "convert", "optimize")
 PAGES_OF = {"scan": PAGES[1], "view": PAGES[2]}
 PROGRAM = ("picklestep", "TOOLCHAIN", "libpicklestep.so", "picklestep.html")
 MODULE = ("picklestep.mjs", "picklestep.wasm", "libpicklestep.wasm", "TOOLCHAIN", "picklestep.html")
@@ -731,7 +731,7 @@ def completions(releases: Releases) -> str:
     (at / "two words").write_text("")
     page = str(releases.clone / BASH)
     for words, wanted in (
-        ([""], ["--help", "--version", "assemble", "calls", "convert", "dap", "debug", "diff", "form", "gate", "help", "list", "members", "mend", "objects", "optimize", "policy", "reach", "rename", "scan",
+        ([""], ["--help", "--version", "assemble", "calls", "convert", "dap", "debug", "diff", "form", "gate", "help", "list", "members", "mend", "objects", "optimize", "policy", "reach", "rename", "same", "scan",
                "shell", "size", "source", "view"]),
         (["help", "sc"], ["scan"]),
         (["ob"], ["objects"]),

@@ -63,6 +63,7 @@ COMMANDS = (
     Command("JSON of what a list says of an archive", ("gate", "--json", "names.list", "two.zip"), '{"kind":"verdict","how":"passes","text":"passes"}\n', is_nothing),
     Command("what is reached", ("reach", "hostile.pickle"), REACHED, is_nothing, status=1),
     Command("the members of an archive", ("members", "two.zip"), MEMBERS, is_nothing),
+    Command("whether pickles make the same", ("same", "pair.pickle", "pair.pickle"), "the same objects\n", is_nothing),
     Command(
         "saving a pickle from a window",
         ("debug", "doubled.pickle", "--window", "2", "--save", "saved.pickle"),

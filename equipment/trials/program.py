@@ -153,6 +153,10 @@ FAULTS = (
     fails("a full device", "cannot write", "list", "pair.pickle", through=FULL),
     fails("a full device, with a long listing", "cannot write", "list", "long.pickle", through=FULL),
     fails("closed standard output", "cannot write", "list", "pair.pickle", through=CLOSED),
+    fails("what is the same, on a full device", "cannot write", "same", "pair.pickle", "pair.pickle", through=FULL),
+    fails("a missing file that is compared", "cannot read", "same", "missing.pickle", "none.pickle", unread=f"missing.pickle: {MISSING}"),
+    fails("a file that is compared with a missing one", "cannot read", "same", "none.pickle", "missing.pickle", unread=f"missing.pickle: {MISSING}"),
+    fails("a file that is compared with one past the size limit", "too large", "same", "none.pickle", "too_large.pickle", through=LITTLE_MEMORY),
     fails("no such file, with closed standard output", "cannot read", "list", "missing.pickle", through=CLOSED, unread=f"missing.pickle: {MISSING}"),
 )
 

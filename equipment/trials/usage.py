@@ -12,10 +12,11 @@ from .row import Row, fails, misused, repeated, trials_of, unexpected, valueless
 from .trial import Trial
 
 OF_ONE_FILE = ("list", "objects", "calls", "debug", "form")
-TASKS = (*OF_ONE_FILE, "gate", "reach", "members", "assemble")
+TASKS = (*OF_ONE_FILE, "gate", "reach", "members", "assemble", "same")
 ANY_TASK = "<COMMAND>"
 GATE = "gate <LIST> <FILE>..."
 MEMBERS = "members <FILE>"
+SAME = "same <FILE> <OTHER>"
 MISSING = "the following required arguments were not provided:"
 FILE_MISSING = f"{MISSING}\n  <FILE>"
 
@@ -40,13 +41,17 @@ NO_TASKS = (
 )
 
 WORDS = (
-    *(misused(f"{task} without a file", task, why=FILE_MISSING, usage=f"{task} <FILE>") for task in TASKS if task != "gate"),
+    *(misused(f"{task} without a file", task, why=FILE_MISSING, usage=f"{task} <FILE>") for task in TASKS if task not in ("gate", "same")),
     *(
         misused(f"{task} with two files", task, "pair.pickle", "none.pickle", why="unexpected argument 'none.pickle' found", usage=f"{task} [OPTIONS] <FILE>")
         for task in TASKS
-        if task not in ("gate", "members", "assemble")
+        if task not in ("gate", "members", "assemble", "same")
     ),
     *(misused(f"{task} with two files", task, "pair.pickle", "none.pickle", why="unexpected argument 'none.pickle' found", usage=f"{task} <FILE>") for task in ("members", "assemble")),
+    misused("same without a file", "same", why=f"{FILE_MISSING}\n  <OTHER>", usage=SAME),
+    misused("same with one file", "same", "pair.pickle", why=f"{MISSING}\n  <OTHER>", usage=SAME),
+    misused("same with three files", "same", "pair.pickle", "none.pickle", "pair.pickle", why="unexpected argument 'pair.pickle' found", usage=SAME.replace(" ", " [OPTIONS] ", 1)),
+    unexpected("unframed pickles that are compared", "--unframed", SAME, "same", "pair.pickle", "none.pickle", "--unframed"),
     misused("a gate without a file", "gate", why=f"{MISSING}\n  <LIST>\n  <FILE>...", usage=GATE),
     misused("a gate with a list alone", "gate", "names.list", why=f"{FILE_MISSING}...", usage=GATE),
     unexpected("several pickles of a file at a gate", "--many", GATE, "gate", "names.list", "pair.pickle", "--many"),
@@ -111,7 +116,7 @@ CALLS = (
     repeated("two memos", "--memo <kept>", "calls", "pair.pickle", "--memo", "kept", "--memo", "kept"),
 )
 
-FILE_HELP = "Arguments:\n  <FILE>  the pickle\n"
+FILE = (("<FILE>", "the pickle"),)
 MANY_HELP = "read FILE as pickles that follow one another: go on after each STOP"
 UNFRAMED_HELP = "take FRAME for an opcode like others, as a pickle needs that was cut off"
 WHOLE_HELP = "print arguments so that `assemble` makes the same bytes again; with --json this changes nothing"
@@ -127,6 +132,9 @@ GATE_DOES = ("gate", "Says whether all that the pickle in FILE imports and uses 
 REACH_DOES = ("reach", "Says whether any loader of FILE comes to an import or a call, whatever FILE is")
 MEMBERS_DOES = ("members", "Prints the members of FILE, if it is an archive in the form that writers write, else where it is not and why")
 ASSEMBLE_DOES = ("assemble", "Writes the pickle whose opcodes stand in FILE as `list` prints them, else says which line is none")
+SAME_DOES = ("same", "Says whether the pickles in FILE and OTHER make the same objects in the same order, else how they differ")
+SAME_FILES = (("<FILE>", "the pickle"), ("<OTHER>", "the pickle that it is compared with"))
+SAME_MANY = ("    --many", "read both files as pickles that follow one another: go on after each STOP")
 GATE_FILES = (("<LIST>", "the list of names, and of what may be done with each"), ("<FILE>...", "a pickle or an archive, or several"))
 OPTIONS = {
     "list": (("    --many", MANY_HELP), ("    --unframed", UNFRAMED_HELP), JSON_HELP, ("    --whole", WHOLE_HELP)),
@@ -162,16 +170,15 @@ def columns(heading: str, rows: Sequence[tuple[str, str]]) -> str:
     return heading + "".join(f"  {name:<{width}}  {words}\n" for name, words in rows)
 
 
-def help_of(name: str, about: str) -> Row:
+def help_of(does: tuple[str, str], usage: str, files: Sequence[tuple[str, str]] = FILE, options: Sequence[tuple[str, str]] = ()) -> Row:
     """The help of a subcommand of the program itself; the entrance has its own."""
-    usage = f"{about}\n\nUsage: picklestep {name} [OPTIONS] <FILE>\n\n"
-    errors = f"{usage}{FILE_HELP}\n" + columns("Options:\n", (*OPTIONS[name], NO_MORE_HELP))
-    return Row(f"the help of {name}", (name, "--help"), status=2, errors=errors, is_bare=True)
+    rows = columns("Arguments:\n", files) + columns("\nOptions:\n", (*options, NO_MORE_HELP))
+    return Row(f"the help of {does[0]}", (does[0], "--help"), status=2, errors=f"{does[1]}\n\nUsage: picklestep {does[0]} {usage}\n\n{rows}", is_bare=True)
 
 
 PROGRAM_HELP = (
     "Shows what a Python pickle would import, call and build, and runs nothing of it\n\nUsage: picklestep <COMMAND>\n\n"
-    + columns("Commands:\n", (*WHAT_EACH_DOES, GATE_DOES, REACH_DOES, MEMBERS_DOES, ASSEMBLE_DOES, ("help", "Print this message or the help of the given subcommand(s)")))
+    + columns("Commands:\n", (*WHAT_EACH_DOES, GATE_DOES, REACH_DOES, MEMBERS_DOES, ASSEMBLE_DOES, SAME_DOES, ("help", "Print this message or the help of the given subcommand(s)")))
     + columns("\nOptions:\n", (NO_MORE_HELP,))
 )
 HELPS = (
@@ -179,24 +186,10 @@ HELPS = (
         Row(f"the help of the program, by {word}", (word,), status=2, errors=PROGRAM_HELP, is_bare=True)
         for word in ("--help", "-h", "help")
     ),
-    *(help_of(name, about) for name, about in (*WHAT_EACH_DOES, REACH_DOES)),
-    Row(
-        "the help of gate",
-        ("gate", "--help"),
-        status=2,
-        errors=f"{GATE_DOES[1]}\n\nUsage: picklestep {GATE.replace(' ', ' [OPTIONS] ', 1)}\n\n" + columns("Arguments:\n", GATE_FILES) + columns("\nOptions:\n", (JSON_HELP, NO_MORE_HELP)),
-        is_bare=True,
-    ),
-    *(
-        Row(
-            f"the help of {name}",
-            (name, "--help"),
-            status=2,
-            errors=f"{does}\n\nUsage: picklestep {name} <FILE>\n\n{FILE_HELP}" + columns("\nOptions:\n", (NO_MORE_HELP,)),
-            is_bare=True,
-        )
-        for name, does in (MEMBERS_DOES, ASSEMBLE_DOES)
-    ),
+    *(help_of(does, "[OPTIONS] <FILE>", options=OPTIONS[does[0]]) for does in (*WHAT_EACH_DOES, REACH_DOES)),
+    help_of(GATE_DOES, "[OPTIONS] <LIST> <FILE>...", GATE_FILES, (JSON_HELP,)),
+    help_of(SAME_DOES, "[OPTIONS] <FILE> <OTHER>", SAME_FILES, (SAME_MANY,)),
+    *(help_of(does, "<FILE>") for does in (MEMBERS_DOES, ASSEMBLE_DOES)),
 )
 
 

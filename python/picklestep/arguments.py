@@ -13,7 +13,7 @@ from typing import Callable, Dict, Sequence, Tuple, Union
 
 from .opcodes import BY_NAME
 
-__all__ = ['ArgumentValue', 'encoded']
+__all__ = ['ArgumentValue', 'encoded', 'opcode']
 
 # What an opcode's argument can be made from.
 ArgumentValue = Union[bool, int, float, str, bytes, Tuple[Union[str, bytes], Union[str, bytes]]]
@@ -25,19 +25,26 @@ def encoded(name: str, values: Sequence[ArgumentValue]) -> bytes:
     >>> encoded('BININT2', [1]), encoded('GLOBAL', ['os', 'getcwd']), encoded('BINUNICODE', ['id'])
     (b'\\x01\\x00', b'os\\ngetcwd\\n', b'\\x02\\x00\\x00\\x00id')
     """
-    entry = BY_NAME.get(name)
-    form = entry.argument if entry is not None else ''
     if len(values) == 1 and isinstance(values[0], tuple):
         values = values[0]
-    wanted = 0 if not form else 2 if form == 'stringnl_noescape_pair' else 1
-    if entry is not None and len(values) != wanted:
-        raise TypeError(f'{name} takes {wanted} values, and {len(values)} were given')
-    if not form:
+    if name not in BY_NAME:
         return b''
+    wanted, write = _WANTED[name]
+    if len(values) != wanted:
+        raise TypeError(f'{name} takes {wanted} values, and {len(values)} were given')
     try:
-        return b''.join(_WRITERS[form](value) for value in values)
+        return write(values[0]) if wanted == 1 else b''.join(map(write, values))
     except (struct.error, AttributeError) as error:
         raise ValueError(f'{name} does not take {values!r:.100}: {error}') from error
+
+
+def opcode(name: str, *values: ArgumentValue) -> bytes:
+    """A whole opcode that is known.
+
+    >>> opcode('BININT1', 7), opcode('STOP')
+    (b'K\\x07', b'.')
+    """
+    return _CODES[name] + encoded(name, values)
 
 
 def _fixed(layout: str) -> Callable[[ArgumentValue], bytes]:
@@ -124,3 +131,7 @@ _WRITERS: Dict[str, Callable[[ArgumentValue], bytes]] = {
     'string4': _counted(4), 'bytes1': _counted(1), 'bytes4': _counted(4), 'bytes8': _counted(8), 'bytearray8': _counted(8),
     'unicodestring1': _counted(1), 'unicodestring4': _counted(4), 'unicodestring8': _counted(8), 'long1': _counted_long(1),
     'long4': _counted_long(4)}
+# How many values each opcode takes, and what writes each of them.
+_WANTED = {info.name: (2 if info.argument == 'stringnl_noescape_pair' else 1 if info.argument else 0, _WRITERS.get(info.argument, _line))
+           for info in BY_NAME.values()}
+_CODES = {info.name: bytes((info.code,)) for info in BY_NAME.values()}

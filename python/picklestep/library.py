@@ -13,10 +13,10 @@ from typing import Any, Dict, Optional, Protocol, Sequence, Tuple
 from . import place
 from .errors import ProgramError
 from .place import find_library, find_program, is_module
-from .question import Question, question, question_of_gate, question_of_members, question_of_reach, reading
+from .question import Question, question, question_of_gate, question_of_members, question_of_reach, question_of_same, reading
 from .sources import LIMIT
 
-__all__ = ['MOST_BYTES', 'MOST_KEPT', 'Kept', 'answer', 'gate', 'is_in_process', 'load', 'members', 'open_session', 'reach']
+__all__ = ['MOST_BYTES', 'MOST_KEPT', 'Kept', 'answer', 'form', 'gate', 'is_in_process', 'load', 'members', 'open_session', 'reach', 'same']
 
 # Inputs up to this size are asked about here. For a larger one the start of the program is a small part of its time.
 MOST_BYTES = 1 << 16
@@ -138,6 +138,15 @@ def reach(content: bytes, granted: int = 0, memory: Optional[int] = None) -> Opt
     return _ask(question_of_reach(content, granted), memory, _MOST_OF_REACH - len(content))
 
 
+def form(content: bytes, memory: Optional[int] = None) -> Optional[bytes]:
+    """What the program says with `--json` of the form of these bytes. None where the program has to be asked. (It takes some milliseconds a megabyte.)
+
+    >>> form(b'N' * 20_000_000) is None
+    True
+    """
+    return _ask(question(['form', '--json'], content), memory, MOST_KEPT - len(content))
+
+
 def is_in_process() -> bool:
     """Whether there is a library that reads the memory of this process."""
     library = _library()
@@ -152,6 +161,15 @@ def members(content: Any, memory: Optional[int] = None) -> Optional[bytes]:
     True
     """
     return _ask(question_of_members(content), memory, LIMIT - len(content), most=_MOST_OF_MEMBERS)
+
+
+def same(one: bytes, other: bytes, many: bool = False, memory: Optional[int] = None) -> Optional[bytes]:
+    """What the program says of whether two pickles, or several in each, make the same objects. None where the program has to be asked.
+
+    >>> same(b'N' * 100_000, b'N.') is None
+    True
+    """
+    return _ask(question_of_same(one, other, many), memory)
 
 
 def _ask(asked: Optional[Question], memory: Optional[int], *room: int, most: int = _MOST_MEMORY) -> Optional[bytes]:

@@ -8,7 +8,7 @@ from __future__ import annotations
 import json
 import struct
 from operator import itemgetter
-from typing import TYPE_CHECKING, Any, Collection, Dict, Generator, Iterable, Iterator, List, NamedTuple, Optional, Sequence, Tuple
+from typing import TYPE_CHECKING, Any, Callable, Collection, Dict, Generator, Iterable, Iterator, List, NamedTuple, Optional, Sequence, Tuple, TypeVar
 
 from . import library
 from .errors import ProgramError
@@ -19,12 +19,13 @@ from .sources import Input
 if TYPE_CHECKING:
     from .listing_records import Opcode
 
-__all__ = ['Batch', 'FRAME_SIZE', 'Fields', 'Line', 'Listed', 'OPCODE', 'argument_of', 'batch_of', 'check_whole', 'closing_of', 'content_of',
-           'end_of', 'fields_in', 'fields_of', 'fields_of_tails', 'frames_in', 'is_whole', 'key_of', 'last_opcode', 'left_of', 'line_at', 'line_of',
-           'name_in', 'names_of', 'offset_in', 'offsets_in', 'opcode_of', 'opcodes_of', 'printed', 'shown_argument', 'shown_code', 'starts_in',
-           'whole_lines', 'words_of']
+__all__ = ['Batch', 'FRAME_SIZE', 'Fields', 'Line', 'Listed', 'OPCODE', 'argument_of', 'batch_of', 'check_whole', 'closing_of',
+           'content_of', 'each_of', 'end_of', 'fields_in', 'fields_of', 'fields_of_tails', 'frames_in', 'is_whole', 'key_of',
+           'last_opcode', 'left_of', 'line_at', 'line_of', 'name_in', 'names_of', 'offset_in', 'offsets_in', 'opcode_of', 'opcodes_of',
+           'printed', 'shown_argument', 'shown_code', 'starts_in', 'whole_lines', 'words_of']
 
 Fields = Dict[str, Any]
+Read = TypeVar('Read')
 
 _Said = Tuple[bytes, str, Argument, str, int]
 # So many second parts of lines are kept at most behind a batch, and none behind one of so many bytes.
@@ -218,22 +219,31 @@ def opcode_of(fields: Fields) -> Opcode:
     return Opcode(int(fields['offset']), *_said(fields))
 
 
+def each_of(blocks: Iterable[bytes], read: Callable[[Fields], Read]) -> Iterator[Tuple[int, Read]]:
+    """The offset of each opcode of a listing that comes in blocks, and what a function makes of the fields behind it. Of what many lines say it is
+    asked once.
+
+    >>> list(each_of([b'{"kind":"opcode","offset":2,"opcode":"NONE","marks":0}\\n'], lambda fields: fields['opcode']))
+    [(2, 'NONE')]
+    """
+    known: Dict[str, Read] = {}
+    for lines in whole_lines(blocks):
+        batch = batch_of(lines.decode('ascii'))
+        new = set(batch.tails).difference(known)
+        known.update(zip(new, map(read, fields_of_tails(new))))
+        yield from zip(offsets_in(batch.heads), map(known.__getitem__, batch.tails))
+        if len(known) > _MOST_KNOWN or len(lines) > _MOST_OF_LINES:
+            known.clear()
+
+
 def opcodes_of(blocks: Iterable[bytes]) -> Iterator[Opcode]:
-    """The opcodes of a listing that comes in blocks. What many lines say behind their offsets is read once.
+    """The opcodes of a listing that comes in blocks.
 
     >>> [opcode.offset for opcode in opcodes_of([b'{"kind":"opcode","offset":2,"opcode":"NONE","marks":0}\\n'])]
     [2]
     """
     from .listing_records import Opcode
-    known: Dict[str, _Said] = {}
-    for lines in whole_lines(blocks):
-        batch = batch_of(lines.decode('ascii'))
-        new = set(batch.tails).difference(known)
-        known.update(zip(new, map(_said, fields_of_tails(new))))
-        for offset, said in zip(offsets_in(batch.heads), map(known.__getitem__, batch.tails)):
-            yield Opcode(offset, *said)
-        if len(known) > _MOST_KNOWN or len(lines) > _MOST_OF_LINES:
-            known.clear()
+    return (Opcode(offset, *said) for offset, said in each_of(blocks, _said))
 
 
 def _said(fields: Fields) -> _Said:

@@ -1,7 +1,7 @@
 """`picklestep optimize FILE --save OUT`: a smaller pickle that makes the same objects. Nothing of it is run.
 
 Entries of the memo that nobody takes go, arguments are spelled as short as they can be, and frames, where there are some, are as CPython's picklers make
-them. The edits are those of a session, and the objects of both pickles are compared.
+them. The proved program says of the result that it makes the same objects.
 """
 
 from __future__ import annotations
@@ -11,25 +11,27 @@ import sys
 from bisect import bisect_left
 from itertools import accumulate, chain, islice
 from pathlib import Path
-from typing import Any, Dict, Iterable, Iterator, List, NamedTuple, Sequence, Set, Tuple
+from typing import Any, Callable, Dict, Iterable, Iterator, List, Optional, Sequence, Tuple
 
 from .addresses import check_out, content_in, given, saved
-from .arguments import encoded
+from .arguments import opcode
 from .collector import without_collector
 from .errors import NotConverted, PicklestepError, reason
-from .listing_records import Opcode
+from .listed import Fields, argument_of, key_of
 from .opcodes import BY_NAME
 from .printing import print_text
+from .sameness import require_same
 from .saving import naming, written_whole
 from .session import Session
 from .sources import Source, content_of
-from .tasks import listing, objects
+from .tasks import listing
 from .waiting import Waiting
 
 __all__ = ['SPELLINGS', 'framed', 'frames_around', 'in_frames', 'main', 'optimize']
 
 _PUTS = ('PUT', 'BINPUT', 'LONG_BINPUT', 'MEMOIZE')
 _GETS = ('GET', 'BINGET', 'LONG_BINGET')
+_MEMO = frozenset(_PUTS + _GETS)
 # Opcodes that make the same object of the same argument, the shortest first.
 SPELLINGS: Sequence[Sequence[str]] = (
     ('BININT1', 'BININT2', 'BININT'), ('LONG1', 'LONG4'), ('SHORT_BINSTRING', 'BINSTRING'),
@@ -41,12 +43,8 @@ _LARGEST, _LEAST = 64 * 1024, 4
 _OF_MEMOIZE = 4  # the first protocol that has it
 
 
-class _Edit(NamedTuple):
-    """What becomes of an opcode: nothing (where it has no name), or another one."""
-
-    place: int
-    name: str = ''
-    value: Any = None
+# What is read of an opcode: its name, its argument (of MEMOIZE its key of the memo), and the whole opcode in a shorter spelling, if there is one.
+_Read = Tuple[str, Any, Optional[bytes]]
 
 
 @without_collector()
@@ -54,7 +52,8 @@ def optimize(source: Source) -> bytes:
     """A pickle that makes the same objects, and is as small as edits of single opcodes make it; never larger than the source. Of an address or the path
     of a container it is the pickle alone that is opened there.
 
-    Raises NotConverted where it does not read to its end, or is followed by other bytes.
+    Raises NotConverted where it does not read to its end, or is followed by other bytes, and where the program does not say that both make the same
+    objects.
 
     >>> optimize(b'\\x80\\x02]q\\x00J\\x05\\x00\\x00\\x00a.')
     b'\\x80\\x02]K\\x05a.'
@@ -63,83 +62,78 @@ def optimize(source: Source) -> bytes:
     answer = listing(content, many=True)
     if not answer.end.is_stopped:
         raise NotConverted([f'reading ends early: {answer.end.text}'])
-    opcodes = list(answer)
-    if sum(opcode.name == 'STOP' for opcode in opcodes) > 1:
+    first, argument, _ = next(answer.each(_read(0)))[1]
+    protocol = argument if first == 'PROTO' else answer.protocol or 0
+    opcodes = list(answer.each(_read(protocol)))
+    names = [name for _, (name, _, _) in opcodes]
+    if names.count('STOP') > 1:
         raise NotConverted(['several pickles follow one another: optimize each by itself'])
-    protocol = opcodes[0].argument if opcodes[0].name == 'PROTO' else answer.protocol or 0
-    assert isinstance(protocol, int)
-    parts = list(_edited(content, opcodes, [*_memo_edits(opcodes, protocol), *_respelled(opcodes, protocol)]))
-    made = in_frames(parts) if any(opcode.name == 'FRAME' for opcode in opcodes) else b''.join(parts)
-    del opcodes, parts  # (what is compared takes its own memory)
-    if objects(content).json != objects(made).json:
-        raise NotConverted(['it would not make the same objects'])
-    return made if len(made) < len(content) else content
+    parts = list(_edited(content, opcodes, _memo(opcodes), protocol))
+    made = in_frames(parts) if 'FRAME' in names else b''.join(parts)
+    del opcodes, names, parts  # (what is compared takes its own memory)
+    if len(made) >= len(content):
+        return content
+    require_same(content, made)
+    return made
 
 
-def _memo_edits(opcodes: Sequence[Opcode], protocol: int) -> Iterator[_Edit]:
-    """The memo with the entries alone that somebody takes, in their order. A pickle that stores two objects under one key keeps all of them."""
-    keys = [_key(opcode) for opcode in opcodes]
-    stored = [key for opcode, key in zip(opcodes, keys) if opcode.name in _PUTS]
-    taken: Set[int] = {key for opcode, key in zip(opcodes, keys) if opcode.name in _GETS}
+def _read(protocol: int) -> Callable[[Fields], _Read]:
+    """What reads an opcode, for a pickle of a protocol."""
+
+    def read(fields: Fields) -> _Read:
+        name = fields['opcode']
+        if name in _MEMO:
+            return name, key_of(fields), None
+        argument = argument_of(fields)
+        return name, argument, _shorter(name, argument, protocol)
+
+    return read
+
+
+def _memo(opcodes: Sequence[Tuple[int, _Read]]) -> Optional[Dict[int, int]]:
+    """The keys of the memo that somebody takes, each with its new one, which count them in their order. None where a pickle stores two objects under
+    one key: all of them are kept then."""
+    stored = [key for _, (name, key, _) in opcodes if name in _PUTS]
     if len(set(stored)) != len(stored):
-        return
-    new: Dict[int, int] = {}
-    for place, (opcode, key) in enumerate(zip(opcodes, keys)):
-        if opcode.name in _PUTS and key not in taken:
-            yield _Edit(place)
-        elif opcode.name in _PUTS:
-            new[key] = len(new)
-            if protocol >= _OF_MEMOIZE or opcode.name == 'MEMOIZE':
-                yield _Edit(place, 'MEMOIZE')
-            else:
-                yield _Edit(place, *_shortest(opcode.name, new[key], protocol))
-        elif opcode.name in _GETS:
-            yield _Edit(place, *_shortest(opcode.name, new.get(key, key), protocol))
+        return None
+    taken = {key for _, (name, key, _) in opcodes if name in _GETS}
+    return {key: number for number, key in enumerate(filter(taken.__contains__, stored))}
 
 
-def _key(opcode: Opcode) -> int:
-    """The key of the memo that an opcode has; -1 where it has none."""
-    if opcode.name == 'MEMOIZE':
-        return int(opcode.note.rpartition(' ')[2])
-    return int(opcode.argument) if opcode.name in _PUTS + _GETS else -1  # type: ignore[arg-type]
+def _edited(content: bytes, opcodes: Sequence[Tuple[int, _Read]], keys: Optional[Dict[int, int]], protocol: int) -> Iterator[bytes]:
+    """The bytes of the opcodes that are left, without FRAMEs."""
+    known: Dict[Tuple[str, int], Optional[bytes]] = {}  # of the memo
+    ends = chain((offset for offset, _ in islice(opcodes, 1, None)), (len(content),))
+    for (offset, (name, value, shorter)), end in zip(opcodes, ends):
+        if name == 'FRAME':
+            continue
+        if keys is not None and name in _MEMO:
+            if value not in keys:
+                continue
+            if (name, value) not in known:
+                known[name, value] = _with_key(name, value, keys[value], protocol)
+            shorter = known[name, value]
+        yield content[offset:end] if shorter is None else shorter
 
 
-def _respelled(opcodes: Sequence[Opcode], protocol: int) -> Iterator[_Edit]:
-    """Arguments that are spelled as short as they can be."""
-    for place, opcode in enumerate(opcodes):
-        if opcode.name in _ALIKE and opcode.name not in _PUTS + _GETS:
-            name, value = _shortest(opcode.name, opcode.argument, protocol)
-            if name != opcode.name:
-                yield _Edit(place, name, value)
+def _with_key(name: str, key: int, new: int, protocol: int) -> Optional[bytes]:
+    """What stores or takes under a new key of the memo. None where that is the opcode itself."""
+    if name in _PUTS and protocol >= _OF_MEMOIZE or name == 'MEMOIZE':
+        return None if name == 'MEMOIZE' else opcode('MEMOIZE')
+    return _shorter(name, new, protocol) or (None if new == key else opcode(name, new))
 
 
-def _shortest(name: str, value: Any, protocol: int) -> Tuple[str, Any]:
-    """The shortest spelling of an argument, among the opcodes of a protocol."""
+def _shorter(name: str, value: Any, protocol: int) -> Optional[bytes]:
+    """An opcode in the shortest spelling of its argument, among those of a protocol. None where that is its own."""
     for each in _ALIKE.get(name, ()):
         if each == name:
             break
         if BY_NAME[each].protocol <= protocol:
             try:
-                encoded(each, [value])
+                return opcode(each, value)
             except (ValueError, TypeError, OverflowError):
                 continue
-            return each, value
-    return name, value
-
-
-def _edited(content: bytes, opcodes: Sequence[Opcode], edits: Iterable[_Edit]) -> Iterator[bytes]:
-    """The bytes of the opcodes that are left after edits, without FRAMEs."""
-    by_place = {edit.place: edit for edit in edits}
-    ends = chain((opcode.offset for opcode in islice(opcodes, 1, None)), (len(content),))
-    for place, (opcode, end) in enumerate(zip(opcodes, ends)):
-        edit = by_place.get(place)
-        if edit is None:
-            if opcode.name != 'FRAME':
-                yield content[opcode.offset:end]
-        elif (edit.name, edit.value) == (opcode.name, opcode.argument):
-            yield content[opcode.offset:end]
-        elif edit.name:
-            yield bytes((BY_NAME[edit.name].code,)) + encoded(edit.name, [] if edit.value is None else [edit.value])
+    return None
 
 
 def in_frames(parts: Sequence[bytes]) -> bytes:

@@ -9,7 +9,7 @@ from typing import List, NamedTuple, Optional, Sequence, Tuple
 
 from .patterns import pattern
 
-__all__ = ['FUNCTIONS', 'Question', 'granted', 'question', 'question_of_gate', 'question_of_members', 'question_of_reach', 'reading']
+__all__ = ['FUNCTIONS', 'Question', 'granted', 'question', 'question_of_gate', 'question_of_members', 'question_of_reach', 'question_of_same', 'reading']
 
 _TASKS = ('list', 'objects', 'calls')
 # How many options and inputs come before the room for the text. (Holes are an input of `calls`.)
@@ -22,6 +22,7 @@ FUNCTIONS = {
     'picklestep_reach_json': (1, 1),
     'picklestep_members': (0, 1),
     'picklestep_assemble': (0, 1),
+    'picklestep_same': (1, 2),
     **{f'picklestep_{task}_with': (1, 2 if task == 'calls' else 1) for task in _TASKS},
     'picklestep_list_json': (1, 1),
     'picklestep_objects_json': (1, 1),
@@ -95,6 +96,11 @@ def question_of_gate(entries: bytes, content: bytes, is_json: bool = True) -> Qu
 def question_of_members(content: bytes) -> Question:
     """Which members an archive has."""
     return Question('picklestep_members', (), ((content, _BYTE),))
+
+
+def question_of_same(one: bytes, other: bytes, many: bool) -> Question:
+    """Whether two pickles, or several in each, make the same objects."""
+    return Question('picklestep_same', (int(many),), ((one, _BYTE), (other, _BYTE)))
 
 
 def granted(words: Sequence[str]) -> int:

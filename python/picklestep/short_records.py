@@ -1,4 +1,4 @@
-"""Records of short answers: those of `form`, `gate`, `reach` and `members`."""
+"""Records of short answers: those of `form`, `gate`, `reach`, `members` and `same`."""
 
 from __future__ import annotations
 
@@ -7,7 +7,7 @@ from typing import Optional, Tuple
 
 from .records import SLOTS
 
-__all__ = ['GateAnswer', 'Member', 'OtherForm', 'ReachAnswer']
+__all__ = ['GateAnswer', 'Member', 'OtherForm', 'ReachAnswer', 'SameAnswer']
 
 
 @dataclass(frozen=True, **SLOTS)
@@ -100,3 +100,20 @@ class Member:
     size: int
     deflated: Optional[int] = None
     address: str = ''
+
+
+@dataclass(frozen=True, **SLOTS)
+class SameAnswer:
+    """Whether two pickles make the same objects. It is true where they do. `text` is the line that the program prints: it says how they differ.
+
+    >>> import picklestep
+    >>> answer = picklestep.same(b'K\\x05.', b'K\\x06.')
+    >>> bool(answer), answer.text
+    (False, 'another object #0')
+    """
+
+    is_same: bool
+    text: str
+
+    def __bool__(self) -> bool:
+        return self.is_same

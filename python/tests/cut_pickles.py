@@ -49,7 +49,7 @@ class StandIn:
         self.done.append(('add', value))
 
 
-class _Names:
+class Names:
     """Stand-ins by their names."""
 
     def __init__(self) -> None:
@@ -64,7 +64,7 @@ class Loader(pickle.Unpickler):
 
     def __init__(self, data: bytes) -> None:
         super().__init__(io.BytesIO(data), buffers=(bytearray(b'%d' % number) for number in itertools.count()))
-        self._names = _Names()
+        self._names = Names()
 
     def find_class(self, module: str, name: str) -> Any:
         return self._names.find(module, name)
@@ -96,7 +96,7 @@ class _Builder(pickle._Unpickler):  # type: ignore[name-defined,misc]
 
     def __init__(self, data: bytes) -> None:
         super().__init__(_Whole(data), buffers=(bytearray(b'%d' % number) for number in itertools.count()))
-        self._stand_ins = _Names()
+        self._stand_ins = Names()
 
     def find_class(self, module: str, name: str) -> Any:
         return self._stand_ins.find(module, name)

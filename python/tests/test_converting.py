@@ -2,10 +2,7 @@
 
 from __future__ import annotations
 
-import codecs
 import collections
-import copyreg
-import io
 import pickle
 import pickletools
 import subprocess
@@ -14,11 +11,9 @@ import sys
 import tempfile
 import unittest
 from pathlib import Path
-from typing import Any, List, Tuple
+from typing import List, Tuple
 
 import picklestep
-from cut_pickles import Loader, shape, whole_pickles
-from pickles import chosen
 from picklestep import NotConverted
 from scan_support import environment
 
@@ -30,14 +25,6 @@ OF_PYTHON_2 = (
     b"\x80\x02T\x2c\x01\x00\x00" + b'x\xe9' * 150 + b'.',
     b"S\"it's\\n\\\\ \\x00\xe9\"\n.", b"\x80\x02U\x00.", b"(U\x01aU\x01\xfft.", b"\x80\x04\x95\x06\x00\x00\x00\x00\x00\x00\x00U\x03\xc3\xa9z\x94.")
 _LEGACY = {'STRING', 'BINSTRING', 'SHORT_BINSTRING'}
-
-
-class _Decoding(Loader):
-    """Loads with an encoding, over stand-ins."""
-
-    def __init__(self, data: bytes, encoding: str) -> None:
-        pickle.Unpickler.__init__(self, io.BytesIO(data), encoding=encoding)
-        self._names = Loader(b'N.')._names
 
 
 def names_in(data: bytes) -> List[str]:
@@ -70,14 +57,6 @@ class Converted(unittest.TestCase):
         self.assertEqual(done['latin1'], len(OF_PYTHON_2))
         self.assertEqual(done['bytes'], len(OF_PYTHON_2))
         self.assertGreater(len(OF_PYTHON_2), done['utf-8'])
-
-    def test_real_pickles(self) -> None:
-        """Those with such texts load alike over stand-ins, with latin1, which reads all bytes."""
-        found = chosen([(name, data) for name, data in whole_pickles().items() if _LEGACY.intersection(names_in(data))], 10)
-        for name, data in found:
-            with self.subTest(name):
-                self.assertEqual(shape(Loader(picklestep.convert(data, 'latin1')).load()), shape(_Decoding(data, 'latin1').load()))
-        self.assertTrue(found)
 
     def test_what_is_refused(self) -> None:
         with self.assertRaises(NotConverted) as raised:
@@ -118,37 +97,6 @@ class Converted(unittest.TestCase):
             self.assertFalse(Path(folder, 'none').exists())
 
 
-class _Named(Loader):
-    """Loads over stand-ins, and calls what picklers call where a protocol has no opcode."""
-
-    real = {('_codecs', 'encode'): codecs.encode, ('copyreg', '__newobj__'): copyreg.__newobj__, ('copyreg', '__newobj_ex__'): copyreg.__newobj_ex__,  # type: ignore[attr-defined]
-            **{('builtins', kind.__name__): kind for kind in (bytes, bytearray, set, frozenset)}}
-
-    def __init__(self, data: bytes) -> None:
-        super().__init__(data)
-        self._maps = data[:1] != pickle.PROTO or data[1] < 3
-
-    def find_class(self, module: str, name: str) -> Any:
-        if self._maps:
-            module, name = self._name(module, name)
-        if (module, name) == ('builtins', 'getattr'):
-            return lambda made, part: super(_Named, self).find_class(made.name[0], f'{made.name[1]}.{part}')
-        return self.real.get((module, name)) or super().find_class(module, name)
-
-    @staticmethod
-    def _name(module: str, name: str) -> Tuple[str, str]:
-        import _compat_pickle
-        found = _compat_pickle.NAME_MAPPING.get((module, name))
-        return found or (_compat_pickle.IMPORT_MAPPING.get(module, module), name)
-
-
-def _shape_of(data: bytes) -> Any:
-    try:
-        return shape(_Named(data).load())
-    except Exception as error:  # (what a stand-in cannot do both cannot)
-        return type(error)
-
-
 class InProtocols(unittest.TestCase):
     """`convert` with a protocol."""
 
@@ -178,20 +126,6 @@ class InProtocols(unittest.TestCase):
                         self.assertEqual(repr(pickle.loads(made)), repr(value))
                         self.assertLessEqual(max(opcode.proto for opcode, _, _ in pickletools.genops(made)), new)
                         self.assertEqual(picklestep.form(data) is None, picklestep.form(made) is None)
-
-    def test_real_pickles_in_each_protocol(self) -> None:
-        count = 0
-        for name, data in chosen([*whole_pickles().items()][::3], 25):
-            for protocol in range(6):
-                with self.subTest(name, protocol=protocol):
-                    try:
-                        made = picklestep.convert(data, protocol=protocol, many=True)
-                    except NotConverted as error:
-                        self.assertNotIn('would', error.lines[0])
-                        continue
-                    self.assertEqual(_shape_of(made), _shape_of(data))
-                    count += 1
-        self.assertGreater(count, 100)
 
     def test_what_stays_alike(self) -> None:
         """Lines that loaders read otherwise, names of Python 2, names with a dot, and a text that is a name and data."""

@@ -1,6 +1,6 @@
 -- What a function of the library leaves in its caller's memory.
 -- Source: own.
-use Rattle.std.specs.Prelude.{◌≡◌, ◌≢◌, ◌≤◌, ◌<◌, ◌↔◌, ◌⊎◌, ℕ, Bool, List, [], length, take, drop, Option, Some, None, MatchBool}
+use Rattle.std.specs.Prelude.{◌≡◌, ◌≢◌, ◌≤◌, ◌<◌, ◌↔◌, ◌⊎◌, ℕ, nat_lt, if◌then◌else◌, Bool, List, [], length, take, drop, Option, Some, None, MatchBool}
 use Rattle.pickle_io.specs.Device.{Told}
 use Rattle.pickle_doc.specs.Document.{size_limit}
 use Rattle.pickle_io.specs.declared.hole.Hole.{Hole}
@@ -15,6 +15,7 @@ use Rattle.json_script.specs.declared.lines.Lines.{Lines}
 use Rattle.json_script.specs.CallsLines as calls_lines
 use Rattle.pickle_script.specs.GateText.{WroteText}
 use Rattle.assembler_script.specs.AssemblyText.{IsAssemblyText}
+use Rattle.same_script.specs.SameText.{IsSameText}
 use Rattle.archive_script.specs.GateText.{IsGateText}
 use Rattle.gate_json.specs.GateLine.{IsGateLine}
 use Rattle.archive_script.specs.MembersText.{IsMembersText}
@@ -60,6 +61,14 @@ IsMembersOf bytes written status = WroteText (IsMembersText bytes) (took []) (to
 -- these bytes are what a text of opcodes is assembled to, or the line of its first line that gives none, and this is the status
 abbrev pub IsAssemblyOf : List ℕ → List ℕ → ℕ → Type 0
 IsAssemblyOf text written status = WroteText (IsAssemblyText text) (took []) (took written) status
+
+-- these bytes are the line that says whether two inputs make the same objects, and this is its status
+abbrev pub IsComparisonOf : Bool → List ℕ → List ℕ → List ℕ → ℕ → Type 0
+IsComparisonOf many one other written status = WroteText (IsSameText many one other) (took []) (took written) status
+
+-- the longer of two inputs
+abbrev pub longer : List ℕ → List ℕ → List ℕ
+longer one other = if nat_lt (length one) (length other) then other else one
 
 -- these bytes are all answers to the lines of a script, in a session of an input, and this is its status
 pub record IsTalkOf (many loose : Bool) (bytes script written : List ℕ) (status : ℕ) : Type 0 where

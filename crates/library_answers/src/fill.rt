@@ -25,7 +25,7 @@ pub const ROOM: usize = 8_192;
 
 /// How long a text is, and its status, which is that of the program: 1 where an opcode or a line is refused, the bytes have a fault, the lines
 /// of `calls` end in `unsure:`, `kept:` or `warning:`, a pickle is not in the form or does not pass a list, a loader may reach something, or a
-/// hole ends behind the last byte, or a line is none of the assembler; 2 where a line of a list is no entry, else 0.
+/// hole ends behind the last byte, a line is none of the assembler, or two inputs do not make the same objects; 2 where a line of a list is no entry, else 0.
 #[repr(C)]
 #[derive(Clone, Copy)]
 pub struct Written {

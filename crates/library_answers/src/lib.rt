@@ -5,6 +5,7 @@
 mod asked;
 pub mod assembled;
 pub mod calls_lines;
+pub mod compared;
 mod conversation;
 mod fill;
 pub mod gate;

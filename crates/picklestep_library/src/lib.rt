@@ -17,12 +17,13 @@ ghost use Rattle.pickle_script.specs.declared.texts.written.Text.TheVariants as 
 ghost use Rattle.json_script.specs.declared.lines.Lines.TheVariants as asked_lines;
 ghost use Rattle.std.specs.Prelude.{◌≡◌, false, None};
 ghost use Rattle.library_answers.specs.Asked.{is_many, is_loose, pickles_left, detail_of, granted_of, holes_of};
-ghost use Rattle.library_answers.specs.Answer.{IsTextOf, IsLinesOf, IsCallsOf, IsCallsLinesOf, IsGateOf, IsGateLineOf, IsMembersOf, IsAssemblyOf, IsTalkOf, Fills, FillsIn, FillsOf};
+ghost use Rattle.library_answers.specs.Answer.{IsTextOf, IsLinesOf, IsCallsOf, IsCallsLinesOf, IsGateOf, IsGateLineOf, IsMembersOf, IsAssemblyOf, IsComparisonOf, longer, IsTalkOf, Fills, FillsIn, FillsOf};
 ghost use Rattle.library_answers.specs.Handle.{Opens, Asks, AsksJson, AsksAgain, AsksBytes};
 
 use json_script::Lines;
 use library_answers::{
-    GivenHole, Handle, Written, assembled, calls_lines, gate, lines, members, session, talk, texts,
+    GivenHole, Handle, Written, assembled, calls_lines, compared, gate, lines, members, session,
+    talk, texts,
 };
 use pickle_calls::Detail;
 use pickle_further::Pickles;
@@ -208,6 +209,22 @@ pub extern "C" fn picklestep_assemble(
     ensures { Fills (IsAssemblyOf text.now) text.now out.old out.new written.new result }
 {
     assembled::fill_assembled(alloc, text, out, written)
+}
+
+/// Whether two pickles, or where `many` holds several in each input that follow one another, make the same objects in the same order, or how they
+/// differ; 2 is answered where either has too many bytes.
+#[unsafe(no_mangle)]
+pub extern "C" fn picklestep_same(
+    alloc: Global,
+    many: bool,
+    one: &[u8],
+    other: &[u8],
+    out: &mut [u8],
+    written: &mut Written,
+) -> u8
+    ensures { Fills (IsComparisonOf many one.now other.now) (longer one.now other.now) out.old out.new written.new result }
+{
+    compared::fill_comparison(alloc, many, one, other, out, written)
 }
 
 /// The answers of a conversation: those to all lines of a script, in a session of a pickle, or where `many` holds of several. `written` has

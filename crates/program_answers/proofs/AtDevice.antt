@@ -32,6 +32,10 @@ use Rattle.archive_script.proofs.GateLaws.{zero_means_passing, zero_where_file_p
 use Rattle.gate_json.proofs.Passing.{line_passes, named_line_passes}
 use Rattle.archive_script.specs.MembersText.{IsMembersText, AnswersMembers}
 use Rattle.assembler_script.specs.AssemblyText.{IsAssemblyText, AnswersAssembly}
+use Rattle.same_objects.specs.declared.compared.Compared.{Compared}
+use Rattle.same_objects.specs.declared.compared.Compared.TheVariants as compared
+use Rattle.same_objects.specs.Same.{Compares, SameObjects}
+use Rattle.same_script.specs.SameText.{comparison_status, IsSameText, AnswersSame}
 use Rattle.pickle_session.specs.Allowed.{SessionState}
 use Rattle.pickle_script.specs.Conversation.{AppendsBeyond, BrokeBeyond, BrokeSince, StopsWriting}
 use Rattle.debug_json.specs.Lines.{answer_line}
@@ -47,6 +51,7 @@ use Rattle.program_answers.specs.Program.{AnswersWords, Answers}
 use Rattle.program_answers.specs.Gated.{PassesText, IsGateAnswer, IsNamedAnswer, TookGate, TookNamed}
 use Rattle.program_answers.specs.Listed.{TookMembers}
 use Rattle.program_answers.specs.Assembled.{TookAssembly}
+use Rattle.program_answers.specs.Compared.{TookComparison}
 use Rattle.program_answers.specs.Device.{Took, TookText, NoneWithoutMemory, comes_last, lines_come_last, nothing, IsTextOf, IsLinesOf, is_calls_text, is_calls_lines, AnswersInput}
 
 -- ---- what was written on the page
@@ -143,22 +148,6 @@ said_with told Is bytes old new (Err stop.Write) few p = inl p.stopped
 said_with told Is bytes old new (Err stop.Memory) few p = inr (refl, wrote_nothing (told old) (told new) p.stopped)
 said_with told Is bytes old new (Err stop.Read) few p = absurd p.stopped
 said_with told Is bytes old new (Err stop.TooLarge) few p = too_large bytes few (p.too_large.0 refl)
-
-said_members : {S : Type 0} (told : S → Told) (bytes : List ℕ) (old new : S) (answer : Result ℕ Stop) → AnswersMembers bytes told old new answer
-    → TookText (IsMembersText bytes) (told old) (told new) answer
-said_members told bytes old new (Ok status) p = let w = p.whole in inl (w.0, w.1, (w.2, w.3))
-said_members told bytes old new (Err stop.Write) p = inl p.stopped
-said_members told bytes old new (Err stop.Memory) p = inr (refl, wrote_nothing (told old) (told new) p.stopped)
-said_members told bytes old new (Err stop.Read) p = absurd p.stopped
-said_members told bytes old new (Err stop.TooLarge) p = absurd (p.fits refl)
-
-said_assembly : {S : Type 0} (told : S → Told) (text : List ℕ) (old new : S) (answer : Result ℕ Stop) → AnswersAssembly text told old new answer
-    → TookText (IsAssemblyText text) (told old) (told new) answer
-said_assembly told text old new (Ok status) p = let w = p.whole in inl (w.0, w.1, (w.2, w.3))
-said_assembly told text old new (Err stop.Write) p = inl p.stopped
-said_assembly told text old new (Err stop.Memory) p = inr (refl, wrote_nothing (told old) (told new) p.stopped)
-said_assembly told text old new (Err stop.Read) p = absurd p.stopped
-said_assembly told text old new (Err stop.TooLarge) p = absurd (p.fits refl)
 
 -- ---- what it held was handed on, or that failed
 
@@ -430,9 +419,8 @@ pub members_took : {S : Type 0} (told : S → Told) (bytes : List ℕ) (old mid 
     → told old ≡ holding d first → told new ≡ holding e held → (holding d first).held ≡ 0 → (result ≢ Err stop.Write → (holding e held).held ≡ 0)
     → TookMembers bytes d e result
 members_took told bytes old mid new d e first held answer result w passed calm untouched failed before after none all =
-    let t = took_last told (IsMembersText bytes) old mid new d e first held answer result (said_members told bytes old mid answer w)
-    (λ m. subst (λ (r : Result ℕ Stop). IfErr r (StopsGate (IsMembersText bytes) (told old) (told mid))) m w.stopped)
-    passed calm untouched failed before after none all in
+    let t = says_took (IsMembersText bytes) (told old) (told mid) (told new) d e first held answer result (record { whole = w.whole; stopped = w.stopped; fits = w.fits })
+    passed calm (λ x. ap told (untouched x)) failed before after none all in
     record { took = t.0; last = t.1 }
 
 -- the bytes of a text of opcodes
@@ -443,10 +431,38 @@ pub assembly_took : {S : Type 0} (told : S → Told) (text : List ℕ) (old mid 
     → told old ≡ holding d first → told new ≡ holding e held → (holding d first).held ≡ 0 → (result ≢ Err stop.Write → (holding e held).held ≡ 0)
     → TookAssembly text d e result
 assembly_took told text old mid new d e first held answer result w passed calm untouched failed before after none all =
-    let t = took_last told (IsAssemblyText text) old mid new d e first held answer result (said_assembly told text old mid answer w)
-    (λ m. subst (λ (r : Result ℕ Stop). IfErr r (StopsGate (IsAssemblyText text) (told old) (told mid))) m w.stopped)
-    passed calm untouched failed before after none all in
+    let t = says_took (IsAssemblyText text) (told old) (told mid) (told new) d e first held answer result (record { whole = w.whole; stopped = w.stopped; fits = w.fits })
+    passed calm (λ x. ap told (untouched x)) failed before after none all in
     record { took = t.0; last = t.1 }
+
+same_zero : (many : Bool) (one other : List ℕ) (o : Output) → IsSameText many one other o → o.status ≡ 0 → SameObjects many one other
+same_zero many one other o is zero = go is.compared is.compares (ap (λ (x : Output). x.status) (sym is.text_is) ∙ zero)
+  where
+    go : (c : Compared) → Compares many one other c → comparison_status c ≡ 0 → SameObjects many one other
+    go compared.Same h z = h
+    go (compared.FirstEnds x) h z = absurd cc
+    go (compared.OtherEnds x) h z = absurd cc
+    go (compared.Object n) h z = absurd cc
+    go compared.Results h z = absurd cc
+    go (compared.FirstGoesOn x) h z = absurd cc
+    go (compared.OtherGoesOn x) h z = absurd cc
+    go compared.Order h z = absurd cc
+
+-- the line about two pickles: its status is 0 only where they make the same objects
+pub comparison_took : {S : Type 0} (told : S → Told) (many : Bool) (one other : List ℕ) (old mid new : S) (d e : Told) (first held : List ℕ) (answer result : Result ℕ Stop)
+    → AnswersSame many one other told old mid answer
+    → (result ≢ Err stop.Write → result ≡ answer) → (result ≢ Err stop.Write → Wrote (told mid) (told new) []) → (answer ≡ Err stop.Write → new ≡ mid)
+    → (result ≡ Err stop.Write → answer ≢ Err stop.Write → Broke (told mid) (told new) [])
+    → told old ≡ holding d first → told new ≡ holding e held → (holding d first).held ≡ 0 → (result ≢ Err stop.Write → (holding e held).held ≡ 0)
+    → TookComparison many one other d e result
+comparison_took told many one other old mid new d e first held answer result w passed calm untouched failed before after none all =
+    let t = says_took (IsSameText many one other) (told old) (told mid) (told new) d e first held answer result
+    (record { whole = w.whole; stopped = w.stopped; fits = w.fits }) passed calm (λ x. ap told (untouched x)) failed before after none all in
+    record {
+      took = t.0;
+      last = t.1;
+      same = zero_took (SameObjects many one other) (IsSameText many one other) d e result (λ o is zero. same_zero many one other o is zero) t.0;
+    }
 
 -- ---- a conversation
 

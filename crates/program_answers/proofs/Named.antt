@@ -4,7 +4,7 @@ use Rattle.std.specs.Prelude.{Bool, IsTrue, false, IfSome, IfOk, IfErr, IsErrAnd
 use Rattle.std.specs.Str.Parse.{IsNumeral, digits_value, without_leading_plus}
 use Rattle.std.specs.Option.{unwrap_or}
 use Rattle.std.proofs.lemmas.Slice.Eq.{bytes_eq-Decides}
-use Rattle.clap.specs.Words.{App, HasMatchesOf, Row, Text, TriesOne, all_of, fault_of, first_of, is_simple, is_simple_and_free, kind_of, subcommand_of, subcommand_rows_of, takes}
+use Rattle.clap.specs.Words.{App, HasMatchesOf, Row, Text, TriesOne, all_of, fault_of, first_of, is_simple, one_of, is_simple_and_free, kind_of, subcommand_of, subcommand_rows_of, takes}
 use Rattle.clap.specs.declared.parser.matches.ArgMatches.{ArgMatches}
 use Rattle.pickle_io.specs.declared.hole.Hole.{Hole}
 use Rattle.pickle_script.specs.GivenHoles.{holes_of}
@@ -12,6 +12,7 @@ use Rattle.clap.specs.declared.error.Error.{Error}
 use Rattle.clap.specs.declared.error.kind.ErrorKind.TheVariants as kind
 use Rattle.program_answers.specs.declared.task.Task.{Task}
 use Rattle.program_answers.specs.declared.task.CallsOptions.{CallsOptions}
+use Rattle.program_answers.specs.declared.task.GivenFile.{GivenFile}
 use Rattle.program_answers.specs.declared.task.Format.{Format}
 use Rattle.program_answers.specs.declared.task.Format.TheVariants as format
 use Rattle.program_answers.specs.declared.task.Usage.{Usage}
@@ -20,7 +21,7 @@ use Rattle.pickle_further.specs.declared.way.Pickles.{Pickles}
 use Rattle.pickle_further.specs.declared.way.Pickles.TheVariants as pickles
 use Rattle.pickle_calls.specs.declared.naming.Detail.{Detail}
 use Rattle.pickle_calls.specs.declared.naming.Detail.TheVariants as detail
-use Rattle.program_answers.specs.CommandLine.{Matches, FitsCalls, FitsMemo, GivesReading, HasCallsOptions, HasDetail, HasFormat, HasHoles, HasList, HasReading, IsMemory, IsWindow, NamesTask, more_of, most_records, program, skips_of}
+use Rattle.program_answers.specs.CommandLine.{Matches, IsCommand, matches_of, FitsCalls, FitsMemo, GivesReading, HasCallsOptions, HasDetail, HasFormat, HasHoles, HasInput, HasText, HasReading, IsMemory, IsNamed, IsUsed, IsWindow, NamesTask, more_of, most_records, program, skips_of}
 
 -- ---- a subcommand
 
@@ -107,19 +108,21 @@ skips_are texts rows e = sym (ap (λ (o : Option (List Text)). unwrap_or o []) e
 pub no_skips : (rows : List Row) → None ≡ all_of (codes "skip") rows → skips_of rows ≡ []
 no_skips rows e = sym (ap (λ (o : Option (List Text)). unwrap_or o []) e)
 
--- ---- the list
+-- ---- a text
 
-pub list_some : {X E : Type 0} (text : X → Text) (o : Option (Bor Text)) (rows : List Row) (r : Result (Option X) E) → option_map (λ (t : Bor Text). t.now) o ≡ first_of (codes "LIST") rows
-    → IfOk r (λ x. option_map text x ≡ option_map (λ (t : Bor Text). t.now) o) → IfOk r (λ x. IfSome x (λ l. HasList rows (text l)))
-list_some text o rows (Ok None) e w = tt
-list_some text o rows (Ok (Some l)) e w = sym e ∙ sym w
-list_some text o rows (Err x) e w = tt
+pub text_some : {X E : Type 0} (text : X → Text) (name : Text) (o : Option (Bor Text)) (rows : List Row) (r : Result (Option X) E)
+    → option_map (λ (t : Bor Text). t.now) o ≡ first_of name rows
+    → IfOk r (λ x. option_map text x ≡ option_map (λ (t : Bor Text). t.now) o) → IfOk r (λ x. IfSome x (λ l. HasText name rows (text l)))
+text_some text name o rows (Ok None) e w = tt
+text_some text name o rows (Ok (Some l)) e w = sym e ∙ sym w
+text_some text name o rows (Err x) e w = tt
 
-pub list_none : {X E : Type 0} (text : X → Text) (o : Option (Bor Text)) (rows : List Row) (r : Result (Option X) E) → option_map (λ (t : Bor Text). t.now) o ≡ first_of (codes "LIST") rows
-    → IfOk r (λ x. option_map text x ≡ option_map (λ (t : Bor Text). t.now) o) → r ≡ Ok None → first_of (codes "LIST") rows ≡ None
-list_none text o rows (Ok None) e w is = sym e ∙ sym w
-list_none text o rows (Ok (Some l)) e w is = absurd cc
-list_none text o rows (Err x) e w is = absurd cc
+pub text_none : {X E : Type 0} (text : X → Text) (name : Text) (o : Option (Bor Text)) (rows : List Row) (r : Result (Option X) E)
+    → option_map (λ (t : Bor Text). t.now) o ≡ first_of name rows
+    → IfOk r (λ x. option_map text x ≡ option_map (λ (t : Bor Text). t.now) o) → r ≡ Ok None → first_of name rows ≡ None
+text_none text name o rows (Ok None) e w is = sym e ∙ sym w
+text_none text name o rows (Ok (Some l)) e w is = absurd cc
+text_none text name o rows (Err x) e w is = absurd cc
 
 -- ---- the files behind the first
 
@@ -184,10 +187,69 @@ fits_has rows fits =
     let f = has_format rows in
     (record { pickles = p.0; detail = d.0; holes = h.0; format = f.0 }, record { pickles_is = p.1; detail_is = d.1; holes_is = h.1; format_is = f.1 })
 
+-- ---- the tasks of the commands
+
+-- a command was used on its input
+abbrev pub used_on : (name : Text) (rows : List Row) (input : GivenFile) → HasInput rows input → IsUsed name (matches_of name rows) input
+used_on name rows input h = record { rows = rows; used = refl; input_is = h }
+
+abbrev pub used_as : (name other : Text) (rows : List Row) (input : GivenFile) → name ≡ other → HasInput rows input → IsUsed other (matches_of name rows) input
+used_as name other rows input same h = record { rows = rows; used = ap (λ (n : Text). matches_of n rows) same; input_is = h }
+
+abbrev name_in : Matches → Text
+name_in None = []
+name_in (Some m) = m.0
+
+abbrev rows_in : Matches → List Row
+rows_in None = []
+rows_in (Some m) = m.1
+
+same_rows : (name : Text) (rows : List Row) (t : NamesTask (matches_of name rows)) → t.rows ≡ rows
+same_rows name rows t = sym (ap rows_in t.used)
+
+same_name : (name : Text) (rows : List Row) (t : NamesTask (matches_of name rows)) → t.name ≡ name
+same_name name rows t = sym (ap name_in t.used)
+
 -- without its options there is no task of `calls`
-pub no_reading : (matches : Matches) (rows : List Row) → matches ≡ Some (codes "calls", rows) → ((o : CallsOptions) → HasCallsOptions rows o → ⊥)
-    → NamesTask matches → ⊥
-no_reading matches rows p none t = let has = fits_has rows (t.fits rows p) in none has.0 has.1
+pub no_calls : (rows : List Row) → ((o : CallsOptions) → HasCallsOptions rows o → ⊥) → NamesTask (matches_of (codes "calls") rows) → ⊥
+no_calls rows none t = let has = fits_has rows (t.fits rows refl) in none has.0 has.1
+
+-- without a window within the bounds there is none of `debug`
+pub no_debug : (rows : List Row) → ((w : Option ℕ) → IsWindow (one_of (codes "window") rows) w → ⊥) → NamesTask (matches_of (codes "debug") rows) → ⊥
+no_debug rows none t =
+    none t.window (subst (λ (r : List Row). IsWindow (one_of (codes "window") r) t.window) (same_rows (codes "debug") rows t) t.window_is)
+
+-- without a list there is none of `gate`
+pub no_gate_task : (rows : List Row) → first_of (codes "LIST") rows ≡ None → NamesTask (matches_of (codes "gate") rows) → ⊥
+no_gate_task rows none t =
+    t.list_is (same_name (codes "gate") rows t) (subst (λ (r : List Row). first_of (codes "LIST") r ≡ None) (sym (same_rows (codes "gate") rows t)) none)
+
+-- without another file there is none of `same`
+pub no_same_task : (rows : List Row) → first_of (codes "OTHER") rows ≡ None → NamesTask (matches_of (codes "same") rows) → ⊥
+no_same_task rows none t =
+    t.other_is (same_name (codes "same") rows t) (subst (λ (r : List Row). first_of (codes "OTHER") r ≡ None) (sym (same_rows (codes "same") rows t)) none)
+
+-- and without a file none at all
+pub no_file : (name : Text) (rows : List Row) → first_of (codes "FILE") rows ≡ None → NamesTask (matches_of name rows) → ⊥
+no_file name rows none t =
+    let there : first_of (codes "FILE") rows ≡ Some t.file = subst (λ (r : List Row). first_of (codes "FILE") r ≡ Some t.file) (same_rows name rows t) t.file_is in
+    let bad : None ≡ Some t.file = sym none ∙ there in
+    absurd cc
+
+-- the matches are those of a command that was used
+pub named_some : {E : Type 0} (m : Matches) (name other : Text) (rows : List Row) (r : Result (Option Task) E) → m ≡ Some (name, rows) → name ≡ other
+    → IfOk r (λ x. IfSome x (IsNamed (matches_of other rows))) → IfOk r (λ x. IfSome x (IsNamed m))
+named_some m name other rows r is same h =
+    subst (λ (f : Matches). IfOk r (λ x. IfSome x (IsNamed f))) (sym (is ∙ ap (λ (n : Text). matches_of n rows) same)) h
+
+pub named_none : (m : Matches) (name other : Text) (rows : List Row) → m ≡ Some (name, rows) → name ≡ other → (NamesTask (matches_of other rows) → ⊥) → NamesTask m → ⊥
+named_none m name other rows is same none t = none (subst NamesTask (is ∙ ap (λ (n : Text). matches_of n rows) same) t)
+
+-- another name is that of no command
+pub no_command : (m : Matches) (name : Text) (rows : List Row) → m ≡ Some (name, rows) → (IsCommand name → ⊥) → NamesTask m → ⊥
+no_command m name rows is none t =
+    let u : NamesTask (matches_of name rows) = subst NamesTask is t in
+    none (subst IsCommand (same_name name rows u) u.command)
 
 -- ---- the matches of the program's words
 

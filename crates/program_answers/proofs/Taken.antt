@@ -23,7 +23,8 @@ use Rattle.clap.specs.declared.parser.matches.ValueSource.{ValueSource}
 use Rattle.clap.specs.declared.parser.matches.ValueSource.TheVariants.{CommandLine, DefaultValue}
 use Rattle.clap.proofs.ValueTestLemmas.{accepts-Accepts}
 use Rattle.clap.proofs.WalkLemmas.{both}
-use Rattle.program_answers.specs.CommandLine.{FitsOptions, IsCommand, IsCount, IsWindow, NamesTask, file_rule, files_rule, first_rule, full_rule, json_rule, list_rule, whole_rule, many_rule, memo_rule, extensions_rule, persistent_rule, buffers_rule, most_records, program, save_rule, skip_rule, unframed_rule, window_rule}
+use Rattle.program_answers.specs.declared.task.Word.TheVariants as word
+use Rattle.program_answers.specs.CommandLine.{FitsOptions, IsCommand, IsCount, IsWindow, NamesTask, file_rule, files_rule, first_rule, full_rule, json_rule, list_rule, other_rule, whole_rule, many_rule, memo_rule, extensions_rule, persistent_rule, buffers_rule, most_records, program, save_rule, skip_rule, unframed_rule, window_rule}
 use Rattle.program_answers.proofs.Walked.{Each, Keeps, KeepsDefault, enters, enters_rows, found_each, level_is_valid, level_keeps, no_help, required}
 
 -- ---- a row
@@ -271,6 +272,7 @@ pub record IsOurs (sub : Shape) : Type 0 where
   pub suits : Each Suits sub.rules
   pub file : (rows : List Row) → list_all (λ a. not a.required || is_given a.id rows) sub.rules ≡ true → is_given (codes "FILE") rows ≡ true
   pub list : sub.name ≡ codes "gate" → (rows : List Row) → list_all (λ a. not a.required || is_given a.id rows) sub.rules ≡ true → is_given (codes "LIST") rows ≡ true
+  pub other : sub.name ≡ codes "same" → (rows : List Row) → list_all (λ a. not a.required || is_given a.id rows) sub.rules ≡ true → is_given (codes "OTHER") rows ≡ true
 
 unnegated : (b x : Bool) → ((b && false) || x) ≡ true → x ≡ true
 unnegated true x e = e
@@ -308,6 +310,7 @@ names_task a words needed ours taken fits =
       file = file.0;
       file_is = file.1;
       list_is = λ is. is_some_not (given_first (codes "LIST") rows all (o.list is rows given));
+      other_is = λ is. is_some_not (given_first (codes "OTHER") rows all (o.other is rows given));
       window = window.0;
       window_is = window.1;
       fits = fits;
@@ -318,6 +321,9 @@ file_suits = record { no_count = refl; gives = refl; window = λ e. absurd cc }
 
 list_suits : Suits (with_index 1 (filled list_rule))
 list_suits = record { no_count = refl; gives = refl; window = λ e. absurd cc }
+
+other_suits : Suits (with_index 2 (filled other_rule))
+other_suits = record { no_count = refl; gives = refl; window = λ e. absurd cc }
 
 last_suits : Suits (with_index 2 (filled files_rule))
 last_suits = record { no_count = refl; gives = refl; window = λ e. absurd cc }
@@ -368,10 +374,10 @@ or_false : (b : Bool) → (b || false) ≡ true → b ≡ true
 or_false true e = refl
 or_false false e = e
 
--- a command of another name is not the gate
-no_gate : {A : Type 0} (name : Text) → bytes_eq name (codes "gate") ≡ false → name ≡ codes "gate" → A
-no_gate name other e =
-    let bad : false ≡ true = sym other ∙ ap (λ (t : Text). bytes_eq t (codes "gate")) e in
+-- a command of another name is another one
+unlike : {A : Type 0} (one other : Text) → bytes_eq one other ≡ false → one ≡ other → A
+unlike one other differ e =
+    let bad : true ≡ false = sym ((bytes_eq-Decides one other).1 e) ∙ differ in
     absurd cc
 
 -- `help` is none of them
@@ -385,68 +391,86 @@ help_is_none name t called =
 ours : (name : Text) → Each (λ sub. answers_to name (label_of sub) ≡ true → no_help (built program).top name ≡ true → IsOurs sub) (built program).subs
 ours name = (
   (λ t called. record {
-    command = inl refl;
+    command = (word.List, refl);
     suits = (file_suits, (many_suits, (unframed_suits, (json_suits, (whole_suits, (help_suits, tt))))));
     file = λ rows e. (both _ _ e).0;
-    list = no_gate (codes "list") refl;
+    list = unlike (codes "list") (codes "gate") refl;
+    other = unlike (codes "list") (codes "same") refl;
   }),
   (
     (λ t called. record {
-      command = inr (inl refl);
+      command = (word.Objects, refl);
       suits = (file_suits, (many_suits, (unframed_suits, (json_suits, (help_suits, tt)))));
       file = λ rows e. (both _ _ e).0;
-      list = no_gate (codes "objects") refl;
+      list = unlike (codes "objects") (codes "gate") refl;
+      other = unlike (codes "objects") (codes "same") refl;
     }),
     (
       (λ t called. record {
-        command = inr (inr (inl refl));
+        command = (word.Calls, refl);
         suits = (file_suits, (many_suits, (first_suits, (memo_suits, (full_suits, (skip_suits, (json_suits, (help_suits, tt))))))));
         file = λ rows e. (both _ _ e).0;
-        list = no_gate (codes "calls") refl;
+        list = unlike (codes "calls") (codes "gate") refl;
+        other = unlike (codes "calls") (codes "same") refl;
       }),
       (
         (λ t called. record {
-          command = inr (inr (inr (inl refl)));
+          command = (word.Debug, refl);
           suits = (file_suits, (many_suits, (unframed_suits, (window_suits, (save_suits, (json_suits, (help_suits, tt)))))));
           file = λ rows e. (both _ _ e).0;
-          list = no_gate (codes "debug") refl;
+          list = unlike (codes "debug") (codes "gate") refl;
+          other = unlike (codes "debug") (codes "same") refl;
         }),
         (
           (λ t called. record {
-            command = inr (inr (inr (inr (inl refl))));
+            command = (word.Form, refl);
             suits = (file_suits, (many_suits, (json_suits, (help_suits, tt))));
             file = λ rows e. (both _ _ e).0;
-            list = no_gate (codes "form") refl;
+            list = unlike (codes "form") (codes "gate") refl;
+            other = unlike (codes "form") (codes "same") refl;
           }),
           (
             (λ t called. record {
-              command = inr (inr (inr (inr (inr (inl refl)))));
+              command = (word.Gate, refl);
               suits = (list_suits, (last_suits, (json_suits, (help_suits, tt))));
               file = λ rows e. (both _ _ (both _ _ e).1).0;
               list = λ is rows e. (both _ _ e).0;
+              other = unlike (codes "gate") (codes "same") refl;
             }),
             (
               (λ t called. record {
-                command = inr (inr (inr (inr (inr (inr (inl refl))))));
+                command = (word.Reach, refl);
                 suits = (file_suits, (extensions_suits, (persistent_suits, (buffers_suits, (json_suits, (help_suits, tt))))));
                 file = λ rows e. (both _ _ e).0;
-                list = no_gate (codes "reach") refl;
+                list = unlike (codes "reach") (codes "gate") refl;
+                other = unlike (codes "reach") (codes "same") refl;
               }),
               (
                 (λ t called. record {
-                  command = inr (inr (inr (inr (inr (inr (inr (inl refl)))))));
+                  command = (word.Members, refl);
                   suits = (file_suits, (help_suits, tt));
                   file = λ rows e. (both _ _ e).0;
-                  list = no_gate (codes "members") refl;
+                  list = unlike (codes "members") (codes "gate") refl;
+                  other = unlike (codes "members") (codes "same") refl;
                 }),
                 (
                   (λ t called. record {
-                    command = inr (inr (inr (inr (inr (inr (inr (inr refl)))))));
+                    command = (word.Assemble, refl);
                     suits = (file_suits, (help_suits, tt));
                     file = λ rows e. (both _ _ e).0;
-                    list = no_gate (codes "assemble") refl;
+                    list = unlike (codes "assemble") (codes "gate") refl;
+                    other = unlike (codes "assemble") (codes "same") refl;
                   }),
-                  ((λ t called. absurd (help_is_none name t called)), tt),
+                  (
+                    (λ t called. record {
+                      command = (word.Same, refl);
+                      suits = (file_suits, (many_suits, (other_suits, (help_suits, tt))));
+                      file = λ rows e. (both _ _ e).0;
+                      list = unlike (codes "same") (codes "gate") refl;
+                      other = λ is rows e. (both _ _ (both _ _ e).1).0;
+                    }),
+                    ((λ t called. absurd (help_is_none name t called)), tt),
+                  ),
                 ),
               ),
             ),

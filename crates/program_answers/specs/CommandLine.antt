@@ -17,6 +17,8 @@ use Rattle.pickle_reach.specs.declared.granted.Granted.{Granted}
 use Rattle.pickle_further.specs.declared.way.Pickles.TheVariants as pickles
 use Rattle.program_answers.specs.declared.task.Task.{Task}
 use Rattle.program_answers.specs.declared.task.Task.TheVariants as task
+use Rattle.program_answers.specs.declared.task.Word.{Word}
+use Rattle.program_answers.specs.declared.task.Word.TheVariants as word
 use Rattle.program_answers.specs.declared.task.GivenFile.{GivenFile}
 use Rattle.program_answers.specs.declared.task.Format.{Format}
 use Rattle.program_answers.specs.declared.task.Format.TheVariants as format
@@ -38,6 +40,9 @@ file_rule = record (new_rule (codes "FILE")) { required = true; action = Some Se
 
 abbrev pub list_rule : Rule
 list_rule = record (new_rule (codes "LIST")) { required = true; action = Some Set }
+
+abbrev pub other_rule : Rule
+other_rule = record (new_rule (codes "OTHER")) { required = true; action = Some Set }
 
 -- one file, or several
 abbrev pub files_rule : Rule
@@ -133,14 +138,17 @@ members_app = with_rule (new_app (codes "members")) file_rule
 abbrev pub assemble_app : App
 assemble_app = with_rule (new_app (codes "assemble")) file_rule
 
+abbrev pub same_app : App
+same_app = with_rule (on_file (codes "same")) other_rule
+
 abbrev pub wants_subcommand : App → App
 wants_subcommand a = record a { top = record a.top { subcommand_required = true } }
 
 abbrev pub program : App
 program =
-    with_subcommand (with_subcommand (with_subcommand (with_subcommand (with_subcommand (with_subcommand (with_subcommand (with_subcommand (with_subcommand (wants_subcommand
+    with_subcommand (with_subcommand (with_subcommand (with_subcommand (with_subcommand (with_subcommand (with_subcommand (with_subcommand (with_subcommand (with_subcommand (wants_subcommand
     (new_app (codes "picklestep"))) list_app.top) (json_app (codes "objects")).top) calls_app.top) debug_app.top)
-    form_app.top) gate_app.top) reach_app.top) members_app.top) assemble_app.top
+    form_app.top) gate_app.top) reach_app.top) members_app.top) assemble_app.top) same_app.top
 
 -- ---- the task that matches name
 
@@ -168,6 +176,10 @@ pub record HasInput (rows : List Row) (input : GivenFile) : Type 0 where
   pub one_is : first_of (codes "many") rows ≡ Some (codes "true") → IsTrue input.many
   pub unframed_is : IsTrue input.unframed → first_of (codes "unframed") rows ≡ Some (codes "true")
   pub framed_is : first_of (codes "unframed") rows ≡ Some (codes "true") → IsTrue input.unframed
+
+-- a subcommand of this name, and what was matched after it
+abbrev pub matches_of : Text → List Row → Matches
+matches_of name rows = Some (name, rows)
 
 -- the subcommand of this name was used on this input
 pub record IsUsed (name : Text) (matches : Matches) (input : GivenFile) : Type 0 where
@@ -212,16 +224,16 @@ pub record HasCallsOptions (rows : List Row) (options : CallsOptions) : Type 0 w
   pub holes_is : HasHoles rows options.holes
   pub format_is : HasFormat rows options.format
 
--- the words have this LIST
-abbrev pub HasList : List Row → Text → Type 0
-HasList rows list = first_of (codes "LIST") rows ≡ Some list
+-- the words have this text behind a name
+abbrev pub HasText : Text → List Row → Text → Type 0
+HasText name rows text = first_of name rows ≡ Some text
 
 -- each FILE behind the first
 abbrev pub more_of : List Row → List Text
 more_of rows = drop 1 (unwrap_or (all_of (codes "FILE") rows) [])
 
 pub record HasGateOptions (rows : List Row) (options : GateOptions) : Type 0 where
-  pub list_is : HasList rows (string_bytes options.list)
+  pub list_is : HasText (codes "LIST") rows (string_bytes options.list)
   pub more_is : map string_bytes options.more.items ≡ more_of rows
   pub format_is : HasFormat rows options.format
 
@@ -254,6 +266,7 @@ IsNamed matches (task.Gate input options) = (u : IsUsed (codes "gate") matches i
 IsNamed matches (task.Reach input granted f) = (u : IsUsed (codes "reach") matches input) × (HasGranted u.rows granted × HasFormat u.rows f)
 IsNamed matches (task.Members input) = IsUsed (codes "members") matches input
 IsNamed matches (task.Assemble input) = IsUsed (codes "assemble") matches input
+IsNamed matches (task.Same input other) = (u : IsUsed (codes "same") matches input) × HasText (codes "OTHER") u.rows (string_bytes other)
 IsNamed matches (task.Debug input options) = (u : IsUsed (codes "debug") matches input) × HasOptions u.rows options
 
 -- ---- the matches that name a task
@@ -272,13 +285,23 @@ pub record FitsCalls (rows : List Row) : Type 0 where
 abbrev pub FitsOptions : Matches → Type 0
 FitsOptions matches = (rows : List Row) → matches ≡ Some (codes "calls", rows) → FitsCalls rows
 
-abbrev pub IsCommand : Text → Type 0
-IsCommand name =
-    (name ≡ codes "list")
-    ⊎ ((name ≡ codes "objects") ⊎ ((name ≡ codes "calls") ⊎ ((name ≡ codes "debug") ⊎ ((name ≡ codes "form") ⊎ ((name ≡ codes "gate")
-    ⊎ ((name ≡ codes "reach") ⊎ ((name ≡ codes "members") ⊎ (name ≡ codes "assemble"))))))))
+-- the name of a command
+abbrev pub name_of : Word → Text
+name_of word.List = codes "list"
+name_of word.Objects = codes "objects"
+name_of word.Calls = codes "calls"
+name_of word.Debug = codes "debug"
+name_of word.Form = codes "form"
+name_of word.Gate = codes "gate"
+name_of word.Reach = codes "reach"
+name_of word.Members = codes "members"
+name_of word.Assemble = codes "assemble"
+name_of word.Same = codes "same"
 
--- one of the commands was used, with a FILE, of `gate` with a LIST, a window that is none or within the bounds, and options of `calls` that fit
+abbrev pub IsCommand : Text → Type 0
+IsCommand name = (w : Word) × (name ≡ name_of w)
+
+-- one of the commands was used, with a FILE, of `gate` with a LIST, of `same` with an OTHER, a window that is none or within the bounds, and options of `calls` that fit
 pub record NamesTask (matches : Matches) : Type 0 where
   pub name : Text
   pub rows : List Row
@@ -287,6 +310,7 @@ pub record NamesTask (matches : Matches) : Type 0 where
   pub file : Text
   pub file_is : first_of (codes "FILE") rows ≡ Some file
   pub list_is : name ≡ codes "gate" → first_of (codes "LIST") rows ≢ None
+  pub other_is : name ≡ codes "same" → first_of (codes "OTHER") rows ≢ None
   pub window : Option ℕ
   pub window_is : IsWindow (one_of (codes "window") rows) window
   pub fits : FitsOptions matches
@@ -301,6 +325,7 @@ IsBounded (task.Gate input options) = ⊤
 IsBounded (task.Reach input granted f) = ⊤
 IsBounded (task.Members input) = ⊤
 IsBounded (task.Assemble input) = ⊤
+IsBounded (task.Same input other) = ⊤
 IsBounded (task.Debug input options) = IfSome options.window (λ n. (1 ≤ n) × (n ≤ most_records))
 
 -- the words are refused where memory runs out

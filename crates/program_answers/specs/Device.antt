@@ -131,6 +131,7 @@ input_of (task.Gate input options) = input
 input_of (task.Reach input granted f) = input
 input_of (task.Members input) = input
 input_of (task.Assemble input) = input
+input_of (task.Same input other) = input
 input_of (task.Debug input options) = input
 
 -- the text of a listing, which may be a whole one
@@ -152,11 +153,13 @@ is_calls_as format.Json options = is_calls_lines options
 abbrev pub is_calls : CallsOptions → List ℕ → Output → Type 0
 is_calls options = is_calls_as options.format options
 
--- a conversation asks for no text, the gate for those of files by another, the members of an archive are told of no pickle, and a text of opcodes is none
+-- a conversation asks for no text, the gate for those of files by another, the members of an archive are told of no pickle, a text of opcodes is
+-- none, and what is the same is told of two
 abbrev pub asks_for_text : Task → Bool
 asks_for_text (task.Gate input options) = false
 asks_for_text (task.Members input) = false
 asks_for_text (task.Assemble input) = false
+asks_for_text (task.Same input other) = false
 asks_for_text (task.Debug input options) = false
 asks_for_text _ = true
 
@@ -175,6 +178,7 @@ AnswersTask (task.Reach input granted f) source source' old new result =
 AnswersTask (task.Gate input options) source source' old new result = ⊤
 AnswersTask (task.Members input) source source' old new result = ⊤
 AnswersTask (task.Assemble input) source source' old new result = ⊤
+AnswersTask (task.Same input other) source source' old new result = ⊤
 AnswersTask (task.Debug input options) source source' old new result = ⊤
 
 -- of all bytes of a file that was opened

@@ -4,6 +4,7 @@ pub mod Files
 pub mod Gated
 pub mod Listed
 pub mod Assembled
+pub mod Compared
 pub mod Program
 pub mod Skips
 pub mod Talk

@@ -24,6 +24,7 @@ use Rattle.program_answers.specs.Device.{AnswersFile}
 use Rattle.program_answers.specs.Files.{Gives, Reports, IsRead, IsUnread}
 use Rattle.program_answers.specs.Gated.{GatesTask}
 use Rattle.program_answers.specs.Assembled.{AssemblesFile}
+use Rattle.program_answers.specs.Compared.{ComparesFiles}
 use Rattle.program_answers.specs.Listed.{ListsFile}
 
 -- ---- what is saved
@@ -160,4 +161,6 @@ CarriesOut (task.Gate input options) r files files' source source' old new resul
     GatesTask input options r files old new result × ((source' ≡ source) × (files' ≡ files))
 CarriesOut (task.Members input) r files files' source source' old new result = ListsFile input r files old new result × ((source' ≡ source) × (files' ≡ files))
 CarriesOut (task.Assemble input) r files files' source source' old new result = AssemblesFile input r files old new result × ((source' ≡ source) × (files' ≡ files))
+CarriesOut (task.Same input other) r files files' source source' old new result =
+    ComparesFiles input (string_bytes other) r files old new result × ((source' ≡ source) × (files' ≡ files))
 CarriesOut (task.Debug input options) r files files' source source' old new result = TalksOfFile input options r files files' source source' old new result

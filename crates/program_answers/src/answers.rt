@@ -150,6 +150,7 @@ fn input_of(task: &Task) -> &GivenFile
         Task::Reach(input, _, _) => input,
         Task::Members(input) => input,
         Task::Assemble(input) => input,
+        Task::Same(input, _) => input,
         Task::Debug(input, _) => input,
     }
 }
@@ -203,6 +204,7 @@ fn answer_task<R: Source, K: Sink + Drop>(
         Task::Gate(_, _) => unreachable!(),
         Task::Members(_) => unreachable!(),
         Task::Assemble(_) => unreachable!(),
+        Task::Same(_, _) => unreachable!(),
         Task::Debug(_, _) => unreachable!(),
     }
 }

@@ -8,6 +8,7 @@ ghost use Rattle.program_answers.specs.Talk.{CarriesOut};
 
 use crate::answers::answer_file;
 use crate::assembled::assemble_file;
+use crate::compared::compare_files;
 use crate::debug::debug_file;
 use crate::files::Files;
 use crate::gate::gate_files;
@@ -20,7 +21,7 @@ use std::alloc::Global;
 /// Does a task on the file that it names, and answers the status: writes the text that it asks for to the page; or reads commands from
 /// the source, which gives more only once the page holds no answer back, answers each on the page, and saves the document to the file that
 /// the options name, if they name one. The stops are those of `answer_file`,
-/// `gate_files`, `members_file`, `assemble_file` and `debug_file`. What is said of the texts is said of the device behind the page.
+/// `gate_files`, `members_file`, `assemble_file`, `compare_files` and `debug_file`. What is said of the texts is said of the device behind the page.
 pub fn carry_out<R: Asker<Buffered<K>>, K: Sink + Drop, F: Files>(
     alloc: Global,
     task: &Task,
@@ -47,5 +48,6 @@ pub fn carry_out<R: Asker<Buffered<K>>, K: Sink + Drop, F: Files>(
         Task::Gate(input, options) => gate_files(alloc, input, options, files, page),
         Task::Members(input) => members_file(alloc, input, files, page),
         Task::Assemble(input) => assemble_file(alloc, input, files, page),
+        Task::Same(input, other) => compare_files(alloc, input, other, files, page),
     }
 }

@@ -2,7 +2,7 @@
 
 ghost use Rattle.std.specs.Prelude.{◌≡◌, IfOk, false, codes};
 ghost use Rattle.clap.specs.Words.{rule_of, app_of, new_app};
-ghost use Rattle.program_answers.specs.CommandLine.{file_rule, files_rule, many_rule, unframed_rule, first_rule, memo_rule, full_rule, skip_rule, window_rule, save_rule, json_rule, whole_rule, list_rule, extensions_rule, persistent_rule, buffers_rule, on_file, frames_app, json_app, list_app, detailed_app, calls_app, debug_app, form_app, listed_app, gate_app, granted_app, reach_app, members_app, assemble_app, wants_subcommand, program};
+ghost use Rattle.program_answers.specs.CommandLine.{file_rule, files_rule, many_rule, unframed_rule, first_rule, memo_rule, full_rule, skip_rule, window_rule, save_rule, json_rule, whole_rule, list_rule, other_rule, extensions_rule, persistent_rule, buffers_rule, on_file, frames_app, json_app, list_app, detailed_app, calls_app, debug_app, form_app, listed_app, gate_app, granted_app, reach_app, members_app, assemble_app, same_app, wants_subcommand, program};
 
 use clap::{Arg, ArgAction, Command};
 use std::alloc::{AllocError, Global};
@@ -18,6 +18,10 @@ const MANY_OF_CALLS: &str = "changes nothing: all pickles of FILE are read witho
 
 /// What it does for `form`.
 const MANY_OF_FORM: &str = "changes nothing: FILE is to be one pickle";
+
+/// What it does for `same`.
+const MANY_OF_SAME: &str =
+    "read both files as pickles that follow one another: go on after each STOP";
 
 /// The argument of a task that is done on one file.
 fn file_argument<'a>(alloc: Global) -> Arg<'a>
@@ -48,6 +52,17 @@ fn list_argument<'a>(alloc: Global) -> Arg<'a>
 {
     Arg::new(alloc, "LIST")
         .help("the list of names, and of what may be done with each")
+        .required(true)
+        .action(ArgAction::Set)
+}
+
+/// The second of two files that are compared.
+fn other_argument<'a>(alloc: Global) -> Arg<'a>
+    ensures rule { rule_of result ≡ other_rule }
+    ensures local { result.global ≡ false }
+{
+    Arg::new(alloc, "OTHER")
+        .help("the pickle that it is compared with")
         .required(true)
         .action(ArgAction::Set)
 }
@@ -355,6 +370,19 @@ fn assemble_command<'a>(alloc: Global) -> Result<Command<'a>, AllocError>
         .arg(file_argument(alloc))
 }
 
+/// The command that says whether two files make the same objects.
+fn same_command<'a>(alloc: Global) -> Result<Command<'a>, AllocError>
+    ensures { IfOk result (λ c. app_of c ≡ same_app) }
+{
+    on_file(
+        alloc,
+        "same",
+        "Says whether the pickles in FILE and OTHER make the same objects in the same order, else how they differ",
+        MANY_OF_SAME,
+    )?
+    .arg(other_argument(alloc))
+}
+
 /// The program's command line, which has no commands yet.
 fn without_commands<'a>(alloc: Global) -> Command<'a>
     ensures { app_of result ≡ wants_subcommand (new_app (codes "picklestep")) }
@@ -382,5 +410,6 @@ pub fn command_line<'a>(alloc: Global) -> Result<Command<'a>, AllocError>
         .subcommand(gate_command(alloc)?)?
         .subcommand(reach_command(alloc)?)?
         .subcommand(members_command(alloc)?)?
-        .subcommand(assemble_command(alloc)?)
+        .subcommand(assemble_command(alloc)?)?
+        .subcommand(same_command(alloc)?)
 }

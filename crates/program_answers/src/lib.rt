@@ -6,6 +6,7 @@ mod answers;
 mod assembled;
 mod carry_out;
 mod command_line;
+mod compared;
 mod debug;
 mod files;
 mod gate;

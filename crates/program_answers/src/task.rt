@@ -4,7 +4,7 @@ ghost use Rattle.std.specs.Prelude.{◌≡◌, ◌≤◌, IsTrue, ℕ, [], Optio
 ghost use Rattle.std.specs.String.{string_bytes};
 ghost use Rattle.clap.specs.Words.{found_of, first_of, one_of, rows_of, fault_of, subcommand_of, subcommand_rows_of, takes};
 ghost use Rattle.pickle_script.specs.GivenHoles.{holes_of};
-ghost use Rattle.program_answers.specs.CommandLine.{program, most_records, GivesReading, HasReading, HasInput, HasDetail, HasCallsOptions, HasFormat, skips_of, HasOptions, HasList, HasListOptions, more_of, HasGateOptions, HasGranted, IsWindow, IsNamed, FitsOptions, NamesTask, IsBounded, IsMemory};
+ghost use Rattle.program_answers.specs.CommandLine.{program, most_records, GivesReading, HasReading, HasInput, HasDetail, HasCallsOptions, HasFormat, skips_of, HasOptions, HasText, HasListOptions, more_of, HasGateOptions, HasGranted, IsWindow, matches_of, name_of, IsCommand, IsNamed, FitsOptions, NamesTask, IsBounded, IsMemory};
 
 use crate::command_line::{MOST_RECORDS, command_line};
 use clap::error::ErrorKind;
@@ -52,8 +52,35 @@ pub enum Task {
     Members(GivenFile),
     /// Write the bytes of the opcodes that stand in the text that the file is.
     Assemble(GivenFile),
+    /// Print whether the pickles in the file make the same objects as those in another, which has this name.
+    Same(GivenFile, String),
     /// Read commands from standard input and answer each.
     Debug(GivenFile, Options),
+}
+
+/// The commands of the program.
+#[derive(Clone, Copy)]
+pub enum Word {
+    /// Lists opcodes.
+    List,
+    /// Reports objects.
+    Objects,
+    /// Prints imports and calls.
+    Calls,
+    /// Holds a conversation.
+    Debug,
+    /// Judges the form of a pickle.
+    Form,
+    /// Judges files by a list.
+    Gate,
+    /// Says what any loader reaches.
+    Reach,
+    /// Prints the members of an archive.
+    Members,
+    /// Assembles a text.
+    Assemble,
+    /// Compares two files.
+    Same,
 }
 
 /// What an answer is written as.
@@ -149,12 +176,12 @@ fn owned(alloc: Global, text: Option<&str>) -> Result<Option<String>, AllocError
     }
 }
 
-/// The file of the list; no answer where there is none.
-fn list_of(alloc: Global, found: &ArgMatches<'_>) -> Result<Option<String>, AllocError>
-    ensures some { IfOk result (λ r. IfSome r (λ list. HasList (rows_of (found_of found.now)) (string_bytes list))) }
-    ensures none { result ≡ Ok None → first_of (codes "LIST") (rows_of (found_of found.now)) ≡ None }
+/// The text behind a name, as a text of its own; no answer where there is none.
+fn text_of(alloc: Global, found: &ArgMatches<'_>, name: &str) -> Result<Option<String>, AllocError>
+    ensures some { IfOk result (λ r. IfSome r (λ text. HasText name.now (rows_of (found_of found.now)) (string_bytes text))) }
+    ensures none { result ≡ Ok None → first_of name.now (rows_of (found_of found.now)) ≡ None }
 {
-    owned(alloc, found.get_str("LIST"))
+    owned(alloc, found.get_str(name))
 }
 
 /// Texts of their own.
@@ -194,7 +221,7 @@ fn gate_options_of(alloc: Global, found: &ArgMatches<'_>) -> Result<Option<GateO
     ensures some { IfOk result (λ r. IfSome r (HasGateOptions (rows_of (found_of found.now)))) }
     ensures none { result ≡ Ok None → first_of (codes "LIST") (rows_of (found_of found.now)) ≡ None }
 {
-    let Some(list) = list_of(alloc, found)? else {
+    let Some(list) = text_of(alloc, found, "LIST")? else {
         return Ok(None);
     };
     let more = more_of(alloc, found)?;
@@ -398,6 +425,136 @@ fn given_input(alloc: Global, found: &ArgMatches<'_>) -> Result<Option<GivenFile
     }))
 }
 
+/// The command of a name.
+fn word_of(name: &str) -> Option<Word>
+    ensures some { IfSome result (λ word. name.now ≡ name_of word) }
+    ensures none { result ≡ None → IsCommand name.now → ⊥ }
+{
+    if name == "list" {
+        Some(Word::List)
+    } else if name == "objects" {
+        Some(Word::Objects)
+    } else if name == "calls" {
+        Some(Word::Calls)
+    } else if name == "debug" {
+        Some(Word::Debug)
+    } else if name == "form" {
+        Some(Word::Form)
+    } else if name == "gate" {
+        Some(Word::Gate)
+    } else if name == "reach" {
+        Some(Word::Reach)
+    } else if name == "members" {
+        Some(Word::Members)
+    } else if name == "assemble" {
+        Some(Word::Assemble)
+    } else if name == "same" {
+        Some(Word::Same)
+    } else {
+        None
+    }
+}
+
+/// The task of `calls`; no answer where its options name no pickles or no holes.
+fn calls_task(
+    alloc: Global,
+    input: GivenFile,
+    found: &ArgMatches<'_>,
+) -> Result<Option<Task>, AllocError>
+    requires { HasInput (rows_of (found_of found.now)) input }
+    ensures some { IfOk result (λ r. IfSome r (IsNamed (matches_of (codes "calls") (rows_of (found_of found.now))))) }
+    ensures none { result ≡ Ok None → NamesTask (matches_of (codes "calls") (rows_of (found_of found.now))) → ⊥ }
+{
+    match calls_options_of(alloc, found)? {
+        Some(options) => Ok(Some(Task::Calls(input, options))),
+        None => Ok(None),
+    }
+}
+
+/// The task of `debug`; no answer where the window is none.
+fn debug_task(
+    alloc: Global,
+    input: GivenFile,
+    found: &ArgMatches<'_>,
+) -> Result<Option<Task>, AllocError>
+    requires { HasInput (rows_of (found_of found.now)) input }
+    ensures some { IfOk result (λ r. IfSome r (IsNamed (matches_of (codes "debug") (rows_of (found_of found.now))))) }
+    ensures none { result ≡ Ok None → NamesTask (matches_of (codes "debug") (rows_of (found_of found.now))) → ⊥ }
+{
+    match options_of(alloc, found)? {
+        Some(options) => Ok(Some(Task::Debug(input, options))),
+        None => Ok(None),
+    }
+}
+
+/// The task of `gate`; no answer where there is no list.
+fn gate_task(
+    alloc: Global,
+    input: GivenFile,
+    found: &ArgMatches<'_>,
+) -> Result<Option<Task>, AllocError>
+    requires { HasInput (rows_of (found_of found.now)) input }
+    ensures some { IfOk result (λ r. IfSome r (IsNamed (matches_of (codes "gate") (rows_of (found_of found.now))))) }
+    ensures none { result ≡ Ok None → NamesTask (matches_of (codes "gate") (rows_of (found_of found.now))) → ⊥ }
+{
+    match gate_options_of(alloc, found)? {
+        Some(options) => Ok(Some(Task::Gate(input, options))),
+        None => Ok(None),
+    }
+}
+
+/// The task of `same`; no answer where there is no other file.
+fn same_task(
+    alloc: Global,
+    input: GivenFile,
+    found: &ArgMatches<'_>,
+) -> Result<Option<Task>, AllocError>
+    requires { HasInput (rows_of (found_of found.now)) input }
+    ensures some { IfOk result (λ r. IfSome r (IsNamed (matches_of (codes "same") (rows_of (found_of found.now))))) }
+    ensures none { result ≡ Ok None → NamesTask (matches_of (codes "same") (rows_of (found_of found.now))) → ⊥ }
+{
+    match text_of(alloc, found, "OTHER")? {
+        Some(other) => Ok(Some(Task::Same(input, other))),
+        None => Ok(None),
+    }
+}
+
+/// The task of a command that was used on this input.
+fn task_of_word(
+    alloc: Global,
+    word: Word,
+    input: GivenFile,
+    found: &ArgMatches<'_>,
+) -> Result<Option<Task>, AllocError>
+    requires { HasInput (rows_of (found_of found.now)) input }
+    ensures some { IfOk result (λ r. IfSome r (IsNamed (matches_of (name_of word) (rows_of (found_of found.now))))) }
+    ensures none { result ≡ Ok None → NamesTask (matches_of (name_of word) (rows_of (found_of found.now))) → ⊥ }
+{
+    match word {
+        Word::List => Ok(Some(Task::List(input, list_options_of(found)))),
+        Word::Objects => Ok(Some(Task::Objects(input, format_of(found)))),
+        Word::Calls => calls_task(alloc, input, found),
+        Word::Debug => debug_task(alloc, input, found),
+        Word::Form => Ok(Some(Task::Form(input, format_of(found)))),
+        Word::Gate => gate_task(alloc, input, found),
+        Word::Reach => Ok(Some(Task::Reach(input, granted_of(found), format_of(found)))),
+        Word::Members => Ok(Some(Task::Members(input))),
+        Word::Assemble => Ok(Some(Task::Assemble(input))),
+        Word::Same => same_task(alloc, input, found),
+    }
+}
+
+/// The task of a command that was used; no answer where it was used on no file.
+fn used_task(alloc: Global, word: Word, found: &ArgMatches<'_>) -> Result<Option<Task>, AllocError>
+    ensures some { IfOk result (λ r. IfSome r (IsNamed (matches_of (name_of word) (rows_of (found_of found.now))))) }
+    ensures none { result ≡ Ok None → NamesTask (matches_of (name_of word) (rows_of (found_of found.now))) → ⊥ }
+{
+    match given_input(alloc, found)? {
+        Some(input) => task_of_word(alloc, word, input, found),
+        None => Ok(None),
+    }
+}
+
 /// The task that matches name, if they name one.
 fn named(alloc: Global, matches: &ArgMatches<'_>) -> Result<Option<Task>, AllocError>
     ensures some { IfOk result (λ r. IfSome r (IsNamed (subcommand_rows_of matches.now))) }
@@ -406,39 +563,9 @@ fn named(alloc: Global, matches: &ArgMatches<'_>) -> Result<Option<Task>, AllocE
     let Some((name, found)) = matches.subcommand() else {
         return Ok(None);
     };
-    let Some(input) = given_input(alloc, found)? else {
-        return Ok(None);
-    };
-    if name == "list" {
-        Ok(Some(Task::List(input, list_options_of(found))))
-    } else if name == "objects" {
-        Ok(Some(Task::Objects(input, format_of(found))))
-    } else if name == "calls" {
-        let Some(options) = calls_options_of(alloc, found)? else {
-            return Ok(None);
-        };
-        Ok(Some(Task::Calls(input, options)))
-    } else if name == "debug" {
-        let Some(options) = options_of(alloc, found)? else {
-            return Ok(None);
-        };
-        Ok(Some(Task::Debug(input, options)))
-    } else if name == "form" {
-        Ok(Some(Task::Form(input, format_of(found))))
-    } else if name == "gate" {
-        let Some(options) = gate_options_of(alloc, found)? else {
-            return Ok(None);
-        };
-        Ok(Some(Task::Gate(input, options)))
-    } else if name == "reach" {
-        let granted = granted_of(found);
-        Ok(Some(Task::Reach(input, granted, format_of(found))))
-    } else if name == "members" {
-        Ok(Some(Task::Members(input)))
-    } else if name == "assemble" {
-        Ok(Some(Task::Assemble(input)))
-    } else {
-        Ok(None)
+    match word_of(name) {
+        Some(word) => used_task(alloc, word, found),
+        None => Ok(None),
     }
 }
 

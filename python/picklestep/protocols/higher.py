@@ -2,6 +2,7 @@
 
 from __future__ import annotations
 
+from dataclasses import replace
 from typing import Callable, Dict, List, Mapping, Optional, Sequence, Tuple
 
 from .lower import sees
@@ -58,7 +59,7 @@ class _Step:
         assert taken.mark is not None
         if not taken.items and place == taken.mark.begin + 1:
             self.work.put(taken.mark.begin)
-            self.work.put(place, op._replace(name=f'EMPTY_{op.name}'))
+            self.work.put(place, replace(op, name=f'EMPTY_{op.name}'))
 
     def run_on(self, place: int, op: Op, taken: Taken) -> None:
         """One item more for what was changed right before, or the first one."""
@@ -91,7 +92,7 @@ class _Step:
     def persistent(self, place: int, op: Op, taken: Taken) -> None:
         assert isinstance(op.value, bytes)
         if op.value.isascii():
-            self.work.put(place, Op('BINUNICODE', op.value.decode('ascii')), op._replace(name='BINPERSID', value=None))
+            self.work.put(place, Op('BINUNICODE', op.value.decode('ascii')), replace(op, name='BINPERSID', value=None))
 
     # --- To 2 ---
 
@@ -100,14 +101,14 @@ class _Step:
         count = len(taken.items)
         if 0 < count < 4 and taken.items[0].begin == taken.mark.begin + 1:
             self.work.put(taken.mark.begin)
-            self.work.put(place, op._replace(name=f'TUPLE{count}'))
+            self.work.put(place, replace(op, name=f'TUPLE{count}'))
 
     # --- To 3 ---
 
     def rename(self, place: int, op: Op, taken: Taken) -> None:
         """Names of Python 2 become those that Python 3 imports for them: from protocol 3 on it does not translate them."""
         if op.stands is not None and op.protocol < 3:
-            self.work.put(place, op._replace(value=self._names.get(op.stands, op.value)))
+            self.work.put(place, replace(op, value=self._names.get(op.stands, op.value)))
 
     # --- To 4 ---
 
@@ -128,7 +129,7 @@ class _Step:
             return
         texts = [_text(each) for each in op.value]  # type: ignore[arg-type]
         if None not in texts:
-            self.work.put(place, *(Op('BINUNICODE', text, None, op.offset, shared=True) for text in texts), op._replace(name='STACK_GLOBAL', value=None))
+            self.work.put(place, *(Op('BINUNICODE', text, None, op.offset, shared=True) for text in texts), replace(op, name='STACK_GLOBAL', value=None))
 
 
 def _text(name: bytes) -> Optional[str]:

@@ -2,6 +2,7 @@
 
 from __future__ import annotations
 
+from dataclasses import replace
 from typing import Callable, Dict, List, Optional, Sequence, Tuple
 
 from .reading import Op, Rewriting, Slot, Taken, obey
@@ -171,7 +172,7 @@ class _Step:
 
     def make_tuple(self, place: int, op: Op, taken: Taken) -> None:
         self.work.put_before(taken.named[0].begin, Op('MARK', offset=op.offset))
-        self.work.put(place, op._replace(name='TUPLE'))
+        self.work.put(place, replace(op, name='TUPLE'))
 
     def call_new(self, place: int, op: Op, taken: Taken) -> None:
         """The class comes into the tuple of arguments, if only this call has that."""
@@ -200,7 +201,7 @@ class _Step:
     # --- From 1 to 0 ---
 
     def make_empty(self, place: int, op: Op, taken: Taken) -> None:
-        self.work.put(place, Op('MARK'), op._replace(name=op.name[len('EMPTY_'):]))
+        self.work.put(place, Op('MARK'), replace(op, name=op.name[len('EMPTY_'):]))
 
     def append_each(self, place: int, op: Op, taken: Taken) -> None:
         self._one_by_one(place, op, taken, 'APPEND', 1)
@@ -216,10 +217,10 @@ class _Step:
         self.work.put(taken.mark.begin)
         for item in taken.items[size::size]:
             self.work.put_before(item.begin, Op(name, offset=op.offset))
-        self.work.put(place, *[op._replace(name=name)] * bool(taken.items))
+        self.work.put(place, *[replace(op, name=name)] * bool(taken.items))
 
     def pop_mark(self, place: int, op: Op, taken: Taken) -> None:
-        self.work.put(place, *[op._replace(name='POP')] * (len(taken.items) + 1))
+        self.work.put(place, *[replace(op, name='POP')] * (len(taken.items) + 1))
 
     def refuse_object(self, place: int, op: Op, taken: Taken) -> None:
         self.work.refuse(place, 'it needs protocol 1')
@@ -233,7 +234,7 @@ class _Step:
             return
         for each in range(slot.begin, slot.end):
             self.work.put(each)
-        self.work.put(place, op._replace(name='PERSID', value=text.encode('ascii')))
+        self.work.put(place, replace(op, name='PERSID', value=text.encode('ascii')))
 
     # --- In the end ---
 

@@ -4,15 +4,17 @@ comes from."""
 from __future__ import annotations
 
 import struct
+from dataclasses import dataclass
 from typing import Callable, Dict, Iterator, List, Mapping, NamedTuple, Optional, Sequence, Set, Tuple, TypeVar, Union
 
-from ..answers import Objects
-from ..listing_records import Opcode
+from ..answers import Listing, Objects
+from ..listed import Fields, argument_of
 from ..opcodes import BY_NAME, OpcodeInfo
 from ..patterns import pattern
-from ..values import read_form
+from ..records import SLOTS
+from ..values import argument_value, read_form
 
-__all__ = ['GETS', 'PUTS', 'Op', 'Rewriting', 'Slot', 'Taken', 'read', 'walk']
+__all__ = ['GETS', 'PUTS', 'Op', 'Rewriting', 'Slot', 'Taken', 'are_spellings', 'read', 'walk']
 
 PUTS = ('PUT', 'BINPUT', 'LONG_BINPUT', 'MEMOIZE')
 GETS = ('GET', 'BINGET', 'LONG_BINGET')
@@ -23,12 +25,14 @@ _MEANS: Dict[str, str] = {name: names[0] for names in _SAME for name in names}
 # A line that all loaders read alike, by its opcode: other lines stay as they are.
 _PLAIN_LINES = {'INT': pattern(rb'-?(?:0|[1-9][0-9]{0,18})'), 'LONG': pattern(rb'-?(?:0|[1-9][0-9]{0,4000})L?'),
                 'FLOAT': pattern(rb'-?(?:[0-9]+(?:\.[0-9]+)?(?:e[+-]?[0-9]+)?|inf|nan)')}
+_MAKES = {name: info.makes for name, info in BY_NAME.items()}
 _TRUTHS = {b'00': 'NEWFALSE', b'01': 'NEWTRUE'}
 
 _Value = Union[None, int, float, str, bytes, Tuple[str, str], Tuple[bytes, bytes]]
 
 
-class Op(NamedTuple):
+@dataclass(**SLOTS)  # (that is made in a third of the time of a tuple with names)
+class Op:
     """An opcode by its meaning: a key of the memo is any number. `stands` is the number of the source's object that what it makes stands for; None
     where that has no counterpart. `protocol` is what PROTO said before it, and `shared` says that what it makes is kept in the memo for the next."""
 
@@ -40,35 +44,46 @@ class Op(NamedTuple):
     shared: bool = False
 
 
-def read(opcodes: Sequence[Opcode], content: bytes, made: Objects, number: int) -> Iterator[Op]:
-    """The opcodes of one pickle, without PROTO and FRAME. `number` is that of the next object."""
-    protocol = 0
-    for opcode in opcodes:
-        if opcode.name == 'PROTO':
-            protocol = int(opcode.argument)  # type: ignore[arg-type]
-        if opcode.name in ('PROTO', 'FRAME'):
-            continue
-        makes = BY_NAME[opcode.name].makes
-        if opcode.name == 'READONLY_BUFFER':  # (of a buffer it makes a view)
-            makes = number < len(made) and made[number].kind == 'readonly'
-        yield Op(*_meaning(opcode, content), number if makes else None, opcode.offset, protocol)
-        number += makes
+def read(opcodes: Listing, made: Objects) -> Iterator[List[Op]]:
+    """The opcodes of each pickle, without PROTO and FRAME."""
+    ops: List[Op] = []
+    number = protocol = 0
+    for offset, (name, value) in opcodes.each(_meaning):
+        if name == 'PROTO':
+            protocol = int(value)  # type: ignore[arg-type]
+        elif name != 'FRAME':
+            makes = _MAKES[name]
+            if name == 'READONLY_BUFFER':  # (of a buffer it makes a view)
+                makes = number < len(made) and made[number].kind == 'readonly'
+            ops.append(Op(name, value, number if makes else None, offset, protocol))
+            number += makes
+            if name == 'STOP':
+                yield ops
+                ops, protocol = [], 0
 
 
-def _meaning(opcode: Opcode, content: bytes) -> Tuple[str, _Value]:
+def are_spellings(one: str, other: str) -> bool:
+    """Whether two opcodes make the same object of the same value, and have more than one spelling.
+
+    >>> are_spellings('BININT1', 'BININT'), are_spellings('INT', 'BININT'), are_spellings('NONE', 'NONE')
+    (True, False, False)
+    """
+    return one in _MEANS and _MEANS[one] == _MEANS.get(other)
+
+
+def _meaning(fields: Fields) -> Tuple[str, _Value]:
     """The name and the value of an opcode."""
-    name, argument = opcode.name, opcode.argument
+    name = fields['opcode']
     if name == 'MEMOIZE':
-        return 'PUT', int(opcode.note.rpartition(' ')[2])
-    if name == 'BINFLOAT':  # (a listing does not tell the bits of a NaN)
-        return name, content[opcode.offset + 1:opcode.offset + 9]
+        return 'PUT', int(fields['memo'])
+    if name == 'BINFLOAT':  # (a number would not tell the bits of a NaN)
+        return name, bytes.fromhex(fields['argument_f8_hex'])
+    argument = argument_of(fields)
     if name in ('INT', 'LONG', 'FLOAT', 'UNICODE'):
         assert isinstance(argument, bytes)
         return _of_line(name, argument)
-    if name in ('GLOBAL', 'INST'):
-        return name, argument
     meant = _MEANS.get(name, name)
-    return meant, opcode.value if meant == 'BINUNICODE' else argument  # type: ignore[return-value]
+    return meant, argument_value(name, argument) if meant == 'BINUNICODE' else argument  # type: ignore[return-value]
 
 
 def _of_line(name: str, line: bytes) -> Tuple[str, _Value]:
@@ -211,6 +226,8 @@ class Rewriting:
 
     def made(self) -> List[Op]:
         """The opcodes as they are now."""
+        if not self._before and not self._instead:
+            return list(self.ops)
         result: List[Op] = []
         for place, op in enumerate(self.ops):
             if place in self._before:

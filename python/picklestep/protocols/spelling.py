@@ -3,10 +3,11 @@
 from __future__ import annotations
 
 import struct
+from dataclasses import replace
 from typing import Dict, List, Sequence, Tuple, Union
 
-from ..arguments import ArgumentValue, encoded
-from ..opcodes import BY_NAME
+from ..arguments import ArgumentValue, opcode
+from ..opcodes import BY_NAME, TABLE
 from .reading import Op
 
 __all__ = ['shared', 'spelled']
@@ -26,6 +27,8 @@ class NotSpelled(ValueError):
 
 def shared(ops: Sequence[Op]) -> List[Op]:
     """The opcodes, where what is shared is made once: the next time it is taken from the memo, by a key below all others."""
+    if not any(op.shared for op in ops):
+        return list(ops)
     keys: Dict[Tuple[object, ...], int] = {}
     free = min((op.value for op in ops if op.name == 'PUT' and isinstance(op.value, int)), default=0)
     result: List[Op] = []
@@ -37,38 +40,48 @@ def shared(ops: Sequence[Op]) -> List[Op]:
             result.append(Op('GET', known, offset=op.offset))
         else:
             free = keys[op.name, op.value] = min(free, 0) - 1
-            result += (op._replace(shared=False), Op('PUT', free, offset=op.offset))
+            result += (replace(op, shared=False), Op('PUT', free, offset=op.offset))
     return result
 
 
 def spelled(ops: Sequence[Op], protocol: int) -> Tuple[List[bytes], List[str]]:
     """The bytes of each opcode, and lines about those that the protocol cannot say. Keys of the memo count its entries, as picklers' do."""
-    keys: Dict[object, int] = {}
+    alone = {info.name: opcode(info.name) for info in TABLE if not info.argument and info.protocol <= protocol}
+    gets: Dict[object, bytes] = {}
     count = 0
     result: List[bytes] = []
     problems: List[str] = []
     for op in ops:
-        if op.name == 'PUT':
-            keys[op.value] = count
+        name = op.name
+        if name in alone:
+            result.append(alone[name])
+        elif name == 'GET':
+            result.append(gets[op.value])
+        elif name == 'PUT':
+            result.append(alone['MEMOIZE'] if protocol >= _OF_MEMOIZE else _memo(name, count, protocol))
+            gets[op.value] = _memo('GET', count, protocol)
             count += 1
-        try:
-            name, value = _memo(op.name, keys[op.value], protocol) if op.name in ('PUT', 'GET') else _spelling(op, protocol)
-            if BY_NAME[name].protocol > protocol:
-                raise NotSpelled(f'it needs protocol {BY_NAME[name].protocol}')
-            argument = value[0] if name == 'BINFLOAT' else encoded(name, value)  # (all bits of a NaN are kept)
-            assert isinstance(argument, bytes)
-            result.append(bytes([BY_NAME[name].code]) + argument)
-        except NotSpelled as error:
-            problems.append(f'{op.offset}: {op.name}: {error}')
+        else:
+            try:
+                result.append(_written(*_spelling(op, protocol), protocol))
+            except NotSpelled as error:
+                problems.append(f'{op.offset}: {name}: {error}')
     return result, problems
 
 
-def _memo(name: str, key: int, protocol: int) -> _Spelling:
-    if name == 'PUT' and protocol >= _OF_MEMOIZE:
-        return 'MEMOIZE', []
-    if not protocol:
-        return name, [key]
-    return f'{"BIN" if key < _BYTE else "LONG_BIN"}{name}', [key]
+def _written(name: str, values: List[ArgumentValue], protocol: int) -> bytes:
+    """An opcode of a protocol."""
+    if BY_NAME[name].protocol > protocol:
+        raise NotSpelled(f'it needs protocol {BY_NAME[name].protocol}')
+    if name != 'BINFLOAT':
+        return opcode(name, *values)
+    data = values[0]  # (all bits of a NaN are kept)
+    assert isinstance(data, bytes)
+    return bytes([BY_NAME[name].code]) + data
+
+
+def _memo(name: str, key: int, protocol: int) -> bytes:
+    return opcode(name if not protocol else f'BIN{name}' if key < _BYTE else f'LONG_BIN{name}', key)
 
 
 def _spelling(op: Op, protocol: int) -> _Spelling:
@@ -123,8 +136,8 @@ def _float(data: bytes, protocol: int) -> _Spelling:
 
 def _text(value: Union[str, bytes], protocol: int) -> _Spelling:
     if protocol:
-        size = len(value if isinstance(value, bytes) else value.encode('utf-8', 'surrogatepass'))
-        return _sized('BINUNICODE', size, _OF_SHORT_TEXTS, protocol), [value]
+        data = value if isinstance(value, bytes) else value.encode('utf-8', 'surrogatepass')
+        return _sized('BINUNICODE', len(data), _OF_SHORT_TEXTS, protocol), [data]
     if not isinstance(value, str):
         raise NotSpelled('a text that is no UTF-8')
     return 'UNICODE', [value]

@@ -1,7 +1,7 @@
 use Rattle.std.proofs.Common.{◌≡◌, ◌∙◌, ap, ap₂, codes}
 use Rattle.std.proofs.lemmas.Result.{IfOk-weaker}
 use Rattle.clap.specs.Words.{App, app_of, new_app, with_subcommand}
-use Rattle.program_answers.specs.CommandLine.{list_app, json_app, calls_app, debug_app, form_app, gate_app, reach_app, members_app, assemble_app, wants_subcommand}
+use Rattle.program_answers.specs.CommandLine.{list_app, json_app, calls_app, debug_app, form_app, gate_app, reach_app, members_app, assemble_app, same_app, wants_subcommand}
 use Rattle.program_answers.proofs.Plain.{third}
 use Rattle.program_answers.proofs.command_line.command_line.Goals as goal
 
@@ -16,6 +16,7 @@ returns c =
     let reaching : app_of c.in_ok-reach_command.field-0 ≡ reach_app = c.in_ok-reach_command.ensures in
     let telling : app_of c.in_ok-members_command.field-0 ≡ members_app = c.in_ok-members_command.ensures in
     let making : app_of c.in_ok-assemble_command.field-0 ≡ assemble_app = c.in_ok-assemble_command.ensures in
+    let comparing : app_of c.in_ok-same_command.field-0 ≡ same_app = c.in_ok-same_command.ensures in
     let start : app_of c.without_commands.result ≡ wants_subcommand (new_app (codes "picklestep")) = c.without_commands.ensures in
     let one = c.in_ok-subcommand.ensures.shape (third _ _ _ _ (ap (λ (a : App). a.top.is_plain) listing)) ∙ ap₂ with_subcommand start (ap (λ (a : App). a.top) listing) in
     let two = c.in_ok-subcommand-2.ensures.shape (third _ _ _ _ (ap (λ (a : App). a.top.is_plain) reporting)) ∙ ap₂ with_subcommand one (ap (λ (a : App). a.top) reporting) in
@@ -25,5 +26,6 @@ returns c =
     let six = c.in_ok-subcommand-6.ensures.shape (third _ _ _ _ (ap (λ (a : App). a.top.is_plain) gating)) ∙ ap₂ with_subcommand five (ap (λ (a : App). a.top) gating) in
     let seven = c.in_ok-subcommand-7.ensures.shape (third _ _ _ _ (ap (λ (a : App). a.top.is_plain) reaching)) ∙ ap₂ with_subcommand six (ap (λ (a : App). a.top) reaching) in
     let eight = c.in_ok-subcommand-8.ensures.shape (third _ _ _ _ (ap (λ (a : App). a.top.is_plain) telling)) ∙ ap₂ with_subcommand seven (ap (λ (a : App). a.top) telling) in
-    IfOk-weaker c.subcommand-9.result _ _
-    (λ r a. a.shape (third _ _ _ _ (ap (λ (a : App). a.top.is_plain) making)) ∙ ap₂ with_subcommand eight (ap (λ (a : App). a.top) making)) c.subcommand-9.ensures
+    let nine = c.in_ok-subcommand-9.ensures.shape (third _ _ _ _ (ap (λ (a : App). a.top.is_plain) making)) ∙ ap₂ with_subcommand eight (ap (λ (a : App). a.top) making) in
+    IfOk-weaker c.subcommand-10.result _ _
+    (λ r a. a.shape (third _ _ _ _ (ap (λ (a : App). a.top.is_plain) comparing)) ∙ ap₂ with_subcommand nine (ap (λ (a : App). a.top) comparing)) c.subcommand-10.ensures

@@ -1,0 +1,10 @@
+use Rattle.std.proofs.Common.{rules, Ok, ap, codes}
+use Rattle.clap.specs.Words.{found_of, rows_of}
+use Rattle.program_answers.proofs.Named.{used_on, no_debug}
+use Rattle.program_answers.proofs.task.debug_task.Goals as goal
+
+pub returns-in-Some-clause-some : goal.returns-in-Some-clause-some
+returns-in-Some-clause-some c = (used_on (codes "debug") (rows_of (found_of c.args.found.now)) c.args.input c.requires, search rules)
+
+pub returns-in-None-clause-none : goal.returns-in-None-clause-none
+returns-in-None-clause-none c = λ is. no_debug (rows_of (found_of c.args.found.now)) (c.in_ok-options.ensures.none (ap Ok c.in-None.is))
