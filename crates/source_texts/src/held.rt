@@ -15,7 +15,6 @@ use pickle_io::{Failed, Page, write_all};
 use pickle_ops::{Change, Kind, ObjId};
 
 /// Writes a part after a comma.
-#[tactic(auto, using(pickle_io::proofs::Devices::text_steps), unfolding(crate::specs::Held::next_part))]
 fn write_next_part<P: Say, S: Page>(inner: &P, id: ObjId, page: &mut S) -> Result<(), Failed>
     ensures { Writes (S.told page.old) (S.told page.new) result (next_part (P.says inner.now) id) }
 {
@@ -39,7 +38,6 @@ pub(crate) fn write_next_parts<P: Say, S: Page>(
 }
 
 /// Writes a part before a comma.
-#[tactic(auto, using(pickle_io::proofs::Devices::text_steps), unfolding(crate::specs::Held::then_part))]
 fn write_part_then<P: Say, S: Page>(inner: &P, id: ObjId, page: &mut S) -> Result<(), Failed>
     ensures { Writes (S.told page.old) (S.told page.new) result (then_part (P.says inner.now) id) }
 {
@@ -88,7 +86,6 @@ pub(crate) fn write_parts<P: Say, S: Page>(
 }
 
 /// Writes a key and its value.
-#[tactic(auto, using(pickle_io::proofs::Devices::text_steps), unfolding(crate::specs::Held::pair_text))]
 fn write_pair<P: Say, S: Page>(
     inner: &P,
     key: ObjId,
@@ -116,7 +113,6 @@ fn write_change<P: Say, S: Page>(inner: &P, change: Change, page: &mut S) -> Res
 }
 
 /// Writes it after a comma.
-#[tactic(auto, using(pickle_io::proofs::Devices::text_steps), unfolding(crate::specs::Held::next_change))]
 fn write_next_change<P: Say, S: Page>(inner: &P, change: Change, page: &mut S) -> Result<(), Failed>
     ensures { Writes (S.told page.old) (S.told page.new) result (next_change (P.says inner.now) change) }
 {
@@ -170,7 +166,6 @@ pub(crate) fn write_changes<P: Say, S: Page>(
 }
 
 /// Writes a key and its value before a comma.
-#[tactic(auto, using(pickle_io::proofs::Devices::text_steps), unfolding(crate::specs::Held::then_pair))]
 fn write_pair_then<P: Say, S: Page>(
     inner: &P,
     key: ObjId,
@@ -237,7 +232,6 @@ fn write_tuple_end<S: Page>(count: usize, page: &mut S) -> Result<(), Failed>
 }
 
 /// Writes a tuple.
-#[tactic(auto, using(pickle_io::proofs::Devices::text_steps), unfolding(crate::specs::Held::tuple_text))]
 fn write_tuple<P: Say, S: Page>(inner: &P, parts: &[ObjId], page: &mut S) -> Result<(), Failed>
     ensures { Writes (S.told page.old) (S.told page.new) result (tuple_text (P.says inner.now) parts.now) }
 {
@@ -247,7 +241,6 @@ fn write_tuple<P: Say, S: Page>(inner: &P, parts: &[ObjId], page: &mut S) -> Res
 }
 
 /// Writes a list.
-#[tactic(auto, using(pickle_io::proofs::Devices::text_steps), unfolding(crate::specs::Held::list_text))]
 fn write_list<P: Say, S: Page>(
     inner: &P,
     parts: &[ObjId],
@@ -263,7 +256,6 @@ fn write_list<P: Say, S: Page>(
 }
 
 /// Writes a dictionary.
-#[tactic(auto, using(pickle_io::proofs::Devices::text_steps), unfolding(crate::specs::Held::dict_text))]
 fn write_dict<P: Say, S: Page>(
     inner: &P,
     parts: &[ObjId],
@@ -279,7 +271,6 @@ fn write_dict<P: Say, S: Page>(
 }
 
 /// Writes a set with members.
-#[tactic(auto, using(pickle_io::proofs::Devices::text_steps), unfolding(crate::specs::Held::some_set))]
 fn write_some_set<P: Say, S: Page>(
     inner: &P,
     changes: &[Change],

@@ -47,7 +47,6 @@ pub(crate) fn is_statement<L: Literals>(
 }
 
 /// Writes the statement that imports a member by a name of its own.
-#[tactic(auto, using(pickle_io::proofs::Devices::text_steps), unfolding(crate::specs::Import::from_text))]
 pub(crate) fn write_from<L: Literals, S: Page>(
     literals: &L,
     from: &[u8],
@@ -65,7 +64,6 @@ pub(crate) fn write_from<L: Literals, S: Page>(
 }
 
 /// Writes the name that an import has.
-#[tactic(auto, using(pickle_io::proofs::Devices::text_steps))]
 fn write_as<L: Literals, S: Page>(
     literals: &L,
     member: &[u8],
@@ -87,7 +85,6 @@ fn words_of_protocol() -> &'static str
 }
 
 /// Writes the end of a call that finds a class: the protocol by which the names are read.
-#[tactic(auto, using(pickle_io::proofs::Devices::text_steps), unfolding(crate::specs::Import::find_end))]
 pub(crate) fn write_find_end<S: Page>(protocol: u64, page: &mut S) -> Result<(), Failed>
     ensures { Writes (S.told page.old) (S.told page.new) result (find_end protocol) }
 {
@@ -105,7 +102,6 @@ fn words_of_find() -> &'static str
 }
 
 /// Writes the call that finds a class by two texts.
-#[tactic(auto, using(pickle_io::proofs::Devices::text_steps), unfolding(crate::specs::Import::found_call))]
 fn write_found_call<L: Literals, S: Page>(
     literals: &L,
     names: Names<'_>,
@@ -152,7 +148,6 @@ pub(crate) fn write_import<L: Literals, S: Page>(
 }
 
 /// Writes that a class is found by two objects. `Failed` where the sink fails; a beginning of the text was written then.
-#[tactic(auto, using(pickle_io::proofs::Devices::text_steps), unfolding(crate::specs::Import::found_object))]
 pub(crate) fn write_found_object<P: Say, S: Page>(
     say: &P,
     protocol: u64,

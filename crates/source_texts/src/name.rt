@@ -14,7 +14,6 @@ use pickle_machine::Machine;
 use pickle_ops::{Kind, ObjId};
 
 /// Writes the name of an object by its number alone.
-#[tactic(auto, using(pickle_io::proofs::Devices::text_steps), unfolding(crate::specs::Name::own_name))]
 pub(crate) fn write_own_name<S: Page>(id: ObjId, page: &mut S) -> Result<(), Failed>
     ensures { Writes (S.told page.old) (S.told page.new) result (own_name id) }
 {

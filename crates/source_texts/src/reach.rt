@@ -28,7 +28,6 @@ use pickle_source::{Act, Fact, fact_at, is_named};
 use pickle_text::write_with_signed;
 
 /// Writes the end of a statement that reaches out: the offset of its opcode.
-#[tactic(auto, using(pickle_io::proofs::Devices::text_steps), unfolding(crate::specs::Reach::comment))]
 pub(crate) fn write_comment<S: Page>(offset: u64, page: &mut S) -> Result<(), Failed>
     ensures { Writes (S.told page.old) (S.told page.new) result (comment offset) }
 {
@@ -38,7 +37,6 @@ pub(crate) fn write_comment<S: Page>(offset: u64, page: &mut S) -> Result<(), Fa
 }
 
 /// Writes that the object of this number is what follows.
-#[tactic(auto, using(pickle_io::proofs::Devices::text_steps), unfolding(crate::specs::Reach::assignment))]
 pub(crate) fn write_assignment<S: Page>(id: ObjId, page: &mut S) -> Result<(), Failed>
     ensures { Writes (S.told page.old) (S.told page.new) result (assignment id) }
 {
@@ -85,7 +83,6 @@ fn spread_parts<'a>(machine: &'a Machine, facts: &[Fact], id: ObjId) -> Option<&
 }
 
 /// Writes arguments that a function takes out of an object.
-#[tactic(auto, using(pickle_io::proofs::Devices::text_steps), unfolding(crate::specs::Reach::asked))]
 fn write_asked<P: Say, S: Page>(word: &[u8], say: &P, id: ObjId, page: &mut S) -> Result<(), Failed>
     ensures { Writes (S.told page.old) (S.told page.new) result (asked word.now (P.says say.now) id) }
 {
@@ -161,7 +158,6 @@ fn write_after<P: Say, S: Page>(
 }
 
 /// Writes a call.
-#[tactic(auto, using(pickle_io::proofs::Devices::text_steps), unfolding(crate::specs::Reach::call_words))]
 fn write_call<P: Say, S: Page>(
     machine: &Machine,
     facts: &[Fact],
@@ -178,7 +174,6 @@ fn write_call<P: Say, S: Page>(
 }
 
 /// Writes the making of an instance of a class, up to its arguments.
-#[tactic(auto, using(pickle_io::proofs::Devices::text_steps), unfolding(crate::specs::Reach::class_words))]
 fn write_class<P: Say, S: Page>(say: &P, class: ObjId, page: &mut S) -> Result<(), Failed>
     ensures { Writes (S.told page.old) (S.told page.new) result (class_words (P.says say.now) class) }
 {
@@ -188,7 +183,6 @@ fn write_class<P: Say, S: Page>(say: &P, class: ObjId, page: &mut S) -> Result<(
 }
 
 /// Writes the making of an instance.
-#[tactic(auto, using(pickle_io::proofs::Devices::text_steps), unfolding(crate::specs::Reach::new_words))]
 fn write_new<P: Say, S: Page>(
     machine: &Machine,
     facts: &[Fact],
@@ -239,7 +233,6 @@ fn write_keywords<P: Say, S: Page>(
 }
 
 /// Writes the making of an instance with arguments that have names.
-#[tactic(auto, using(pickle_io::proofs::Devices::text_steps), unfolding(crate::specs::Reach::new_with_words))]
 fn write_new_with<P: Say, S: Page>(
     machine: &Machine,
     facts: &[Fact],
@@ -256,7 +249,6 @@ fn write_new_with<P: Say, S: Page>(
 }
 
 /// Writes the arguments of a class in brackets.
-#[tactic(auto, using(pickle_io::proofs::Devices::text_steps), unfolding(crate::specs::Reach::bracketed))]
 fn write_bracketed<P: Say, S: Page>(say: &P, ids: &[ObjId], page: &mut S) -> Result<(), Failed>
     ensures { Writes (S.told page.old) (S.told page.new) result (bracketed (P.says say.now) ids.now) }
 {
@@ -305,7 +297,6 @@ fn words_of_instantiate() -> &'static str
 }
 
 /// Writes an instance of a class that is imported, without arguments.
-#[tactic(auto, using(pickle_io::proofs::Devices::text_steps))]
 fn write_instantiated<L: Literals, S: Page>(
     literals: &L,
     member: &[u8],
@@ -355,7 +346,6 @@ fn write_member<L: Literals, P: Say, S: Page>(
 }
 
 /// Writes the import of a class, and its instance.
-#[tactic(auto, using(pickle_io::proofs::Devices::text_steps), unfolding(crate::specs::Reach::inst_words))]
 fn write_inst<L: Literals, P: Say, S: Page>(
     literals: &L,
     say: &P,
@@ -381,7 +371,6 @@ fn words_of_persistent() -> &'static str
 }
 
 /// Writes what is kept elsewhere under the text of a line.
-#[tactic(auto, using(pickle_io::proofs::Devices::text_steps), unfolding(crate::specs::Reach::persistent_line))]
 fn write_persistent_line<L: Literals, S: Page>(
     literals: &L,
     line: &[u8],
@@ -395,7 +384,6 @@ fn write_persistent_line<L: Literals, S: Page>(
 }
 
 /// Writes what the registry of extensions has under a code.
-#[tactic(auto, using(pickle_io::proofs::Devices::text_steps), unfolding(crate::specs::Reach::extension_words))]
 fn write_extension<S: Page>(code: i64, protocol: u64, page: &mut S) -> Result<(), Failed>
     ensures { Writes (S.told page.old) (S.told page.new) result (extension_words code protocol) }
 {
@@ -420,7 +408,6 @@ fn words_of_if_view() -> &'static str
 }
 
 /// Writes a view of an object that may be read only already.
-#[tactic(auto, using(pickle_io::proofs::Devices::text_steps), unfolding(crate::specs::Reach::read_only_words))]
 fn write_read_only<P: Say, S: Page>(say: &P, id: ObjId, page: &mut S) -> Result<(), Failed>
     ensures { Writes (S.told page.old) (S.told page.new) result (read_only_words (P.says say.now) id) }
 {
@@ -432,7 +419,6 @@ fn write_read_only<P: Say, S: Page>(say: &P, id: ObjId, page: &mut S) -> Result<
 }
 
 /// Writes the name of what two objects name, and that it is found by them.
-#[tactic(auto, using(pickle_io::proofs::Devices::text_steps), unfolding(crate::specs::Reach::stack_found))]
 fn write_stack_found<L: Literals, P: Say, S: Page>(
     literals: &L,
     machine: &Machine,
@@ -588,7 +574,6 @@ fn write_made_words<L: Literals, P: Say, S: Page>(
 }
 
 /// Writes the statement that makes an object. `Failed` where the sink fails; a beginning of the statement was written then.
-#[tactic(auto, using(pickle_io::proofs::Devices::text_steps), unfolding(crate::specs::Reach::made_text))]
 pub(crate) fn write_made<L: Literals, P: Say, S: Page>(
     literals: &L,
     machine: &Machine,

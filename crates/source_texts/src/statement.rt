@@ -42,7 +42,6 @@ fn named_at(machine: &Machine, facts: &[Fact], id: ObjId) -> bool
 }
 
 /// Writes the statement that gives an object its name, as it was made.
-#[tactic(auto, using(pickle_io::proofs::Devices::text_steps), unfolding(crate::specs::Statement::given_text))]
 fn write_given<L: Literals, P: Say, S: Page>(
     literals: &L,
     say: &P,
@@ -58,7 +57,6 @@ fn write_given<L: Literals, P: Say, S: Page>(
 }
 
 /// Writes that a key of an object is mapped to a value.
-#[tactic(auto, using(pickle_io::proofs::Devices::text_steps), unfolding(crate::specs::Statement::set_words))]
 fn write_set<P: Say, S: Page>(
     say: &P,
     id: ObjId,
@@ -126,7 +124,6 @@ fn write_set_lines<P: Say, S: Page>(
 }
 
 /// Writes the call of a method with a list of what changes put into an object.
-#[tactic(auto, using(pickle_io::proofs::Devices::text_steps), unfolding(crate::specs::Statement::method_words))]
 fn write_method<P: Say, S: Page>(
     say: &P,
     method: &[u8],
@@ -160,7 +157,6 @@ fn write_fill_lines<P: Say, S: Page>(
 }
 
 /// Writes that an object gets a state.
-#[tactic(auto, using(pickle_io::proofs::Devices::text_steps), unfolding(crate::specs::Statement::state_text))]
 fn write_state<P: Say, S: Page>(
     say: &P,
     offset: u64,
@@ -178,7 +174,6 @@ fn write_state<P: Say, S: Page>(
 }
 
 /// Writes the bracket that ends a call, and the offset of its opcode.
-#[tactic(auto, using(pickle_io::proofs::Devices::text_steps))]
 fn write_closed<S: Page>(offset: u64, page: &mut S) -> Result<(), Failed>
     ensures { Writes (S.told page.old) (S.told page.new) result (codes ")" ⧺ comment offset) }
 {
@@ -187,7 +182,6 @@ fn write_closed<S: Page>(offset: u64, page: &mut S) -> Result<(), Failed>
 }
 
 /// Writes the brackets that end a call with a list, and the offset of its opcode.
-#[tactic(auto, using(pickle_io::proofs::Devices::text_steps))]
 fn write_list_closed<S: Page>(offset: u64, page: &mut S) -> Result<(), Failed>
     ensures { Writes (S.told page.old) (S.told page.new) result (codes "])" ⧺ comment offset) }
 {
@@ -196,7 +190,6 @@ fn write_list_closed<S: Page>(offset: u64, page: &mut S) -> Result<(), Failed>
 }
 
 /// Writes that a function of the source puts what changes say into an object that comes from elsewhere or from a call.
-#[tactic(auto, using(pickle_io::proofs::Devices::text_steps), unfolding(crate::specs::Statement::into_text))]
 fn write_into<P: Say, S: Page>(
     say: &P,
     word: &[u8],
@@ -308,7 +301,6 @@ fn write_result_name<S: Page>(count: usize, page: &mut S) -> Result<(), Failed>
 }
 
 /// Writes the statement of a result.
-#[tactic(auto, using(pickle_io::proofs::Devices::text_steps), unfolding(crate::specs::Statement::result_text))]
 fn write_result<P: Say, S: Page>(
     say: &P,
     count: usize,

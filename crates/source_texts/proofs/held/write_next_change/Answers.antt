@@ -1,0 +1,12 @@
+use Rattle.source_texts.specs.Held.{next_change}
+use Rattle.std.proofs.Common.{arith}
+use Rattle.pickle_io.proofs.Devices.{text_steps}
+use Rattle.source_texts.proofs.held.write_next_change.Goals as goal
+
+pub returns-in_err-write_all : goal.returns-in_err-write_all
+unfolding next_change
+returns-in_err-write_all g c = grind (arith, text_steps)
+
+pub returns : goal.returns
+unfolding next_change
+returns g c = grind (arith, text_steps)

@@ -1,0 +1,12 @@
+use Rattle.source_texts.specs.Name.{own_name}
+use Rattle.std.proofs.Common.{arith}
+use Rattle.pickle_io.proofs.Devices.{text_steps}
+use Rattle.source_texts.proofs.name.write_own_name.Goals as goal
+
+pub returns-in_err-write_all : goal.returns-in_err-write_all
+unfolding own_name
+returns-in_err-write_all g c = grind (arith, text_steps)
+
+pub returns : goal.returns
+unfolding own_name
+returns g c = grind (arith, text_steps)

@@ -1,0 +1,16 @@
+use Rattle.source_texts.specs.Reach.{asked}
+use Rattle.std.proofs.Common.{arith}
+use Rattle.pickle_io.proofs.Devices.{text_steps}
+use Rattle.source_texts.proofs.reach.write_asked.Goals as goal
+
+pub returns-in_err-write_all : goal.returns-in_err-write_all
+unfolding asked
+returns-in_err-write_all g c = grind (arith, text_steps)
+
+pub returns-in_err-say : goal.returns-in_err-say
+unfolding asked
+returns-in_err-say g c = grind (arith, text_steps)
+
+pub returns : goal.returns
+unfolding asked
+returns g c = grind (arith, text_steps)

@@ -1,0 +1,24 @@
+use Rattle.source_texts.specs.Statement.{result_text}
+use Rattle.std.proofs.Common.{arith}
+use Rattle.pickle_io.proofs.Devices.{text_steps}
+use Rattle.source_texts.proofs.statement.write_result.Goals as goal
+
+pub returns-in_err-write_all : goal.returns-in_err-write_all
+unfolding result_text
+returns-in_err-write_all g c = grind (arith, text_steps)
+
+pub returns-in_err-write_result_name : goal.returns-in_err-write_result_name
+unfolding result_text
+returns-in_err-write_result_name g c = grind (arith, text_steps)
+
+pub returns-in_err-write_all-2 : goal.returns-in_err-write_all-2
+unfolding result_text
+returns-in_err-write_all-2 g c = grind (arith, text_steps)
+
+pub returns-in_err-say : goal.returns-in_err-say
+unfolding result_text
+returns-in_err-say g c = grind (arith, text_steps)
+
+pub returns : goal.returns
+unfolding result_text
+returns g c = grind (arith, text_steps)
