@@ -31,13 +31,13 @@ from test_scan_gate import DEBIAN, is_told
 MAKER = Path(__file__).resolve().parent / 'honest.py'
 # These hold code, so no set that comes with the package allows them.
 CODE = ('functions/', 'torch/script.pt')
-# Archives that the program does not know, and why: two readers may name their members otherwise, or one of them has no method for them.
+# Archives that the program does not know, and why. Readers find the same members in them, so they are not marked; and the gate lets them pass by no list.
 ODD_ZIPS = {
     'commands/bsd.zip': 'an extra field', 'commands/seven.zip': 'an extra field', 'commands/git.zip': 'without a comment', 'zip/method_8.zip': 'a folder with content',
     'zip/method_12.zip': 'packed neither by none', 'zip/method_14.zip': 'packed neither by none',
     **{f'commands/info{how}.zip': 'a name that is not plain' for how in ('', '_0', '_x', '_links', '_pipe')}}
 # What the gate lets pass by no list: arrays with fields, beside objects or with some in them; an archive in another one.
-NOT_PASSED = ('numpy/all.npz', 'numpy/all_packed.npz', 'numpy/fields.npy', 'zip/nested.zip')
+NOT_PASSED = ('numpy/all.npz', 'numpy/all_packed.npz', 'numpy/fields.npy', 'tar/inner.tar', 'zip/nested.zip')
 # The set that alone allows the files of a folder; `plain` allows those of the others.
 SET_OF = {'torch': 'torch-modules', 'numpy': 'numpy', 'joblib': 'joblib', 'sklearn': 'sklearn', 'pandas': 'pandas'}
 # Changes in a run of the tests, some seconds. More are tried by hand: CHANGES=200000 python3 test_scan_honest.py
@@ -61,15 +61,12 @@ class Honest(ScanCase):
             with self.subTest(name):
                 result = look(str(path))
                 if name in ODD_ZIPS:
-                    self.assertRegex(notes_of(result), f'^! : not in the form .*: .*{ODD_ZIPS[name]}')
-                    self.assertEqual(sum(note.is_marked for note in result.notes), 1)
-                    continue
+                    self.assertRegex(notes_of(result), f'(?m)^  : the gate does not know its form .*{ODD_ZIPS[name]}')
                 self.assertFalse(is_told(result), notes_of(result))
                 if not name.startswith(CODE):
                     word = SET_OF.get(name.partition(os.sep)[0], 'plain')
                     looks = looks_at(Judge(read_names([word])), path)
-                    self.assertEqual([look for look in looks if name not in NOT_PASSED or look.rule != 'not-passed'], [], word)
-                    self.assertEqual(len(looks), name in NOT_PASSED)
+                    self.assertEqual([look.rule for look in looks], ['not-passed'] * (name in NOT_PASSED or name in ODD_ZIPS and bool(result.pickles)), word)
         # (So many are there without torch, and the lesser number is what Python's own library and the usual commands write.)
         others = [line for line in missing.splitlines() if not line.startswith('of_torch: ')]
         self.assertGreaterEqual(len(files), 100 if others else 300)
@@ -282,7 +279,7 @@ class CommonOpcodes(unittest.TestCase):
             found = pickles.read_pickle(BytesBlob(content))
         except NotCanonical as reason:
             return reason.offset, reason.reason
-        return found.end, found.imports, len(found.persistent), found.counts, repr(found.value)[:20]
+        return found.end, found.imports, len(found.kinds), found.counts, found.gives_methods
 
     def test_changed_pickles(self) -> None:
         chance = random.Random(49)

@@ -18,9 +18,10 @@ from typing import Dict, List, Optional, Tuple, Union
 
 from evasions import tries, wrapper
 from picklestep import library
+from picklestep.member_lines import members_of
 from picklestep.scan import Judge, Limits, Options, look, passing
 from picklestep.scan.blobs import Blob, Budget, BytesBlob, FileBlob
-from picklestep.scan.canonical import Form, NotCanonical, archives, zips
+from picklestep.scan.canonical import Form, NotCanonical, archives, outlines, zips
 from picklestep.scan.names import Names
 from picklestep.scan.results import from_json, to_json
 from scan_support import HOSTILE, MODELS, Made, ScanCase, closing, entry, local, looks_at, notes_of, zip_of
@@ -60,14 +61,29 @@ def hostile() -> List[bytes]:
 
 
 def answer_of(verify: object, content: bytes) -> Answer:
-    """The members, or why the archive is in another form."""
+    """The members, or why the archive is in another form, which readers may agree about all the same."""
     try:
         form: Form = verify(BytesBlob(content))  # type: ignore[operator]
-        return form
+        return form.agreed or form
     except NotCanonical as reason:
         return str(reason)
     except struct.error:
         return 'cut'
+
+
+def with_number(chance: random.Random, content: bytes) -> bytes:
+    """The archive with another number in the header of a member, in its entry or at the end, now and then."""
+    made = bytearray(content)
+    rows = archives._rows(BytesBlob(content))
+    if rows and chance.randrange(2):
+        row = chance.choice(rows)
+        behind = row.place + 30 + row.length + row.packed
+        end = content.rindex(b'PK\1\2')
+        at = chance.choice([row.place + offset for offset in (4, 6, 8, 14, 18, 22, 26, 28, 34 + row.length)] + [behind + 4, behind + 8, behind + 12]
+                           + [end + offset for offset in (6, 8, 10, 16, 20, 24, 28, 30, 32, 38, 42)] + [len(content) - back for back in (6, 10, 12, 14, 34, 42)])
+        value = int.from_bytes(made[at:at + 4], 'little')
+        made[at:at + 4] = chance.choice((0, 0xFFFFFFFF, value + 1, value - 1, value ^ 1 << chance.randrange(32))).to_bytes(8, 'little', signed=True)[:4]
+    return bytes(made)
 
 
 class Members(ScanCase):
@@ -105,23 +121,8 @@ class Members(ScanCase):
         chance, taken = random.Random(79), 0
         contents = [content for content in [*honest().values(), *hostile()] if len(content) < 60_000]
         for _ in range(CHANGES):
-            taken += not isinstance(self.compared(changed(chance, self.with_number(chance, chance.choice(contents)), chance.choice(contents))), str)
+            taken += not isinstance(self.compared(changed(chance, with_number(chance, chance.choice(contents)), chance.choice(contents))), str)
         self.assertGreater(taken, CHANGES // 50)
-
-    @staticmethod
-    def with_number(chance: random.Random, content: bytes) -> bytes:
-        """The archive with another number in the header of a member, in its entry or at the end, now and then."""
-        made = bytearray(content)
-        rows = archives._rows(BytesBlob(content))
-        if rows and chance.randrange(2):
-            row = chance.choice(rows)
-            behind = row.place + 30 + row.length + row.packed
-            end = content.rindex(b'PK\1\2')
-            at = chance.choice([row.place + offset for offset in (4, 6, 8, 14, 18, 22, 26, 28, 34 + row.length)] + [behind + 4, behind + 8, behind + 12]
-                               + [end + offset for offset in (6, 8, 10, 16, 20, 24, 28, 30, 32, 38, 42)] + [len(content) - back for back in (6, 10, 12, 14, 34, 42)])
-            value = int.from_bytes(made[at:at + 4], 'little')
-            made[at:at + 4] = chance.choice((0, 0xFFFFFFFF, value + 1, value - 1, value ^ 1 << chance.randrange(32))).to_bytes(8, 'little', signed=True)[:4]
-        return bytes(made)
 
     def test_without_a_library(self) -> None:
         """The program is started then; of a large archive the other reader is asked."""
@@ -129,7 +130,7 @@ class Members(ScanCase):
             wanted = answer_of(archives.verify, content)
             with unittest.mock.patch.object(library, '_library', return_value=None):
                 self.assertEqual(answer_of(archives.verify, content), wanted)
-                with unittest.mock.patch.object(archives, '_MOST_READ', 0):
+                with unittest.mock.patch.object(outlines, '_MOST_READ', 0):
                     self.assertEqual(answer_of(archives.verify, content), answer_of(zips.verify, content))
 
     def test_torch_takes_two_names_for_one(self) -> None:
@@ -177,7 +178,7 @@ class Large(ScanCase):
 
     def test_more_around_than_is_held(self) -> None:
         content = by_zipfile(0, {f'{number}.bin': bytes(500) for number in range(300)})
-        with unittest.mock.patch.object(archives, '_MOST_AROUND', 100_000):
+        with unittest.mock.patch.object(outlines, 'MOST_AROUND', 100_000):
             self.assertIn('are not the content of a member', answer_of(archives.verify, content))
 
     def test_what_a_directory_tells_is_not_believed(self) -> None:
@@ -188,10 +189,11 @@ class Large(ScanCase):
             directory = entry(told, 0) + entry(other, len(local(one)))
             content = body + directory + closing(2, len(directory), len(body))
             self.assertIsInstance(answer_of(archives.verify, content), str)
-        members = list(zips.verify(BytesBlob(zip_of([one, other]))).members)
+        members = library.members(zip_of([one, other]))
+        assert members is not None
         for ranges, are in (([(40, 60_000)], True), ([(40, 70_031)], True), ([(40, 70_032)], False), ([(30, 60_000)], False), ([(40, 50), (60, 70)], False),
                             ([(40, 50), (70_062, 70_063)], True), ([], True)):
-            self.assertEqual(archives._are_contents(ranges, members), are, ranges)
+            self.assertEqual(outlines._are_contents(ranges, members_of(members.decode('ascii'))), are, ranges)
 
 
 class Whole(ScanCase):

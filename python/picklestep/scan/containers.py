@@ -25,7 +25,7 @@ from ..unread import SURE
 if TYPE_CHECKING:
     from .looking import Looker
 
-__all__ = ['CONTAINERS', 'Container', 'HDF5', 'Held', 'LOADERS', 'MAY_BE_KNOWN', 'MAY_BE_PACKED', 'MAY_BE_STORE', 'PACKED', 'STORES', 'ZIP',
+__all__ = ['CONTAINERS', 'Container', 'HDF5', 'Held', 'LOADERS', 'MAY_BE_KNOWN', 'MAY_BE_PACKED', 'MAY_BE_STORE', 'PACKED', 'STORES', 'TAR', 'ZIP',
            'ZIP_TAIL', 'ZLIB', 'kind_by_sign', 'kind_of', 'named', 'store_of']
 
 
@@ -177,6 +177,8 @@ def _is_django_cache(head: bytes) -> bool:
 ZIP = Container(
     'zip', 'opening.zips:look_into', 'torch, numpy, zipfile and Info-ZIP write', b'PK', known_by=_is_zip, endings=('zip', 'npz', 'whl', 'keras'),
     opener_at_end='opening.zips:look_at_end', may_be_at_end=_may_end_as_zip, loaders=('torch', 'numpy', 'pandas'))
+TAR = Container('tar', 'opening.tars:look_into', 'tarfile, GNU tar and bsdtar write', sign=rb'.{257}ustar', known_by=_is_tar, may_have_no_sign=True,
+                endings=('tar',), takes=_is_tar, is_empty=_is_empty_tar, odd_names=NAMES_WITHOUT_TAR, loaders=('torch', 'pandas'))
 ZLIB = Container('zlib', 'opening.packed:look_into', 'zlib.compress writes', sign=rb'[\x08\x18(8HXhx]', known_by=_is_zlib,
                  other_endings=('z', 'zlib'), stream=streams.ZLIB, loaders=('joblib',))
 HDF5 = Container('hdf5', 'stores.hdf5:look_into', magic=b'\x89HDF\r\n\x1a\n', sign=rb'(?:.{512}|.{1024}|.{2048}|.{4096}|.{8192})?\x89HDF\r\n\x1a\n')
@@ -192,8 +194,7 @@ CONTAINERS: Tuple[Container, ...] = (
     Container('xz', 'opening.packed:look_into', 'xz and Python write', b'\xfd7zXZ\0', endings=('xz',), tar_ending='txz', stream=streams.XZ,
               loaders=('joblib', 'pandas')),
     Container('lzma', 'opening.packed:look_into', 'xz and Python write', b'\x5d\0', endings=('lzma',), stream=streams.LZMA, loaders=('joblib',)),
-    Container('tar', 'opening.tars:look_into', 'tarfile, GNU tar and bsdtar write', sign=rb'.{257}ustar', known_by=_is_tar, may_have_no_sign=True,
-              endings=('tar',), takes=_is_tar, is_empty=_is_empty_tar, odd_names=NAMES_WITHOUT_TAR, loaders=('torch', 'pandas')),
+    TAR,
     Container('zfile', 'opening.packed:look_into', 'joblib before 0.10 writes', b'ZF', known_by=_is_zfile, stream=streams.ZFILE, loaders=('joblib',)),
     ZLIB,
     # (these two begin as `unread` has it)

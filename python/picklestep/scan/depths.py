@@ -3,6 +3,7 @@
 from __future__ import annotations
 
 from contextlib import closing
+from itertools import chain, islice
 from typing import Generator, Iterable, Iterator, List, Optional, Sequence, Set
 
 from .. import library
@@ -11,7 +12,7 @@ from ..program import Process, time_to_wait
 from .blobs import Blob, Budget, FileBlob, spooled
 from .canonical.formed import content_of
 from .costs import MOST_OF_MADE, Cost
-from .hash_steps import HashSteps
+from .hash_steps import HashSteps, is_light
 
 __all__ = ['cost_in_objects', 'layers_in_objects']
 
@@ -25,7 +26,11 @@ def cost_in_objects(blob: Blob, budget: Budget, may_be_nested: bool) -> Optional
     """What is to be said of such a pickle. Without `may_be_nested` calls made little in it."""
     try:
         hashes = HashSteps()
-        for lines in _objects(blob, budget):
+        objects = _objects(blob, budget)
+        pieces = list(islice(objects, 2))
+        if len(pieces) == 1 and is_light(pieces[0]):
+            return None
+        for lines in chain(pieces, objects):
             hashes.take(lines)
             budget.spend()
             if hashes.is_too_long:

@@ -7,15 +7,18 @@ in a list, a dictionary or a set among these, and of what is put into it. What a
 from __future__ import annotations
 
 from array import array
+from collections import Counter
 from typing import List, Optional, Set
 
 from ..patterns import pattern
-from .costs import MOST_OF_TUPLES, MOST_STEPS
+from .costs import MOST_OF_MADE, MOST_OF_TUPLES, MOST_STEPS
 
-__all__ = ['HashSteps']
+__all__ = ['HashSteps', 'is_light']
 
 # In lines of objects: what holds others, and what calls are of imports.
 _HOLDER = pattern(rb'\n#([0-9]+) (tuple|list|dict|set|frozenset|call|new|new-ex|obj|inst) ([^\n]*#[^\n]*)')
+# (a regular expression takes five times as long to find numbers of objects)
+_NUMBERS = bytes(code if code in b'#0123456789' else 32 for code in range(256))
 _PART = pattern(rb'[^#\n]*#([0-9]+)')
 _KEY = pattern(rb'[\[&]#([0-9]+)')
 _IMPORT = pattern(rb'\n#([0-9]+) stack-global \(#[0-9]+ #([0-9]+)\)')
@@ -25,6 +28,25 @@ _CONTAINERS = (b'list', b'dict', b'set')
 # A large pickle has as many steps by itself: so many for each of its objects are nothing to mark.
 _STEPS_OF_EACH = 100
 _MOST_COUNTED = 1 << 60
+
+
+def is_light(lines: bytes) -> bool:
+    """Whether all lines of objects show at once that `HashSteps` finds nothing in them. What holds others may be in one of these and in the keys: then
+    there are at most as many steps as numbers for each of the numbers. Each time that it is in another one makes of that at most four times as much.
+
+    >>> is_light(b'\\n#0 none\\n#1 tuple (#0)\\n#2 tuple (#1 #1)\\n'), is_light(b''.join(b'\\n#%d tuple (#%d #%d)' % (at + 1, at, at) for at in range(20)))
+    (True, False)
+    """
+    found = _HOLDER.findall(lines)
+    holders = {b'#' + number for number, _, _ in found}
+    counts = Counter(filter(holders.__contains__, lines.translate(_NUMBERS).split()))
+    again = sum([count - 2 for count in counts.values() if count > 2])  # (it stands before its own line, too)
+    if lines.count(b'#')**2 << 2 * again > MOST_STEPS:
+        return False
+    if len(found) > MOST_OF_MADE and sum([kind != b'tuple' and kind not in _CONTAINERS for _, kind, _ in found]) > MOST_OF_MADE:
+        return False
+    tuples = {b'#' + number: rest for number, kind, rest in found if kind == b'tuple'}
+    return len(tuples) < MOST_OF_TUPLES or sum(map(tuples.__contains__, b''.join(tuples.values()).translate(_NUMBERS).split())) < MOST_OF_TUPLES
 
 
 class HashSteps:
@@ -39,8 +61,8 @@ class HashSteps:
         self._depths = bytearray()
         self._texts = bytearray()
         self._hashers: Set[int] = set()
-        # The keys and members that calls hash, how many others there are, and the most steps of an object.
-        self._hashed, self._keys, self._most = 0, 0, 1
+        # The steps of the keys and members that calls hash, and the most steps of an object.
+        self._hashed, self._most = 0, 1
         # (how often containers in arguments were asked for)
         self._asked = 0
 
@@ -57,6 +79,7 @@ class HashSteps:
                 self._take_tuple(int(number), rest)
             elif kind in _CONTAINERS:
                 self._keep(int(number), rest)
+                continue
             elif kind == b'frozenset':
                 self._keep(int(number), rest.replace(b'#', b'&#'))
             else:
@@ -67,7 +90,7 @@ class HashSteps:
     def end(self) -> None:
         """Adds the steps of all keys and members."""
         total = self._hashed
-        if self._most * self._keys + total > MOST_STEPS:
+        if self._most * (self._texts.count(b'[') + self._texts.count(b'&')) + total > MOST_STEPS:
             total += sum([self._of(int(match[1])) for match in _KEY.finditer(self._texts)])
         if total > self._limit(len(self._depths)):
             self.found = f'to hash all keys and members in it takes {total:,} steps: who loads it waits for that'
@@ -127,7 +150,6 @@ class HashSteps:
         self._starts[number] = len(self._texts) + 1
         self._texts += text
         self._texts += b'\n'
-        self._keys += text.count(b'[') + text.count(b'&')
 
     def _of(self, part: int) -> int:
         """The steps of an object as far as they are known."""

@@ -32,7 +32,7 @@ from .canonical import Form, NotCanonical, NotKnown
 from .canonical.forms import WRITERS
 from .canonical.kinds import asked_form, begun_form, kinds_of
 from .canonical.layouts import Layout, layout_of
-from .containers import CONTAINERS, ZIP_TAIL, Container, Held
+from .containers import CONTAINERS, TAR, ZIP_TAIL, Container, Held
 from .costs import cost_of_tuples, many_layers
 from .names import Names
 from .other_forms import ending, forms_of
@@ -93,6 +93,8 @@ class Looker:
         self.name = ''
         # What readers take the file itself for.
         self.kinds_of_file: Tuple[str, ...] = ()
+        # The same of what it packs, if it packs one other.
+        self._kinds_packed: Tuple[str, ...] = ()
         # Whether all of a file is looked at; and whether a pickle was read in parts: with arrays between its opcodes, or as one of several in a row.
         self.is_whole = True
         self._has_parts = False
@@ -121,19 +123,28 @@ class Looker:
         return replace(pickle, verdicts=found)
 
     def judged_whole(self, blob: Blob) -> Tuple[FileVerdict, ...]:
-        """What the gate says of the file as a whole by each list, where it takes all of it: a zip archive or an array of numpy, and what gzip or zlib packed
-        if that is one pickle or an array. (A file that is one pickle was asked about as that.)"""
-        kinds, lists = self.kinds_of_file, self.options.lists
-        takes = kinds in (('zip',), ('npy',)) or kinds in (('gzip',), ('zlib',)) and not self._has_parts and all(
-            pickle.where in ((f'({kinds[0]})',), (f'({kinds[0]})', '(objects)')) for pickle in self.pickles)
-        is_asked = lists and takes and self.is_whole and self.pickles and max(blob.size, self.budget.unpacked) <= MOST_GATED
+        """What the gate says of the file as a whole by each list, where it takes all of it. (A file that is one pickle was asked about as that.) It knows
+        fewer forms of tar archives than are read here, and of others nothing is said."""
+        lists = self.options.lists
+        is_asked = lists and self._is_gated() and self.is_whole and self.pickles and max(blob.size, self.budget.unpacked) <= MOST_GATED
         if not is_asked or not begins_gated(blob.read(0, HEAD)):
             return ()
         try:
-            return verdicts_of_file(self.pickles, blob, lists, self.options.left, self.budget)
+            found = verdicts_of_file(self.pickles, blob, lists, self.options.left, self.budget)
         except (LimitMet, NotCanonical, PicklestepError) as error:
             self.note((), f'whether it passes a list is not known: {error}', missed=True)
             return ()
+        is_tar = TAR.name in (*self.kinds_of_file, *self._kinds_packed)
+        return tuple(verdict for verdict in found if not (is_tar and verdict.is_of_form and verdict.member in ('', *map(_inside, self.kinds_of_file))))
+
+    def _is_gated(self) -> bool:
+        """Whether the gate takes a file of these kinds: a zip archive, a tar archive, an array of numpy, or what gzip or zlib packed if that is one pickle,
+        an array or a tar archive."""
+        kinds = self.kinds_of_file
+        if kinds not in (('gzip',), ('zlib',)):
+            return kinds in (('zip',), ('tar',), ('npy',))
+        inside = _inside(kinds[0])
+        return self._kinds_packed == (TAR.name,) or not self._has_parts and all(pickle.where in ((inside,), (inside, '(objects)')) for pickle in self.pickles)
 
     def not_judged(self, pickle: Pickle) -> Pickle:
         """The same where the gate has not answered."""
@@ -180,6 +191,8 @@ class Looker:
         kinds = [] if is_gap else self._kinds(blob, head, where, names)
         if not where and not is_gap:
             self.kinds_of_file = tuple(map(str, kinds))
+        elif where == tuple(map(_inside, self.kinds_of_file)) and not is_gap:
+            self._kinds_packed = tuple(map(str, kinds))
         spans: List[Tuple[int, int]] = []
         opened = False
         for kind in kinds:
@@ -491,6 +504,11 @@ class Unpacked:
                 return
             most -= len(piece)
             yield piece
+
+
+def _inside(kind: str) -> str:
+    """The name of what a file of this kind packs."""
+    return f'({kind})'
 
 
 def _begins_as_pickle(head: bytes, names: Tuple[str, ...]) -> bool:

@@ -5,6 +5,7 @@ from __future__ import annotations
 from dataclasses import dataclass
 from typing import Dict, Iterator, List, Optional, Tuple
 
+from ..opens import BETWEEN
 from ..records import End
 from .allow import sets_with
 from .known import known_anywhere, known_note
@@ -299,7 +300,8 @@ class Judge:
 
 def _is_marked(verdict: FileVerdict, looks: List[Look]) -> bool:
     """Whether what the gate does not allow in a file is marked in the pickle that does it."""
-    return verdict.kind == _NOT_ALLOWED and any(look.rule in _OF_LISTS and (not verdict.member or look.where[:1] == (verdict.member,)) for look in looks)
+    places = (BETWEEN.join(look.where[:count]) for look in looks if look.rule in _OF_LISTS for count in range(3))
+    return verdict.kind == _NOT_ALLOWED and verdict.member in places
 
 
 def _with_ranges(pickle: Pickle, allowed: Names) -> Iterator[Call]:

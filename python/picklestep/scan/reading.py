@@ -187,7 +187,8 @@ class Summary:
                 fields['text'] = self._printed(row)
         self._kinds.read(lines, signs, self._part)
         for fields in lines:
-            self._take_given(fields)
+            if fields['kind'] in ('call', 'inst'):
+                self._take_given(fields)
             self._count += 1
             self._budget.lines -= 1
             if self._budget.lines < 0:
@@ -204,7 +205,7 @@ class Summary:
         arguments, pair = fields.get('args'), (fields.get('module'), fields.get('name'))
         if fields['kind'] == 'call' and self._offsets is None and _is_of_offsets(arguments) and pair not in _GIVEN_OFFSETS:
             self._offsets = int(fields['offset']), said_in(fields), self._part
-        what, at = _GIVERS.get(pair, ('', 0)) if fields['kind'] in ('call', 'inst') else ('', 0)
+        what, at = _GIVERS.get(pair, ('', 0))
         if not what:
             return
         if not isinstance(arguments, list):

@@ -92,6 +92,11 @@ class FileVerdict:
         """Whether it does."""
         return not self.line
 
+    @property
+    def is_of_form(self) -> bool:
+        """Whether it does not since something is in another form."""
+        return self.kind == 'other form'
+
 
 @dataclass(frozen=True)
 class Pickle:

@@ -13,7 +13,7 @@ from ...verdicts import other_form
 from ..blobs import Blob, Budget, FileBlob, JoinedBlob, PartMet, spooled
 from .forms import NotCanonical, NotKnown
 
-__all__ = ['SIGN_OF_ARRAYS', 'BEHIND', 'answer_of_program', 'content_of', 'require_form']
+__all__ = ['SIGN_OF_ARRAYS', 'BEHIND', 'answer_of_program', 'content_of', 'end_in_form', 'require_form']
 
 # Where these bytes are not, nothing is one of joblib's classes of arrays: a name of an import stands in a pickle as it is.
 SIGN_OF_ARRAYS = b'ArrayWrapper'
@@ -21,6 +21,8 @@ SIGN_OF_ARRAYS = b'ArrayWrapper'
 _WORDS = ('form', '--json')
 # The reason of a pickle that is in the form, with something behind it.
 BEHIND = 'bytes behind STOP'
+# So many bytes are looked at first for the end of a pickle.
+_GLANCE = 1 << 13
 # The program takes at most so many bytes of memory for each byte: a small input needs no limit.
 _MEMORY_OF_A_BYTE = 32
 
@@ -43,6 +45,25 @@ def require_form(blob: Blob, budget: Optional[Budget] = None, begin: int = 0) ->
     if other is not None:
         offset = blob.offset_of(other.offset) if isinstance(blob, JoinedBlob) else other.offset
         raise NotCanonical(other.reason, begin + offset)
+
+
+def end_in_form(blob: Blob, at: int, budget: Budget) -> int:
+    """Where the pickle ends that begins there, in the form that picklers write. Raises NotCanonical where none does."""
+    size = _GLANCE
+    while True:
+        budget.spend()
+        part = blob.part(at, size)
+        try:
+            require_form(part, budget, at)
+            return at + part.size
+        except NotCanonical as other:
+            if other.reason == BEHIND:
+                return other.offset
+            if isinstance(other, NotKnown) or at + size >= blob.size:
+                raise
+        size *= 2
+        if min(size, blob.size - at) > budget.most_held():
+            raise NotKnown('its end is not within what may be held at once', at)
 
 
 def answer_of_program(words: Sequence[str], blob: Blob, budget: Optional[Budget], files: Sequence[int] = (), unpacked: int = 0) -> bytes:

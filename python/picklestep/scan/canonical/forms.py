@@ -76,7 +76,8 @@ class Member(NamedTuple):
 
 class Form(NamedTuple):
     """A container in its strict form: its members in order, and whether it is laid out as torch.save does. All other bytes of it are
-    accounted for."""
+    accounted for. `agreed` says why the program does not know the form, where readers find the same members all the same."""
 
     members: Tuple[Member, ...]
     is_torch: bool = False
+    agreed: str = ''

@@ -12,7 +12,8 @@ from typing import Any, Optional, Tuple
 from ...patterns import pattern
 from ..blobs import Blob, Budget, LimitMet
 from .forms import NotCanonical, count_of_shape, require, wrong
-from .pickles import Global, Made, OldText, PDict, Pickle, read_pickle
+from .pickles import Pickle, read_pickle
+from .values import Global, Made, PDict, text_of
 
 __all__ = ['Item', 'item_of_description', 'item_of_pickled', 'oddness']
 
@@ -107,11 +108,6 @@ def _of_pickled(value: Any, depth: int) -> Tuple[int, int]:
     return size, flags & _HANDED_ON
 
 
-def _as_text(value: Any) -> str:
-    """A text, also one that Python 2 wrote. Anything else is as an empty one."""
-    return value if isinstance(value, str) else value.decode('latin-1') if isinstance(value, OldText) else ''
-
-
 def _made(value: Any) -> Tuple[str, Optional[int], Tuple[Any, ...]]:
     """The letter of a kind of items, the number behind it, if it has one, and the state that it gets."""
     if not isinstance(value, Made) or value.function != Global('numpy', 'dtype') or not isinstance(value.arguments, tuple):
@@ -119,7 +115,7 @@ def _made(value: Any) -> Tuple[str, Optional[int], Tuple[Any, ...]]:
     code, *others = value.arguments or (None,)
     # (not aligned, and a copy: a state changes nothing of numpy's own one)
     require(others == [False, True] and all(type(other) in (bool, int) for other in others), 'a numpy.dtype with other arguments')
-    found = re.fullmatch(r'([biufcSUVmMO])([0-9]{1,9})', _as_text(code)) if code not in _RECORDS else None
+    found = re.fullmatch(r'([biufcSUVmMO])([0-9]{1,9})', text_of(code)) if code not in _RECORDS else None
     require(found is not None or code in _RECORDS, 'items of an unknown kind')
     state = value.state
     if not isinstance(state, tuple) or len(state) not in (8, 9):
@@ -142,8 +138,8 @@ def _of_fields(names: Any, fields: Any, size: int, depth: int) -> int:
     if not isinstance(names, tuple) or not isinstance(fields, PDict):
         wrong('fields of an odd form')
     described = fields.by_text()
-    titles = {_as_text(field[2]) for field in described.values() if isinstance(field, tuple) and len(field) == 3}
-    known = set(map(_as_text, names))
+    titles = {text_of(field[2]) for field in described.values() if isinstance(field, tuple) and len(field) == 3}
+    known = set(map(text_of, names))
     require(fields.is_whole and len(fields) == 2 * len(described) and len(known) == len(names), 'fields of an odd form')
     require(known <= set(described) <= known | titles and size < _LARGEST_ITEM, 'fields of an odd form')
     flags, end, end_of_objects = 0, 0, 0

@@ -11,7 +11,8 @@ from typing import Any, Dict
 
 from .forms import NotCanonical, count_of_shape
 from .items import item_of_pickled
-from .pickles import Global, Made, PDict, Reader, read_pickle
+from .pickles import Reader, read_pickle
+from .values import Global, Made, PDict
 
 __all__ = ['on_build']
 

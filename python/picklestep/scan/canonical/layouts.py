@@ -9,7 +9,7 @@ from dataclasses import dataclass, field
 from typing import TYPE_CHECKING, List, Optional, Set, Tuple
 
 from ...hints import OLD_TORCH
-from ..blobs import Blob, Budget
+from ..blobs import Blob, Budget, Limits
 from .formed import BEHIND, SIGN_OF_ARRAYS, require_form
 from .forms import NotCanonical
 
@@ -50,7 +50,7 @@ def layout_of(blob: Blob, budget: Optional[Budget] = None) -> Layout:
     """The pickles of a file, to its end."""
     if OLD_TORCH in blob.read(0, _BEGIN):
         from .torch import legacy  # (most pickles have no raw numbers)
-        return _of_torch(legacy(blob, budget))
+        return _of_torch(legacy(blob, budget or Budget(Limits())))
     if blob.find(SIGN_OF_ARRAYS) < 0 and _is_one(blob, budget):
         return Layout(pickles=1)
     from .joblib import on_build
@@ -84,12 +84,8 @@ def alone(blob: Blob, budget: Optional[Budget] = None) -> Layout:
 def of_torch_tar(name: str, blob: Blob, budget: Optional[Budget] = None) -> Layout:
     """The pickles of a member of torch's tar layout."""
     from .torch import tar_member
-    return _of_torch(tar_member(name, blob, budget))
+    return _of_torch(tar_member(name, blob, budget or Budget(Limits())))
 
 
 def _of_torch(found: Rows) -> Layout:
-    layout = Layout()
-    for pickle in found.pickles:
-        layout.add(pickle)
-    layout.raw = found.raw
-    return layout
+    return Layout(raw=found.raw, counts=any(row.counts for row in found.pickles[1:]), pickles=len(found.pickles))

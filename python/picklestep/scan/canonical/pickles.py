@@ -1,4 +1,4 @@
-"""What pickles come to, as far as the form of what follows depends on it: joblib's arrays, torch's numbers, further pickles.
+"""What pickles come to, as far as the form of what follows depends on it (joblib's arrays), and what numpy and loaders take it for.
 
 A reader of values. Whether the opcodes are those of a pickler the program is asked (`formed`), so nothing of that is looked at here: where they
 are, this reads what every loader reads.
@@ -12,16 +12,19 @@ import codecs
 import re
 import struct
 from dataclasses import dataclass, field
-from typing import Any, Callable, Dict, List, NoReturn, Optional, Set, Tuple, Type
+from typing import Any, Callable, Dict, List, NoReturn, Optional, Set, Tuple
 
 from ...opcodes import TABLE
 from ...patterns import pattern
 from ..blobs import CHUNK, STEPS, Blob, Budget, JoinedBlob
 from .formed import require_form
-from .forms import NotCanonical, count_of_shape, wrong
-from .methods import CALLED, CALLED_ALONE, CALLED_OF_ITEMS, OF_ARRAYS, REPLACING
+from .forms import NotCanonical, count_of_shape
+from .methods import OF_ARRAYS
+from .values import (Array, DATA, DICTIONARY, Global, HOLDERS, MADE, MAY_BE_KIND, Made, NOTHING, OldText, Opaque, PDict, PList, TAKE_ATTRIBUTES,
+                    TAKE_KINDS, gives_method, has_dtype, has_kind, has_odd_key, is_method, is_wrapper, is_wrapper_name, may_be, may_be_of_kind,
+                    may_take_list, text_of)
 
-__all__ = ['Global', 'Hook', 'Made', 'OldText', 'PDict', 'PList', 'Pickle', 'Reader', 'read_pickle']
+__all__ = ['Hook', 'Pickle', 'Reader', 'read_pickle']
 
 # Longer texts are no names, codes or keys: nothing needs to be known of them.
 _LONGEST_TEXT = 256
@@ -34,114 +37,9 @@ _FIRST = 1 << 13
 # This many values in lists and dictionaries are kept, and this many in the memo: a hostile pickle can have millions.
 _MOST_VALUES = 1 << 19
 _MOST_IN_MEMO = 1 << 22
-
-
-@dataclass(frozen=True)
-class Global:
-    """A value that is imported, by the names that find_class gets."""
-
-    module: str
-    name: str
-    # What a call of it makes decides how many bytes follow, so its arguments and its state are kept.
-    is_kept: bool = field(init=False, compare=False)
-    # What a call of it makes, where that is known: 'bytes', a 'dictionary', an 'array', one over a 'buffer', or perhaps a 'kind' of items.
-    makes: str = field(init=False, compare=False)
-
-    def __post_init__(self) -> None:
-        object.__setattr__(self, 'is_kept', (self.module, self.name) in _KEPT)
-        kind = 'kind' if self.module.startswith('numpy') and 'DType' in self.name else ''
-        object.__setattr__(self, 'makes', _MAKERS.get((self.module, self.name), kind))
-
-
-class Made:
-    """A value that a call made. The arguments and the state are kept where the form of what follows depends on them."""
-
-    __slots__ = ('function', 'arguments', 'state')
-
-    def __init__(self, function: Any, arguments: Any) -> None:
-        self.function = function
-        self.arguments = arguments
-        self.state: Any = None
-
-
-class OldText(bytes):
-    """A text that Python 2 wrote, by opcodes of its own: Python 3 makes a text of it, and of no other bytes."""
-
-
-def _text_of(key: Any) -> str:
-    """The text that a key is, or an empty one."""
-    return key.decode('latin-1') if isinstance(key, OldText) else key if isinstance(key, str) else ''
-
-
-class PList(List[Any]):
-    """A list, as far as its items are kept. `left_out` counts the others; `is_set` says that an item was put in place of another, as no pickler
-    does."""
-
-    left_out = 0
-    is_set = False
-
-    @property
-    def is_whole(self) -> bool:
-        """Whether all of its items are kept."""
-        return not self.left_out
-
-
-class PDict(PList):
-    """A dictionary: its keys and values in turn, as far as they are kept. `has_called` says that something is under a name that loaders call,
-    and `has_called_item` so of what takes its items for attributes."""
-
-    has_called = False
-    has_called_item = False
-
-    def by_text(self) -> Dict[str, Any]:
-        """The values by their keys, where these are texts."""
-        pairs = [(_text_of(key), value) for key, value in zip(self[::2], self[1::2]) if isinstance(key, (str, OldText))]
-        if len(dict(pairs)) < len(pairs):
-            wrong('a key comes twice')
-        return dict(pairs)
-
-
-class _Opaque:
-    """A value of which nothing needs to be known."""
-
-
-_DATA = _Opaque()
-# What a call made that was given a kind of items: it may be that itself, as of `numpy.dtype(kind)`.
-_MAY_BE_KIND = _Opaque()
-# What any other call made; a dictionary, whose items are no attributes.
-_MADE = _Opaque()
-_DICTIONARY = _Opaque()
-
-
-class _Array(_Opaque):
-    """What numpy makes for an array. One of numbers is no state of another array."""
-
-    def __init__(self, may_hold_objects: bool) -> None:
-        self.may_hold_objects = may_hold_objects
-
-
-# What the memo has where there is nothing.
-_NOTHING = _Opaque()
-
-# joblib reads an array where such an object gets its state, whatever made the object.
-_WRAPPER_NAMES = ('NumpyArrayWrapper', 'NDArrayWrapper', 'ZNDArrayWrapper')
-_LONGEST_WRAPPER = 1 + max(map(len, _WRAPPER_NAMES))
-_WRAPPERS = frozenset((module, name) for module in ('joblib.numpy_pickle', 'joblib.numpy_pickle_compat') for name in _WRAPPER_NAMES)
 # Picklers make one at once: EMPTY_TUPLE and NEWOBJ follow, perhaps behind a key of the memo and the begin of a frame.
 _MADE_AT_ONCE = pattern(rb'(\x94|q.|r.{4}|p[0-9]{1,10}\n)?(\x95.{8})?\)\x81', re.DOTALL)
 _LONGEST_MAKING = 24
-
-_BUILTINS = ('builtins', '__builtin__')
-_KEPT = _WRAPPERS | {('numpy', 'dtype')}
-_MAKERS = {('_codecs', 'encode'): 'bytes', **{('collections', name): 'dictionary' for name in ('OrderedDict', 'defaultdict', 'Counter')},
-           **{(f'numpy.{core}.{name}', function): made for core in ('core', '_core') for name, function, made in (
-               ('numeric', '_frombuffer', 'buffer'), ('multiarray', '_reconstruct', 'array'))}}
-# What picklers call with a kind of items, and what leaves it as it is.
-_TAKE_KINDS = frozenset(Global(f'numpy.{core}.{name}', function) for core in ('core', '_core') for name, function in (
-    ('multiarray', 'scalar'), ('numeric', '_frombuffer'), ('multiarray', '_reconstruct')))
-
-# What takes attributes as its argument (Python 3.13).
-_TAKE_ATTRIBUTES = (Global('types', 'SimpleNamespace'),)
 
 
 @dataclass
@@ -159,12 +57,10 @@ class Pickle:
     offset: int
     end: int = 0
     imports: Set[Tuple[str, str]] = field(default_factory=set)
-    persistent: List[Any] = field(default_factory=list)
     raw: List[Tuple[int, int]] = field(default_factory=list)
     inner: List['Pickle'] = field(default_factory=list)
     counts: bool = False
-    value: Any = None
-    kinds: List['Made'] = field(default_factory=list)
+    kinds: List[Made] = field(default_factory=list)
     has_odd_states: bool = False
     has_odd_items: bool = False
     has_made_items: bool = False
@@ -173,85 +69,10 @@ class Pickle:
 
 
 _MOST_DIGITS = 4000
-# The flag of a kind of items whose arrays get a list (NPY_LIST_PICKLE).
-_TAKES_LIST = 2
-# What the memo gives that can be changed, or hold what can.
-_HOLDERS = frozenset((tuple, PList, PDict, Made))
-
 _STOP = 0x2E
 _BINGET, _BINPUT, _MEMOIZE, _BININT1, _BINFLOAT, _SHORT_BINUNICODE = 0x68, 0x71, 0x94, 0x4B, 0x47, 0x8C
 
 Hook = Callable[['Reader', Made], None]
-
-
-def _has_kind(values: Any, depth: int = 0) -> bool:
-    """Whether a kind of items is among arguments, or in a container among them."""
-    if isinstance(values, Made):
-        return not _is_wrapper(values.function)
-    return depth < 3 and isinstance(values, (tuple, PList)) and any(type(each) in _HOLDERS and _has_kind(each, depth + 1) for each in values)
-
-
-def _has_dtype(arguments: Any) -> bool:
-    """Whether numpy.dtype itself is among arguments: a call may make a kind of items by it."""
-    return isinstance(arguments, tuple) and any(type(each) is Global and each.is_kept for each in arguments)
-
-
-def _may_be_of_kind(state: Any) -> bool:
-    """Whether numpy.dtype takes such a state: a version, an order of bytes, and so on."""
-    return isinstance(state, tuple) and 5 <= len(state) <= 9 and type(state[0]) is int and isinstance(state[1], (str, bytes, _Opaque))
-
-
-def _has_odd_key(state: Any) -> bool:
-    """Whether a state sets an attribute by which numpy takes an object for an array, or one that nobody sees."""
-    if isinstance(state, PDict):
-        return not state.is_whole or any(isinstance(key, _Opaque) or _text_of(key) in OF_ARRAYS for key in state[::2])
-    if isinstance(state, _Opaque):
-        return state.may_hold_objects if isinstance(state, _Array) else state is not _DATA
-    return isinstance(state, tuple) and len(state) == 2 and any(map(_has_odd_key, state))
-
-
-def _gives_method(state: Any, of_items: bool = False) -> bool:
-    """Whether a state, or items, have something under a name that loaders call, or may have: what is in a dictionary that a call made is not
-    kept."""
-    if isinstance(state, PDict):
-        return state.has_called_item if of_items else state.has_called
-    if isinstance(state, _Opaque):  # (the unpickler in Python asks any object for its items)
-        return not of_items and state is not _DATA and not isinstance(state, _Array)
-    return isinstance(state, tuple) and len(state) == 2 and any(_gives_method(each, of_items) for each in state)
-
-
-def _is_method(key: Any, value: Any, is_item: bool = False) -> bool:
-    """Whether a loader may call this by its name. The names of methods of lists and dictionaries also stand for settings, which are values, or
-    kinds of them, and for items."""
-    if not isinstance(key, (str, OldText)):
-        return type(value) is Global and isinstance(key, _Opaque) and key is not _DATA and not is_item
-    name = _text_of(key)
-    if name in REPLACING:
-        return not is_item
-    if name in CALLED_ALONE:
-        return type(value) is Global or value is _MADE
-    return name in (CALLED_OF_ITEMS if is_item else CALLED) and type(value) is Global and value.module not in _BUILTINS
-
-
-def _may_be(kind: Type[Any], value: Any) -> bool:
-    """Whether a value is of this class, or a call may have made one that is."""
-    return isinstance(value, kind) or isinstance(value, _Opaque) and value is not _DATA and not isinstance(value, _Array)
-
-
-def _may_take_list(kind: Any) -> bool:
-    """Whether an array of this kind may take a list, without counting."""
-    if not isinstance(kind, Made):
-        return kind is _MAY_BE_KIND
-    state = kind.state
-    return not isinstance(state, tuple) or len(state) < 8 or type(state[7]) is not int or state[7] & _TAKES_LIST != 0
-
-
-def _is_wrapper(value: Any) -> bool:
-    return isinstance(value, Global) and (value.module, value.name) in _WRAPPERS
-
-
-def _is_wrapper_name(name: str) -> bool:
-    return name[-_LONGEST_WRAPPER:].rpartition('.')[2] in _WRAPPER_NAMES
 
 
 class Reader:
@@ -365,7 +186,7 @@ class Reader:
                 top.append(memo[window[at + 1]])
                 self._has_gets = True
                 at += 2
-                if type(top[-1]) in _HOLDERS:
+                if type(top[-1]) in HOLDERS:
                     self._count_get(top[-1])
             elif code == _BININT1:
                 top.append(window[at + 1])
@@ -381,7 +202,7 @@ class Reader:
                 begin, at = at + 2, at + 2 + window[at + 1]
                 top.append(window[begin:at].decode('utf-8', 'surrogatepass'))
             elif code == _BINFLOAT:
-                top.append(_DATA)
+                top.append(DATA)
                 at += 9
             else:
                 self._next = at + 1
@@ -416,7 +237,6 @@ class Reader:
             self.fail("an object of joblib's class of arrays that gets no state")
         self._count(16)  # (a pickle takes time by itself)
         self.pickle.counts = self._has_gets and self._memoizes
-        self.pickle.value = self.peek()
         self.pickle.end = self.at
 
     def skip(self, count: int) -> None:
@@ -466,14 +286,14 @@ class Reader:
         return int(self.line())
 
     def get(self, key: int) -> None:
-        if not 0 <= key < len(self._memo) or self._memo[key] is _NOTHING:
+        if not 0 <= key < len(self._memo) or self._memo[key] is NOTHING:
             self.fail(f'nothing is in the memo at {key} (it may be of an earlier pickle)')
         value = self._memo[key]
         self._has_gets = True
         self._top.append(value)
-        if type(value) in _HOLDERS:
+        if type(value) in HOLDERS:
             self._count_get(value)
-        if type(value) is Made and _is_wrapper(value.function):
+        if type(value) is Made and is_wrapper(value.function):
             self.fail("an object of joblib's class of arrays that is used twice")
         self._check_wrapper(value)
 
@@ -487,7 +307,7 @@ class Reader:
     def put(self, key: int) -> None:
         """Keys come in order; those of Python 2 leave one out."""
         if key == len(self._memo) + 1:
-            self._memo.append(_NOTHING)
+            self._memo.append(NOTHING)
             self._is_plain = False
         if key != len(self._memo):
             self.fail(f'the memo key {key} where {len(self._memo)} comes')
@@ -509,7 +329,7 @@ class Reader:
         if found is None:
             found = self._globals[module, name] = Global(module, name)
             self.pickle.imports.add((module, name))
-            self._is_plain = self._is_plain and not _is_wrapper_name(name)
+            self._is_plain = self._is_plain and not is_wrapper_name(name)
         return found
 
     def _name_of_line(self) -> str:
@@ -520,11 +340,11 @@ class Reader:
 
         What was made of it gets its state before anything else.
         """
-        if type(value) is Made and value.state is None and _is_wrapper(value.function):
+        if type(value) is Made and value.state is None and is_wrapper(value.function):
             self.fail("an object of joblib's class of arrays that is used before it has its state")
-        if type(value) is not Global or not _is_wrapper_name(value.name):
+        if type(value) is not Global or not is_wrapper_name(value.name):
             return
-        if not _is_wrapper(value) or not _MADE_AT_ONCE.match(self.blob.read(self.at, _LONGEST_MAKING)):
+        if not is_wrapper(value) or not _MADE_AT_ONCE.match(self.blob.read(self.at, _LONGEST_MAKING)):
             self.fail("joblib's class of arrays under another name, or used for something else than to make one")
 
     def global_(self) -> None:
@@ -542,28 +362,28 @@ class Reader:
 
     def extension(self, width: int) -> None:
         self.over(width)
-        self.push(_DATA)
+        self.push(DATA)
 
     def called(self, function: Any, arguments: Any) -> None:
         is_kept = isinstance(function, Global) and function.is_kept
-        self._unfilled += is_kept and _is_wrapper(function)
-        has_kind = _has_kind(arguments)
+        self._unfilled += is_kept and is_wrapper(function)
+        takes_kind = has_kind(arguments)
         if isinstance(arguments, tuple) and not self.pickle.gives_methods:
-            is_state = function in _TAKE_ATTRIBUTES
-            self.pickle.gives_methods = any(_gives_method(each, not is_state) for each in arguments)
-        self.gives_kinds = self.gives_kinds or has_kind and not (isinstance(function, Global) and function in _TAKE_KINDS)
+            is_state = function in TAKE_ATTRIBUTES
+            self.pickle.gives_methods = any(gives_method(each, not is_state) for each in arguments)
+        self.gives_kinds = self.gives_kinds or takes_kind and not (isinstance(function, Global) and function in TAKE_KINDS)
         makes = function.makes if isinstance(function, Global) else ''
         if is_kept:
             self._top.append(Made(function, arguments))
         elif makes in ('array', 'buffer'):
-            self._top.append(_Array(makes == 'array'))
+            self._top.append(Array(makes == 'array'))
         elif makes == 'bytes':
-            self._top.append(_DATA)
+            self._top.append(DATA)
         elif makes == 'dictionary':
-            self._top.append(_DICTIONARY)
+            self._top.append(DICTIONARY)
         else:
-            self._top.append(_MAY_BE_KIND if has_kind or makes or _has_dtype(arguments) else _MADE)
-        if is_kept and not _is_wrapper(function):
+            self._top.append(MAY_BE_KIND if takes_kind or makes or has_dtype(arguments) else MADE)
+        if is_kept and not is_wrapper(function):
             self.pickle.kinds.append(self._top[-1])
 
     def newobj(self) -> None:
@@ -585,22 +405,22 @@ class Reader:
 
     def build(self) -> None:
         state, target = self.pop(), self.peek()
-        self.pickle.gives_methods = self.pickle.gives_methods or _gives_method(state)
-        if isinstance(target, Made) and not _has_kind(target.arguments):
+        self.pickle.gives_methods = self.pickle.gives_methods or gives_method(state)
+        if isinstance(target, Made) and not has_kind(target.arguments):
             if target.state is not None:
                 self.fail("an object of joblib's class of arrays, or a kind of items, that gets a second state")
-            if _is_wrapper(target.function):
+            if is_wrapper(target.function):
                 self._unfilled -= 1
             target.state = state
             if self.on_build is not None:
                 self.on_build(self, target)
-        elif self._of_numpy and (isinstance(target, Made) or target is _MAY_BE_KIND or _may_be_of_kind(state)):
+        elif self._of_numpy and (isinstance(target, Made) or target is MAY_BE_KIND or may_be_of_kind(state)):
             self.fail('a state of what may be a kind of items')
         else:
-            self.pickle.has_odd_states = self.pickle.has_odd_states or _has_odd_key(state) or self._is_odd_array(state) or self._has_odd_array(state)
-            if isinstance(target, _Array):
+            self.pickle.has_odd_states = self.pickle.has_odd_states or has_odd_key(state) or self._is_odd_array(state) or self._has_odd_array(state)
+            if isinstance(target, Array):
                 kinds = state[1:3] if isinstance(state, tuple) else ()
-                target.may_hold_objects = not any(isinstance(kind, Made) for kind in kinds) or any(map(_may_take_list, kinds))
+                target.may_hold_objects = not any(isinstance(kind, Made) for kind in kinds) or any(map(may_take_list, kinds))
 
     def _is_odd_array(self, state: Any) -> bool:
         """Whether numpy may take this as the state of an array, and so many objects from a list, without counting, as the list has not.
@@ -618,48 +438,49 @@ class Reader:
             self._is_odd_array(each) or self._has_odd_array(each, depth - 1) for each in state if type(each) in (tuple, PList))
 
     def _is_odd_list(self, state: Any, shape: Any, kind: Any, _: Any, items: Any) -> bool:
-        if not _may_be(tuple, shape) or not _may_be(PList, items) or not _may_take_list(kind):
+        if not may_be(tuple, shape) or not may_be(PList, items) or not may_take_list(kind):
             return False
         if not isinstance(items, PList) or items.is_set or id(items) in self.pickle.gets or id(state) in self.pickle.gets:
             return True
         return count_of_shape(shape) != len(items) + items.left_out
 
-    def persistent(self, key: Any) -> None:
-        self.pickle.persistent.append(key)
-        self.push(_DATA)
+    def persistent(self) -> None:
+        self.pop()
+        self.push(DATA)
 
     def persistent_line(self) -> None:
-        self.persistent(self.line().decode('ascii'))
+        self.line().decode('ascii')
+        self.push(DATA)
 
     # --- Numbers and texts ---
 
     def int_(self) -> None:
         text = self.line()
-        self.push(bool(int(text)) if text in (b'00', b'01') else int(text) if len(text) < _MOST_DIGITS else _DATA)
+        self.push(bool(int(text)) if text in (b'00', b'01') else int(text) if len(text) < _MOST_DIGITS else DATA)
 
     def long_(self) -> None:
         text = self.line()
-        self.push(int(text.rstrip(b'L')) if len(text) < _MOST_DIGITS else _DATA)
+        self.push(int(text.rstrip(b'L')) if len(text) < _MOST_DIGITS else DATA)
 
     def float_(self) -> None:
         self.line()
-        self.push(_DATA)
+        self.push(DATA)
 
     def binfloat(self) -> None:
         self.over(8)
-        self.push(_DATA)
+        self.push(DATA)
 
     def long_bytes(self, width: int) -> None:
         length = self.number(width)
         if length > _LONGEST_TEXT:
             self.over(length)
-            self.push(_DATA)
+            self.push(DATA)
         else:
             self.push(int.from_bytes(self.take(length), 'little', signed=True))
 
     def unicode_(self) -> None:
         text = self.line()
-        self.push(text.decode('raw-unicode-escape') if len(text) <= _LONGEST_TEXT else _DATA)
+        self.push(text.decode('raw-unicode-escape') if len(text) <= _LONGEST_TEXT else DATA)
 
     def string_(self) -> None:
         text = self.line()
@@ -667,7 +488,7 @@ class Reader:
             read: Any = codecs.escape_decode(text[1:-1])[0]
             self.push(OldText(read))
         else:
-            self.push(_DATA)
+            self.push(DATA)
 
     def text(self, length: int) -> None:
         if length <= _LONGEST_TEXT:
@@ -685,11 +506,11 @@ class Reader:
             self._top.append(self.take(length))
         else:
             self.over(length)
-            self.push(_DATA)
+            self.push(DATA)
 
     def bytearray_(self) -> None:
         self.over(self.number(8))
-        self.push(_DATA)
+        self.push(DATA)
 
     # --- Tuples, lists, dictionaries, sets ---
 
@@ -722,16 +543,16 @@ class Reader:
         if isinstance(target, PDict):
             self._fill(target, items)
             for key, value in zip(items[::2], items[1::2]):
-                if (type(value) is Global or value is _MADE or isinstance(key, (str, OldText))) and _is_method(key, value):
+                if (type(value) is Global or value is MADE or isinstance(key, (str, OldText))) and is_method(key, value):
                     target.has_called = True
-                    target.has_called_item = target.has_called_item or _is_method(key, value, True)
+                    target.has_called_item = target.has_called_item or is_method(key, value, True)
         elif type(target) is PList:
             target.is_set = True
-        elif target is not _DICTIONARY:  # (some classes take their items for attributes)
+        elif target is not DICTIONARY:  # (some classes take their items for attributes)
             for key, value in zip(items[::2], items[1::2]):
-                self.pickle.has_odd_items |= _text_of(key) in OF_ARRAYS
-                self.pickle.has_made_items |= isinstance(key, _Opaque) and key is not _DATA
-                self.pickle.gives_methods |= bool(_text_of(key)) and not isinstance(value, (str, int)) and _is_method(key, value)
+                self.pickle.has_odd_items |= text_of(key) in OF_ARRAYS
+                self.pickle.has_made_items |= isinstance(key, Opaque) and key is not DATA
+                self.pickle.gives_methods |= bool(text_of(key)) and not isinstance(value, (str, int)) and is_method(key, value)
 
     def set_one(self) -> None:
         value, key = self.pop(), self.pop()
@@ -749,7 +570,7 @@ class Reader:
 
     def frozen(self) -> None:
         self.marked()
-        self.push(_DATA)
+        self.push(DATA)
 
     def frame(self) -> None:
         size = self.number(8)
@@ -778,9 +599,9 @@ _OPCODES: Dict[str, Callable[[Reader], Any]] = {
     'UNICODE': Reader.unicode_, 'BINUNICODE': _with_number(4, Reader.text), 'SHORT_BINUNICODE': _with_number(1, Reader.text),
     'BINUNICODE8': _with_number(8, Reader.text),
     'BINBYTES': _with_number(4, Reader.bytes_), 'SHORT_BINBYTES': _with_number(1, Reader.bytes_), 'BINBYTES8': _with_number(8, Reader.bytes_),
-    'BYTEARRAY8': Reader.bytearray_, 'NEXT_BUFFER': lambda r: r.push(_DATA), 'READONLY_BUFFER': Reader.peek,
+    'BYTEARRAY8': Reader.bytearray_, 'NEXT_BUFFER': lambda r: r.push(DATA), 'READONLY_BUFFER': Reader.peek,
     'EMPTY_LIST': lambda r: r.push(PList()), 'EMPTY_TUPLE': lambda r: r.push(()), 'EMPTY_DICT': lambda r: r.push(PDict()),
-    'EMPTY_SET': lambda r: r.push(_DATA), 'APPEND': Reader.append_one, 'APPENDS': lambda r: r.append(r.marked()), 'LIST': Reader.list_,
+    'EMPTY_SET': lambda r: r.push(DATA), 'APPEND': Reader.append_one, 'APPENDS': lambda r: r.append(r.marked()), 'LIST': Reader.list_,
     'SETITEM': Reader.set_one, 'SETITEMS': lambda r: r.set_items(r.marked()), 'DICT': Reader.dict_,
     'ADDITEMS': Reader.marked, 'FROZENSET': Reader.frozen,
     'TUPLE': Reader.marked_tuple, 'TUPLE1': lambda r: r.tuple_(1), 'TUPLE2': lambda r: r.tuple_(2), 'TUPLE3': lambda r: r.tuple_(3),
@@ -790,7 +611,7 @@ _OPCODES: Dict[str, Callable[[Reader], Any]] = {
     'GLOBAL': Reader.global_, 'STACK_GLOBAL': Reader.stack_global, 'INST': Reader.inst, 'OBJ': Reader.obj, 'BUILD': Reader.build,
     'REDUCE': Reader.newobj, 'NEWOBJ': Reader.newobj, 'NEWOBJ_EX': Reader.newobj_ex,
     'EXT1': lambda r: r.extension(1), 'EXT2': lambda r: r.extension(2), 'EXT4': lambda r: r.extension(4),
-    'PERSID': Reader.persistent_line, 'BINPERSID': lambda r: r.persistent(r.pop()),
+    'PERSID': Reader.persistent_line, 'BINPERSID': Reader.persistent,
 }
 
 # What each byte does where an opcode is to come.

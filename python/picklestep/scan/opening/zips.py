@@ -6,20 +6,17 @@ import zlib
 from collections import Counter
 from typing import NamedTuple, Optional, Set, Tuple
 
-from ...reaches import plainly_in
 from .. import zips
 from ..begins import HEAD
 from ..blobs import Blob
 from ..canonical import Form, Member, NotCanonical, NotKnown, archives, torch
 from ..canonical import zips as strict_zips
-from ..canonical.formed import require_form
 from ..canonical.forms import WRITERS
 from ..canonical.layouts import Layout, alone
 from ..containers import Held, kind_of
 from ..looking import Looker, Reads, Unpacked
 from ..packed import Unpacking
 from ..reach import may_lead_on
-from ..reading import Asked, calls_in_form
 from ..results import Place
 
 __all__ = ['look_at_end', 'look_into']
@@ -59,6 +56,8 @@ def look_into(looker: Looker, held: Held) -> bool:
     if form is None:
         _look_into_odd(looker, held)
         return True
+    if form.agreed:
+        looker.note(where, f'the gate does not know its form ({form.agreed}): zipfile, a reader by places (as torch) and one in sequence find the same members, which are looked at')
     members, pickle = form.members, ''
     read = _AsPickle(alone)
     if form.is_torch:
@@ -90,30 +89,13 @@ def _with_numbers(looker: Looker, blob: Blob, form: Form, pickle: str, where: Pl
         return form.members, _AsPickle(alone)
     part, prefix = blob.part(member.offset, member.size), pickle[:-len('data.pkl')] + 'data/'
     try:
-        calls, sizes = _storages(part, looker)
+        calls, sizes = torch.storages_in(part, looker.budget)
         return tuple(torch.with_numbers(sizes, form.members, prefix)), _AsPickle(lambda blob, budget: Layout(pickles=1), calls)
     except NotKnown as reason:
         looker.note(where, f'which members are raw numbers is not known: {reason}', missed=True)
     except NotCanonical as reason:
         looker.note_form(where, WRITERS['torch'], reason)
     return form.members, _AsPickle(alone)
-
-
-def _storages(pickle: Blob, looker: Looker) -> Tuple[Optional[bytes], torch.Storages]:
-    """What the program says of the pickle, if that is kept, and the storages in that. Raises NotCanonical where it is in another form, or has others than
-    torch's, and NotKnown at a limit."""
-    found, calls = torch.Found(), calls_in_form(pickle, looker.budget)
-    if calls is not None:
-        for fields in plainly_in(calls)[0]:
-            found.take(fields)
-        return calls, found.storages()
-    require_form(pickle, looker.budget)
-    budget = looker.budget.of_value(pickle.size)
-    with Asked(pickle) as asked:
-        trouble = asked.summary(budget, each=lambda place, fields: found.take(fields)).trouble
-    if trouble is not None:
-        raise NotKnown(trouble)
-    return None, found.storages()
 
 
 def _look_at_member(looker: Looker, held: Held, member: Member, where: Place, read: Optional[_AsPickle]) -> None:
