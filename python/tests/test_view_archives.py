@@ -1,4 +1,5 @@
-"""Which members the page without a server finds in zip archives, and what bytes: those that `zipfile` reads of the same archive.
+"""Which members the page without a server shows of archives, and what bytes: those that `zipfile` and `tarfile` read of the same archive, where the library
+says that all readers find these.
 
 The archives are those that libraries wrote: torch (whose writer closes each archive as one above 4 GiB), numpy, pandas and lightning.
 """
@@ -21,38 +22,33 @@ import zlib
 from pathlib import Path
 from typing import Any, Dict, List
 
+import picklestep
 from pickles import HOSTILE, ROOT, known_opcodes
 from test_view_alone import MODELS, InChromium
 
-SCRIPTS = [ROOT / 'python' / 'picklestep' / 'view' / name for name in ('bytes.js', 'alone/containers.js')]
+SCRIPTS = [ROOT / 'python' / 'picklestep' / 'view' / name for name in ('bytes.js', 'alone/lines.js', 'alone/library.js', 'alone/containers.js')]
+MODULE = ROOT / 'dist' / 'libpicklestep.wasm'
 KEPT = MODELS.parent / 'real'
-# Answers for each file what its directory lists, or null: names, sizes, notes and the sums of the bytes.
-_READ = '''
-const { readFileSync } = require('node:fs'), { createHash } = require('node:crypto');
-for (const script of process.argv.slice(1)) require('node:vm').runInThisContext(readFileSync(script, 'utf8'));
+_BEGIN = '''
+const { readFileSync } = require('node:fs'), { createHash } = require('node:crypto'), [wasm, ...scripts] = process.argv.slice(1);
+for (const script of scripts) require('node:vm').runInThisContext(readFileSync(script, 'utf8'));
+const module = new WebAssembly.Module(readFileSync(wasm)), sumOf = (bytes) => createHash('sha256').update(bytes).digest('hex');
 (async () => {
     const answers = [];
-    for (const path of readFileSync(0, 'utf8').split('\\n')) {
-        const bytes = new Uint8Array(readFileSync(path)), directory = directoryOf(bytes);
-        for (const member of directory?.members || []) {
-            const read = member.note ? null : await memberBytes(bytes, member).catch((error) => error.message);
-            member.sum = read instanceof Uint8Array ? createHash('sha256').update(read).digest('hex') : read;
-        }
-        answers.push(directory);
+    for (const path of readFileSync(0, 'utf8').split('\\n')) {'''
+_END = '''
     }
     console.log(JSON.stringify(answers));
 })();'''
-
-
+# Answers for each file which members it has, with the sums of their bytes, and why it has none.
+_READ = f'''{_BEGIN}
+        const bytes = new Uint8Array(readFileSync(path)), found = {{ ...membersIn(module, bytes), kind: archiveOf(bytes) }};
+        for (const member of found.members) member.sum = await memberBytes(bytes, member).then(sumOf, (error) => error.message);
+        answers.push(found);{_END}'''
 # Answers for each file what it holds, its name and the sum of its bytes, or why it holds nothing.
-_UNPACK = _READ.partition('(async')[0] + '''(async () => {
-    const answers = [];
-    for (const path of readFileSync(0, 'utf8').split('\\n')) {
-        const found = await unzipped(new Uint8Array(readFileSync(path)), path).catch((error) => error.message);
-        answers.push(found.bytes ? [found.name, createHash('sha256').update(found.bytes).digest('hex')] : found);
-    }
-    console.log(JSON.stringify(answers));
-})();'''
+_UNPACK = f'''{_BEGIN}
+        const found = await unpacked(module, new Uint8Array(readFileSync(path)), path).catch((error) => error.message);
+        answers.push(found.bytes ? [found.name, sumOf(found.bytes)] : found);{_END}'''
 
 
 def array_file(descr: str, content: bytes) -> bytes:
@@ -109,19 +105,24 @@ class Archives(unittest.TestCase):
         self.addCleanup(held.cleanup)
         self.folder = Path(held.name)
 
-    def read(self, paths: List[Path]) -> List[Any]:
-        asked = '\n'.join(map(str, paths))
-        done = subprocess.run(['node', '-e', _READ, *map(str, SCRIPTS)], input=asked, capture_output=True, text=True, timeout=300, check=False)
+    def run_script(self, script: str, paths: List[Path]) -> List[Any]:
+        done = subprocess.run(['node', '-e', script, str(MODULE), *map(str, SCRIPTS)], input='\n'.join(map(str, paths)), capture_output=True, text=True, timeout=300,
+                              check=False)
         self.assertEqual(done.stderr, '')
         answers: List[Any] = json.loads(done.stdout)
         return answers
 
+    def read(self, paths: List[Path]) -> List[Any]:
+        return self.run_script(_READ, paths)
+
     def same(self, paths: List[Path]) -> None:
-        """Compares what the page finds with what `zipfile` reads."""
+        """Compares what the page finds with what `zipfile` reads, and with what the package says."""
         for path, found in zip(paths, self.read(paths)):
             with self.subTest(path.name):
-                self.assertEqual({member['name']: member['sum'] for member in found['members']}, sums(path))
-                self.assertEqual((found['isWhole'], found['odd'], [member['note'] for member in found['members'] if member['note']]), (True, '', []))
+                self.assertEqual((found['kind'], found['why']), ('zip', ''))
+                self.assertEqual({member['name']: member['sum'] for member in found['members'] if not member['name'].endswith('/')}, sums(path))
+                self.assertEqual([tuple(member[field] for field in ('name', 'start', 'size', 'packed')) for member in found['members']],
+                                 [(member.name, member.offset, member.size, member.deflated) for member in picklestep.members(path)])
 
     def file(self, name: str, data: bytes) -> Path:
         path = self.folder / name
@@ -165,12 +166,28 @@ class Archives(unittest.TestCase):
         found = self.read([self.file('many.zip', many.getvalue())])[0]
         self.assertEqual([member['name'] for member in found['members']], [str(number) for number in range(65_536)])
 
-    def test_a_long_record_somewhere_else(self) -> None:
-        """Its locator says where it is, and bytes may stand between."""
-        whole = torch_like({'a': b'N.', 'b': HOSTILE}, False)
-        self.same([self.file('a.pt', whole[:-42] + struct.pack('<4sIQI', b'PK\6\7', 0, len(whole) - 98, 1) + whole[-22:])])
-        apart = self.file('b.pt', whole[:-42] + b'between' + whole[-42:])
-        self.assertEqual([member['name'] for member in self.read([apart])[0]['members']], ['a', 'b'])
+    def test_names(self) -> None:
+        """Names have quotes and letters of all kinds, and the program escapes some."""
+        names = ["it's", '\xe9\u2603\U0001F600', "' stored '", '3: 4 deflated to 5', '\u202e']
+        held = io.BytesIO()
+        with zipfile.ZipFile(held, 'w') as archive:
+            for name in names:
+                archive.writestr(name, name)
+        path = self.file('names.zip', held.getvalue())
+        self.same([path])
+        self.assertEqual([member['name'] for member in self.read([path])[0]['members']], names)
+
+    def test_another_size(self) -> None:
+        """A stream that gives more or fewer bytes than both headers tell."""
+        held = io.BytesIO()
+        with zipfile.ZipFile(held, 'w', zipfile.ZIP_DEFLATED) as archive:
+            archive.writestr('a', HOSTILE)
+        content, size = held.getvalue(), struct.pack('<I', len(HOSTILE))
+        for told in (len(HOSTILE) - 1, len(HOSTILE) + 1):
+            changed = content.replace(size, struct.pack('<I', told))
+            self.assertEqual(content.count(size), 2)
+            found, = self.read([self.file('a.zip', changed)])
+            self.assertEqual([member['sum'] for member in found['members']], [f'it unpacks to another size than {told} bytes, which the archive tells'])
 
     def test_two_directories(self) -> None:
         """torch reads the directory that stands at the place which is told, and zipfile the one before the closing record."""
@@ -180,41 +197,31 @@ class Archives(unittest.TestCase):
         both = hidden + shown
         self.assertEqual((both[place:place + 4], both[len(hidden) + place:][:4]), (b'PK\1\2', b'PK\1\2'))
         between = hidden[:-42] + both[len(hidden):-42] + struct.pack('<4sIQI', b'PK\6\7', 0, record, 1) + both[-22:]
-        for name, data in (('behind.pt', both), ('records.pt', between)):
-            with self.subTest(name):
-                path = self.file(name, data)
-                found = self.read([path])[0]
-                self.assertEqual(found['members'][0]['sum'], sums(path)['a/data.pkl'])
-                self.assertIn('another directory', found['odd'])
+        for found in self.read([self.file('behind.pt', both), self.file('records.pt', between)]):
+            self.assertEqual((found['kind'], found['members']), ('zip', []))
+            self.assertTrue(found['why'].startswith('not in form: '), found['why'])
 
-    def test_what_the_directory_does_not_list(self) -> None:
-        """An archive whose closing record counts more, and one whose extra field is cut, is no silent one."""
+    def test_what_is_not_in_form(self) -> None:
+        """Readers may find other members there, so the page shows none."""
         short = bytearray(torch_like({'a': b'N.', 'b': HOSTILE}, False))
         at = short.rfind(b'PK\1\2')
         short[at:at + 4] = b'PK\0\0'
-        cut = bytearray(torch_like({'a': b'N.'}, True))
-        cut[cut.find(b'PK\1\2') + 30] = 6
-        none, lost = self.read([self.file('short.pt', bytes(short)), self.file('cut.pt', bytes(cut))])
-        self.assertEqual((none['count'], len(none['members']), none['isWhole']), (2, 1, False))
-        self.assertEqual(lost['members'][0]['sum'], 'the member is not where the directory says')
-
-
-    def opened(self, paths: List[Path]) -> List[Any]:
-        """What is in files that hold one thing: its name, and the sum of its bytes; or why there is nothing."""
-        done = subprocess.run(['node', '-e', _UNPACK, *map(str, SCRIPTS)], input='\n'.join(map(str, paths)), capture_output=True, text=True, timeout=300, check=False)
-        self.assertEqual(done.stderr, '')
-        found: List[Any] = json.loads(done.stdout)
-        return found
+        whole = torch_like({'a': b'N.'}, False)
+        for found in self.read([self.file(f'{number}.pt', content) for number, content in enumerate((bytes(short), whole + b'behind', b'PK\3\4', whole[:-1]))]):
+            self.assertEqual((found['kind'], found['members']), ('zip', []))
+            self.assertTrue(found['why'].startswith('not in form: '), found['why'])
 
     def test_what_is_packed(self) -> None:
         objects, numbers = (array_file(descr, HOSTILE) for descr in ("'|O'", "'<f8'"))
         files = {'a.pkl': HOSTILE, 'a.pkl.gz': gzip.compress(HOSTILE), 'a.pkl.z': zlib.compress(HOSTILE), 'b.zlib': zlib.compress(HOSTILE, 9), 'a.npy': objects,
                  'a.npy.gz': gzip.compress(objects), 'records.npy': array_file("[('a', '<i4'), ('b', '|O')]", HOSTILE)}
-        found = self.opened([self.file(name, data) for name, data in files.items()])
+        found = self.run_script(_UNPACK, [self.file(name, data) for name, data in files.items()])
         self.assertEqual([each[1] for each in found], [hashlib.sha256(HOSTILE).hexdigest()] * len(files))
         self.assertEqual([each[0].rpartition('/')[2] for each in found], ['a.pkl', 'a.pkl', 'a.pkl', 'b', 'a', 'a', 'records'])
-        why, = self.opened([self.file('numbers.npy', numbers)])
+        why, cut, twice = self.run_script(_UNPACK, [self.file('numbers.npy', numbers), self.file('cut.gz', gzip.compress(HOSTILE)[:-12]), self.file('two.gz', gzip.compress(HOSTILE) * 2)])
         self.assertEqual(why, 'an array of numpy that holds numbers: there is no pickle in it')
+        for each in (cut, twice):
+            self.assertTrue(each.startswith('a packed file that is not in form: '), each)
 
     def test_tar(self) -> None:
         """As tarfile writes them, with long names; and one that is cut."""
@@ -230,9 +237,9 @@ class Archives(unittest.TestCase):
             found, = self.read([self.file('a.tar', held.getvalue())])
             wanted = {name: hashlib.sha256(data).hexdigest() for name, data in members.items()}
             self.assertEqual({each['name']: each['sum'] for each in found['members'] if each['name'] != 'folder'}, wanted)
-            self.assertEqual((found['kind'], found['isWhole'], found['odd']), ('tar', True, ''))
+            self.assertEqual((found['kind'], found['why']), ('tar', ''))
             cut, = self.read([self.file('cut.tar', held.getvalue()[:1200])])
-            self.assertEqual((cut['isWhole'], cut['odd']), (False, 'it does not come to its end'))
+            self.assertEqual((cut['kind'], cut['members'], cut['why'][:12]), ('tar', [], 'not in form:'))
 
 
 class InThePage(InChromium):

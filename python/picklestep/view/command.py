@@ -13,7 +13,7 @@ import webbrowser
 from pathlib import Path
 from typing import Iterator, List, Optional
 
-from ..addresses import Opened, check_out, given, zip_behind
+from ..addresses import Opened, check_out, given, other_kinds
 from ..document import Document
 from ..errors import PicklestepError, ProgramError, reason
 from ..opens import is_at_server
@@ -131,7 +131,7 @@ def _reported(options: argparse.Namespace) -> Document:
     with Waiting() as waiting:
         document = Document(pickle, _name(options, found), options.many, waiting.progress, unframed=options.unframed)
     document.container = '' if found is None else found.path
-    document.said = zip_behind(options.file) if found is None else list(found.said)
+    document.said = other_kinds(options.file) if found is None else list(found.said)
     return document
 
 

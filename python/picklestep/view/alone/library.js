@@ -32,6 +32,27 @@ class Library {
       this.exports.give(at);
     }
   }
+
+  // What a function writes about an input. Where it has no room, it is asked once more, with as much as it needs.
+  answer(name, input) {
+    const written = this.take(SIZE_OF_WRITTEN);
+    const fill = (room) => this.withInput(input, (at, length) => {
+      const out = this.take(room), done = this.exports[name](at, length, out, BigInt(room), written), size = this.sizeAt(written);
+      if (done === NO_ROOM) {
+        this.exports.give(out);
+        return size;
+      }
+      if (done !== DONE) throw new Error(done === TOO_LARGE ? 'too large' : 'out of memory');
+      return this.bytes(out, size).slice();
+    });
+    const answer = fill(FIRST_ROOM);
+    return typeof answer === 'number' ? fill(answer) : answer;
+  }
+
+  // How many bytes were written, or would be.
+  sizeAt(written) {
+    return Number(new DataView(this.exports.memory.buffer).getBigUint64(Number(written), true));
+  }
 }
 
 // A session in an instance of its own, whose memory goes with it.
@@ -67,7 +88,7 @@ class Kept {
 
   // The bytes that were put into the room; where they have none there, they are asked for once more, with as much as they need.
   text(answer, again) {
-    const size = Number(new DataView(this.library.exports.memory.buffer).getBigUint64(Number(this.written), true));
+    const size = this.library.sizeAt(this.written);
     if (answer === NO_ROOM) {
       const out = this.library.take(size);
       this.library.exports.give(this.out);

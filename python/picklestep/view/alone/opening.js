@@ -197,9 +197,8 @@ async function loaded(load, story) {
 function showMembers({ members, more, said }) {
   by('members-note').textContent = said + (more ? `; the last ${more} are not shown` : '');
   by('members').replaceChildren(...members.map((member, number) => {
-    const made = element('li'), button = element('button', 'thing', `${plain(member.name)}  ${member.size.toLocaleString('en')} bytes ${member.note}`);
+    const made = element('li'), button = element('button', 'thing', `${plain(member.name)}  ${member.size.toLocaleString('en')} bytes`);
     button.type = 'button';
-    button.disabled = Boolean(member.note);
     button.addEventListener('click', () => { by('members-dialog').close(); loaded(() => command('member', { number })); });
     made.append(button);
     return made;

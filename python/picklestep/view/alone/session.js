@@ -98,7 +98,7 @@ class Session {
   }
 
   breaks() {
-    return this.ask('items').items.filter((item) => item.breakpoint).map((item) => item.place);
+    return this.ask('breaks').places;
   }
 
   // Edits, and answers the place.

@@ -67,15 +67,16 @@ function open(bytes, name, many, isWhole = false, isUnframed = false) {
   return after({ said: 'open' });
 }
 
-// Opens a pickle, or answers what a container holds.
+// Opens a pickle, or answers which members an archive has.
 async function load(bytes, name) {
-  const inner = await unzipped(bytes, name), directory = directoryOf(inner.bytes);
-  if (!directory) return open(inner.bytes, inner.name, false);
-  const { kind, members, odd } = directory;
-  page.archive = { bytes: inner.bytes, members };
-  const shown = members.slice(0, MOST_MEMBERS).map((member) => ({ name: member.name, size: member.size, note: member.note }));
-  const said = `a ${kind} archive with ${members.length} members${odd && `, and ${odd} (picklestep scan says what is odd)`}`;
-  return { said, members: shown, more: members.length - shown.length };
+  const { library } = page.program, inner = await unpacked(library, bytes, name), kind = archiveOf(inner.bytes);
+  if (!kind) return open(inner.bytes, inner.name, false);
+  const { members, why } = membersIn(library, inner.bytes), files = members.filter((member) => !member.name.endsWith('/'));
+  page.archive = { bytes: inner.bytes, members: files };
+  const shown = files.slice(0, MOST_MEMBERS).map(({ name: shownName, size }) => ({ name: shownName, size }));
+  const said = why ? `a ${kind} archive in which readers may find different members: picklestep scan looks at all of them (${why})`
+    : `a ${kind} archive with ${files.length} members`;
+  return { said, members: shown, more: files.length - shown.length };
 }
 
 function progress(text) {
