@@ -4,11 +4,11 @@ from __future__ import annotations
 
 import argparse
 import sys
-from typing import List
+from typing import Iterator, List
 
 from .addresses import check_out, given, saved
 from .errors import PicklestepError, reason
-from .mending import mended
+from .mending import Mended, Try, mended
 from .printing import print_text
 from .saving import is_same_file
 from .session import Session
@@ -27,6 +27,7 @@ def main(arguments: List[str]) -> int:
     parser.add_argument('out', metavar='OUT', nargs='?', help='write the result to this file, which cannot be FILE')
     parser.add_argument('--many', action='store_true', help='FILE has several pickles that follow one another')
     parser.add_argument('--save', metavar='OUT', help='the same as OUT')
+    parser.add_argument('--choose', metavar='N', type=int, help='take try N, and not the one that keeps most')
     options = parser.parse_args(arguments)
     if options.out is not None and options.save is not None:
         parser.error('OUT is given twice')
@@ -39,7 +40,8 @@ def main(arguments: List[str]) -> int:
         if out is not None:
             check_out(out, '' if found is None else found.path)
         with Waiting():
-            answer = mended(pickle, options.many)
+            answer = mended(pickle, options.many, options.choose)
+        print_text(''.join(f'{line}\n' for line in _tried(answer)))
         kept = (f'{answer.kept} bytes after STOP are not read (try --many)',) if answer.kept else ()
         print_text(''.join(f'{step}\n' for step in (*answer.steps, *kept)) or 'it is whole\n')
         if out is not None:
@@ -50,3 +52,22 @@ def main(arguments: List[str]) -> int:
         print(f'picklestep: {reason(error)}', file=sys.stderr)
         return 2
     return 1 if answer.steps or answer.kept else 0
+
+
+def _tried(answer: Mended) -> Iterator[str]:
+    """A line for each try, with what it keeps; none where there is no way but one."""
+    for number, each in enumerate(answer.tries, 1):
+        adds = f', adds {_lines(len(each.added))} of `calls`' if each.added else ''
+        yield f'try {number} keeps {each.opcodes} opcodes{adds}: {_edits(each)}'
+    if answer.tries:
+        changes = f' ({answer.changes} changes of a byte were tried)' if answer.changes else ''
+        yield f'try {answer.taken} is taken; --choose N takes another{changes}'
+
+
+def _edits(tried: Try) -> str:
+    first, *others = tried.steps
+    return f'{first}, and {len(others)} more edit{"s" if len(others) > 1 else ""}' if others else first
+
+
+def _lines(count: int) -> str:
+    return f'{count} lines' if count > 1 else '1 line'

@@ -1,8 +1,9 @@
 """What can be kept of a pickle that is cut off or damaged, as a pickle that reads to its STOP.
 
-Frames that do not fit are taken away, a protocol that there is not is replaced, bytes that are no opcodes are cut off, and a STOP is added. What was
-under way is closed as picklers close it: what stands above a mark goes into the list, set or dictionary below the mark, else into a tuple. Nothing is
-called, and no state is given, that the pickle had not called and given by then.
+`mending_tries` finds what a copy in text mode added, or one wrong byte. Where that keeps no more, what cannot be read is cut off. Frames that do not fit
+are taken away, a protocol that there is not is replaced, bytes that are no opcodes are cut off, and a STOP is added. What was under way is closed as
+picklers close it: what stands above a mark goes into the list, set or dictionary below the mark, else into a tuple. Nothing is called, and no state is
+given, that the pickle had not called and given by then.
 
 The edits are those of a session, so it is the proved program that makes them and says how the pickle ends.
 """
@@ -19,15 +20,16 @@ from .errors import PicklestepError, Refused
 from .hints import OF_FRAMES
 from .listed import FRAME_SIZE, fields_of
 from .listing_records import Object
+from .mending_tries import Try, byte_tries, opcodes_of, without_returns
 from .opcodes import BY_NAME
 from .program import run_program
 from .records import End
 from .session import Session
-from .session_records import Mark
+from .session_records import Item, Mark
 from .sources import Input, OwnFile, Source
 from .tasks import modes
 
-__all__ = ['Mended', 'TooCrooked', 'mended']
+__all__ = ['Mended', 'TooCrooked', 'Try', 'mended']
 
 # A pickle with more frames that do not fit, or more places to cut, is not mended.
 _MOST_ROUNDS = 200
@@ -40,6 +42,10 @@ _MOST_LOOKED_AT = 10_000
 # The refusal of a PROTO whose protocol is above the highest, the protocol that has this opcode, and its size.
 _OF_PROTOCOL = 'S6'
 _HIGHEST = 5
+# The faults of a pickle that ends after a whole opcode before its STOP, within an opcode, and within a frame.
+_ENDED, _TRUNCATED, _PAST_END = 'F1', 'F3', 'F7'
+# A pickle that ends within an opcode was likely cut off if no more bytes of the opcode are there.
+_MOST_OF_OPCODE = 9
 _OF_PROTO = 2
 _PROTO_SIZE = 2
 
@@ -49,21 +55,42 @@ _TUPLES = {2: 'TUPLE2', 3: 'TUPLE3'}
 
 
 class TooCrooked(PicklestepError):
-    """A pickle with so many faults that nothing is mended."""
+    """A pickle with so many faults that nothing is mended.
+
+    >>> import picklestep
+    >>> picklestep.mended(b'N' + b'\\x95\\xff\\xff\\0\\0\\0\\0\\0\\0' * 300)
+    Traceback (most recent call last):
+     ...
+    picklestep.mending.TooCrooked: it has more than 200 faults
+    """
 
 
 @dataclass(frozen=True)
 class Mended:
     """A pickle that reads to its STOP, and what was done to it, a line each. There are none where it was whole. `kept` is how many bytes come after
-    its STOP, which stay as they are and were not read."""
+    its STOP, which stay as they are and were not read.
+
+    Where something else than to cut the pickle off keeps a part of it, `tries` has what each way keeps, and `taken` is the number of the one that was
+    taken, from 1. `changes` is how many changes of a byte were made to find them.
+
+    >>> import picklestep
+    >>> picklestep.mended(b']K\\x01a').steps
+    ('4: STOP added: F1 ended at 4',)
+    """
 
     content: bytes
     steps: Tuple[str, ...]
     kept: int = 0
+    tries: Tuple[Try, ...] = ()
+    taken: int = 0
+    changes: int = 0
 
 
-def mended(source: Source, many: bool = False) -> Mended:
-    """What can be kept of a pickle; with `many`, of several pickles one after another.
+def mended(source: Source, many: bool = False, choose: Optional[int] = None) -> Mended:
+    """What can be kept of a pickle; with `many`, of several pickles one after another. Nothing of it is run.
+
+    Of all tries the one is taken that keeps most opcodes, but none with a changed byte that adds an import or a call. `choose` is the number of another.
+    Raises PicklestepError where there is no such try, and where the pickle has too many faults.
 
     >>> made = mended(b'\\x80\\x04\\x95\\x40\\0\\0\\0\\0\\0\\0\\0]\\x94(K\\x01K\\x02M')
     >>> made.content
@@ -76,7 +103,52 @@ def mended(source: Source, many: bool = False) -> Mended:
     9: APPENDS added: 2 objects into list #0
     """
     content = content_in(source)
-    steps: List[str] = []
+    end, _ = _ending(content, many)
+    tries, changes = ([], 0) if end.code in (None, _OF_PROTOCOL) else _tries(content, many, end)
+    if choose is None or end.code is None:
+        taken = next((number for number, each in enumerate(tries, 1) if not each.added), 0)
+    elif 0 < choose <= len(tries):
+        taken = choose
+    else:
+        raise PicklestepError(f'there is no try {choose}')
+    if taken:
+        chosen = tries[taken - 1]
+        return Mended(chosen.content, chosen.steps, chosen.kept, tuple(tries), taken, changes)
+    return _mended_by_cutting(content, many)
+
+
+def _tries(content: bytes, many: bool, end: End) -> Tuple[List[Try], int]:
+    """Ways to mend what reads to an end, the best one first, and how many changes of a byte were made. None where there is no way but to cut it off."""
+    plain: Optional[Try] = None
+    found: List[Try] = []
+    changes, less = 0, without_returns(content)
+    if less is not None:
+        plain, other = _by_cutting(content, many), _by_cutting(less[0], many, less[1])
+        found = [other] if other.opcodes > plain.opcodes else []
+    if not (found or _is_no_damage(content, many, end)):
+        found, changes = byte_tries(content, many, end)
+    if not found:
+        return [], changes
+    plain = plain or _by_cutting(content, many)
+    better = [each for each in found if each.opcodes >= plain.opcodes]
+    # (the sort keeps the order of equal ones: what changes no byte comes first)
+    return sorted([plain, *better], key=lambda each: -each.opcodes) if better else [], changes
+
+
+def _is_no_damage(content: bytes, many: bool, end: End) -> bool:
+    """Whether a pickle was likely cut off, or is one of several by a pickler that keeps its memo: it is refused where objects of earlier ones come."""
+    is_short = end.code == _TRUNCATED and len(content) - (end.offset or 0) <= _MOST_OF_OPCODE
+    return end.code in (_ENDED, _PAST_END) or is_short or many and end.how == 'refused'
+
+
+def _by_cutting(content: bytes, many: bool, *before: str) -> Try:
+    made = _mended_by_cutting(content, many, *before)
+    return Try(made.content, made.steps, opcodes_of(made.content, many), kept=made.kept)
+
+
+def _mended_by_cutting(content: bytes, many: bool, *before: str) -> Mended:
+    """The pickle without what cannot be read, after these steps."""
+    steps = list(before)
     is_cut = False
     for _ in range(_MOST_ROUNDS):
         end, read = _ending(content, many)
@@ -147,7 +219,7 @@ def _closed(content: bytes, many: bool, steps: List[str]) -> bytes:
     """A pickle that ends in NONE and STOP which were added, with what was under way closed."""
     with Session(content, many=many) as session:
         session.goto(session.where().places - 2)
-        closing = _Closing(session, steps)
+        closing = _Closing(session, many, steps)
         if closing.close():
             closing.script.append(f'delete {closing.place}')
     with Input(content) as given, OwnFile(is_saved_to=True) as made:
@@ -162,9 +234,10 @@ def _closed(content: bytes, many: bool, steps: List[str]) -> bytes:
 class _Closing:
     """Closes what is under way before the NONE at the cursor. `script` has the edits, as lines of a session: there may be as many as open marks."""
 
-    def __init__(self, session: Session, steps: List[str]) -> None:
+    def __init__(self, session: Session, many: bool, steps: List[str]) -> None:
         where = session.where()
         self.session = session
+        self._many = many
         self.script: List[str] = []
         # The place of the NONE as the session has it, and with the edits.
         self._begin = self.place = where.place
@@ -237,14 +310,21 @@ class _Closing:
         if count in _TUPLES:
             self._add(_TUPLES[count], f'{_objects(count)} on the stack')
             return
-        items = self.session.items()
-        first = next((at for at in range(self._begin, 0, -1) if items[at - 1].name == 'STOP'), 0)  # (of several pickles the last one)
-        first += items[first].name == 'PROTO'
-        self.script.append(f'insert {first} MARK')
+        first = self._first()
+        self.script.append(f'insert {first.place} MARK')
         self.place += 1
         self._offset += 1
-        self.steps.append(f'{items[first].offset}: MARK added')
+        self.steps.append(f'{first.offset}: MARK added')
         self._add('TUPLE', f'{_objects(count)} on the stack')
+
+    def _first(self) -> Item:
+        """The first opcode of the pickle that makes something: that behind PROTO. (Of several pickles the last one is under way.)"""
+        begin = 0
+        if self._many:
+            items = self.session.items(0, self._begin)
+            begin = next((at for at in range(self._begin, 0, -1) if items[at - 1].name == 'STOP'), 0)
+        first, second = self.session.items(begin, begin + 2)
+        return second if first.name == 'PROTO' else first
 
     # --- Edits and objects ---
 

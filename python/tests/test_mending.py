@@ -28,6 +28,7 @@ from examples_of_pages import stories
 from pickles import chosen, real_pickles
 from picklestep import mending
 from picklestep.mending import Mended, TooCrooked, mended
+from picklestep.tasks import frames
 from scan_support import environment
 
 _FILLS = ('append ', 'set ', 'add ')
@@ -214,8 +215,125 @@ class Crooked(unittest.TestCase):
             mended(b'N' + b'\x95\xff\xff\0\0\0\0\0\0' * 300)
 
 
+class Damaged(unittest.TestCase):
+    """Files that were cut off, copied in text mode, or have a wrong byte: what is kept of each."""
+
+    VALUE: Any = {'user': 'ana', 'jobs': [0, 1, 2, 3], 'size': (2.5, None), 'more': {'a': {7}, 'b': b'xyz'}}
+    WHOLE = (b'\x80\x04\x95W\0\0\0\0\0\0\0}\x94(\x8c\x04user\x94\x8c\x03ana\x94\x8c\x04jobs\x94]\x94(K\0K\1K\2K\3e\x8c\x04size\x94G@\x04\0\0\0\0\0\0N\x86\x94'
+             b'\x8c\x04more\x94}\x94(\x8c\x01a\x94\x8f\x94(K\x07\x90\x8c\x01b\x94C\x03xyz\x94uu.')
+    # What Python 2.7 writes of a dictionary.
+    OLD = b"(dp0\nS'user'\np1\nS'andr\\xe9'\np2\nsS'jobs'\np3\n(lp4\nI0\naI1\nasS'big'\np5\nL12L\ns."
+    OLD_VALUE: Any = {'user': 'andr\xe9', 'jobs': [0, 1], 'big': 12}
+
+    def test_eleven_cuts(self) -> None:
+        user, jobs = {'user': 'ana'}, {'user': 'ana', 'jobs': [0, 1, 2, 3]}
+        size: Any = {**jobs, 'size': (2.5, None)}
+        for cut, kept in ((0, None), (10, None), (20, {}), (30, user), (40, {**user, 'jobs': [0]}), (50, jobs), (60, jobs), (70, size),
+                          (80, {**size, 'more': {'a': set()}}), (90, {**size, 'more': {'a': {7}}}), (97, self.VALUE)):
+            answer = mended(self.WHOLE[:cut])
+            self.assertEqual((pickle.loads(answer.content), answer.tries), (kept, ()), cut)
+
+    def test_eight_flipped_bytes(self) -> None:
+        """All bits are changed: of PROTO, FRAME, a mark, a length, an opcode with a number, one with a text, EMPTY_SET and a STOP."""
+        for at in (0, 2, 13, 22, 41, 46, 79, 97):
+            damaged = self.with_byte(self.WHOLE, at, self.WHOLE[at] ^ 0xff)
+            answer = mended(damaged)
+            self.assertEqual(pickle.loads(answer.content), self.VALUE)
+            if at < 97:
+                self.assertEqual(answer.content, self.WHOLE)
+                said = f'{at}: byte 0x{damaged[at]:02x} replaced by 0x{self.WHOLE[at]:02x}: '
+                self.assertTrue(answer.steps[0].startswith(said), answer.steps)
+                self.assertEqual((len(answer.steps), answer.taken), (1, 1))
+
+    def with_byte(self, content: bytes, at: int, value: int) -> bytes:
+        return content[:at] + bytes([value]) + content[at + 1:]
+
+    def test_a_copy_in_text_mode(self) -> None:
+        for protocol in range(5):
+            whole = pickle.dumps([self.VALUE, 10, 'two\nlines'], protocol)
+            copied = whole.replace(b'\n', b'\r\n')
+            answer = mended(copied)
+            self.assertEqual(answer.content, whole)
+            self.assertEqual(len(answer.steps), 1)
+            self.assertIn(f'{whole.count(10)} carriage returns (0x0d) taken away: ', answer.steps[0])
+            self.assertEqual(pickle.loads(mended(copied[:-1]).content), pickle.loads(whole))
+            self.assertEqual(mended(copied * 2, True).content, whole * 2)
+        for data in (pickle.dumps('a\r\n', 4), pickle.dumps('a\r\n', 0), b'U\2\r\n.'):
+            self.assertEqual(mended(data), Mended(data, ()))
+
+    def test_a_pickle_of_python_2(self) -> None:
+        for at in (0, 1, 5, 41, 45):
+            self.assertEqual(mended(self.with_byte(self.OLD, at, 0xff)).content, self.OLD, at)
+        self.assertEqual(mended(self.OLD.replace(b'\n', b'\r\n')).content, self.OLD)
+        for cut, kept in ((10, {}), (25, ({}, 'user')), (60, {'user': 'andr\xe9', 'jobs': [0, 1]}), (len(self.OLD) - 1, self.OLD_VALUE)):
+            self.assertEqual(pickle.loads(mended(self.OLD[:cut]).content, encoding='latin1'), kept, cut)
+
+    def test_nothing_more_is_reached(self) -> None:
+        """A try that imports or calls is told, and taken only where it is chosen. What is taken by itself reaches no more than the damaged one where its
+        frames are ignored."""
+        whole = pickle.dumps([datetime.date(2020, 1, 2), 3], 2)
+        damaged = self.with_byte(whole, 2, 0xff)
+        answer = mended(damaged)
+        self.assertEqual((pickle.loads(answer.content), reaches(answer.content)), (None, []))
+        first, cut = answer.tries
+        self.assertEqual((first.content, list(first.added), answer.taken), (whole, reaches(whole), 2))
+        self.assertEqual((cut.content, cut.steps), (answer.content, answer.steps))
+        self.assertEqual((mended(damaged, choose=1).content, mended(damaged, choose=2)), (whole, answer))
+        for number in (0, 3, -1):
+            with self.assertRaisesRegex(picklestep.PicklestepError, f'there is no try {number}'):
+                mended(damaged, choose=number)
+        random.seed(4)
+        for data in (pickle.dumps(value, protocol) for value in VALUES for protocol in (0, 2, 4)):
+            for at in random.sample(range(len(data)), chosen(range(3), 1)[-1] + 1):
+                damaged = self.with_byte(data, at, random.randrange(256))
+                if not picklestep.listing(damaged).end.is_stopped:
+                    made = mended(damaged)
+                    new = [text for text in reaches(made.content) if not text.startswith(_FILLS)]
+                    old = [reach.text for reach in picklestep.calls(damaged, skip=frames(damaged))]
+                    self.assertFalse(Counter(new) - Counter(old), (damaged, made.steps))
+                    self.assertTrue(picklestep.listing(made.content).end.is_stopped)
+
+    def test_another_try(self) -> None:
+        """Each of the tries reads to its STOP, and the best comes first."""
+        damaged = self.with_byte(self.WHOLE, 71, 0xff)
+        answer = mended(damaged)
+        self.assertEqual((answer.content, answer.taken), (self.WHOLE, 1))
+        self.assertGreater(len(answer.tries), 2)
+        self.assertEqual([each.opcodes for each in answer.tries], sorted((len(picklestep.listing(each.content)) for each in answer.tries), reverse=True))
+        for number, each in enumerate(answer.tries, 1):
+            chosen_one = mended(damaged, choose=number)
+            self.assertEqual((chosen_one.content, chosen_one.steps, chosen_one.tries), (each.content, each.steps, answer.tries))
+
+    def test_a_large_one(self) -> None:
+        """A length that is wrong in a pickle of a megabyte, and a damage in its middle."""
+        whole = pickle.dumps([{'id': number, 'name': f'user{number}', 'tags': ['a', 'b', number]} for number in range(20_000)], 4)
+        begun = time.process_time()
+        for at in (whole.index(b'user150') - 1, whole.index(b'M\x10\x27')):
+            self.assertEqual(mended(self.with_byte(whole, at, 0xff)).content, whole)
+        self.assertLess(time.process_time() - begun, 60)
+
+
 class Words(unittest.TestCase):
     """`picklestep mend`."""
+
+    def test_tries(self) -> None:
+        """They are printed with what they keep, and `--choose` takes one."""
+        whole = pickle.dumps([datetime.date(2020, 1, 2), 3], 2)
+        with tempfile.TemporaryDirectory() as folder:
+            def run(*words: str) -> 'subprocess.CompletedProcess[str]':
+                return subprocess.run([sys.executable, '-m', 'picklestep', 'mend', *words], cwd=folder, env=environment(), capture_output=True,
+                                      text=True, timeout=300)
+            Path(folder, 'damaged').write_bytes(whole[:2] + b'\xff' + whole[3:])
+            done = run('damaged')
+            first, second, taken, *steps = done.stdout.splitlines()
+            self.assertEqual((done.returncode, first), (1, f'try 1 keeps {len(picklestep.listing(whole))} opcodes, adds 4 lines of `calls`: '
+                                                           '2: byte 0xff replaced by 0x5d: F2 unknown opcode 0xff at 2'))
+            self.assertEqual(second, f'try 2 keeps 3 opcodes: {steps[0]}, and 2 more edits')
+            self.assertRegex(taken, r'^try 2 is taken; --choose N takes another \([0-9]+ changes of a byte were tried\)$')
+            done = run('damaged', 'out', '--choose', '1')
+            self.assertEqual((done.returncode, Path(folder, 'out').read_bytes()), (1, whole))
+            done = run('damaged', 'none', '--choose', '3')
+            self.assertEqual((done.returncode, done.stderr, Path(folder, 'none').exists()), (2, 'picklestep: there is no try 3\n', False))
 
     def test_the_example_of_the_page(self) -> None:
         """The pickle of the story of the shell loads to what had been built."""
