@@ -11,11 +11,13 @@ What is public is imported when it is first used: the entrance starts faster, an
 
 __version__ = '1.1.0'
 
-__all__ = ['Again', 'Answer', 'Argument', 'Brief', 'Briefs', 'Call', 'Calls', 'Change', 'Difference', 'End', 'Extension', 'FoundPickle', 'FoundPickles',
-           'GateAnswer', 'Global', 'Heap', 'Item', 'Items', 'Listing', 'Mark', 'Member', 'MemoSize', 'Name', 'NoResult', 'NotAllowed', 'NotAssembled', 'NotConverted', 'NotOpened', 'NotRenamed', 'Object', 'Objects',
-           'Opcode', 'OtherForm', 'OutOfMemory', 'Part', 'PathSize', 'PicklestepError', 'PlainValue', 'ProgramError', 'PythonSource', 'Ran', 'Reach', 'ReachAnswer', 'Reached', 'Ref',
-           'Refused', 'Renamed', 'RenamedImport', 'Saving', 'Session', 'Shown', 'ShownObjects', 'Sized', 'Sizes', 'TimedOut', 'TooLarge', 'Value', 'Where', 'assemble', 'calls', 'check', 'compare', 'convert', 'form', 'gate',
-           'listing', 'members', 'objects', 'optimize', 'pickles_in', 'reach', 'rename', 'size', 'source', 'tree']
+__all__ = ['Again', 'Answer', 'Argument', 'Brief', 'Briefs', 'Call', 'Calls', 'Change', 'Changed', 'Difference', 'End', 'Extension', 'FoundPickle',
+           'FoundPickles', 'GateAnswer', 'Global', 'Heap', 'Item', 'Items', 'Listing', 'Mark', 'Member', 'MemoSize', 'Mended', 'Name', 'NoResult',
+           'NotAllowed', 'NotAssembled', 'NotConverted', 'NotOpened', 'NotRenamed', 'Object', 'Objects', 'Opcode', 'OtherForm', 'OutOfMemory', 'Part',
+           'PathSize', 'PicklestepError', 'PlainValue', 'ProgramError', 'PythonSource', 'Ran', 'Reach', 'ReachAnswer', 'Reached', 'Ref', 'Refused',
+           'Renamed', 'RenamedImport', 'SameAnswer', 'Saving', 'Session', 'Shown', 'ShownObjects', 'Sized', 'Sizes', 'Step', 'Stored', 'TimedOut',
+           'TooCrooked', 'TooLarge', 'Try', 'Value', 'Where', 'assemble', 'calls', 'check', 'compare', 'convert', 'form', 'gate', 'listing', 'members',
+           'mended', 'objects', 'optimize', 'pickles_in', 'reach', 'rename', 'same', 'size', 'source', 'tree']
 
 TYPE_CHECKING = False  # (`typing` would be an import)
 if TYPE_CHECKING:
@@ -27,16 +29,18 @@ if TYPE_CHECKING:
     from .converting import convert
     from .errors import NoResult, NotAllowed, NotAssembled, NotConverted, NotOpened, NotRenamed, OutOfMemory, PicklestepError, ProgramError, Refused, TimedOut, TooLarge
     from .listing_records import Change, Object, Opcode
+    from .mending import Mended, TooCrooked, Try, mended
     from .optimizing import optimize
     from .python_source import PythonSource, source
     from .records import Argument, Brief, Briefs, End, Extension, Global, Name, Reach, Ref, Value
     from .renaming.one import Renamed, RenamedImport, rename
+    from .sameness import same
     from .scan.checking import check
     from .scan.gating import gate
     from .session import Session
     from .session_answers import Heap, Items, ShownObjects
-    from .session_records import Item, Mark, Ran, Shown, Where
-    from .short_records import GateAnswer, Member, OtherForm, ReachAnswer
+    from .session_records import Changed, Item, Mark, Ran, Shown, Step, Stored, Where
+    from .short_records import GateAnswer, Member, OtherForm, ReachAnswer, SameAnswer
     from .sizing import Again, MemoSize, PathSize, Saving, Sized, Sizes, size
     from .tasks import calls, form, listing, members, objects, reach
     from .trees import Call, tree
@@ -52,16 +56,18 @@ _MODULES = {
     'converting': ('convert',),
     'errors': ('NoResult', 'NotAllowed', 'NotAssembled', 'NotConverted', 'NotOpened', 'NotRenamed', 'OutOfMemory', 'PicklestepError', 'ProgramError', 'Refused', 'TimedOut', 'TooLarge'),
     'listing_records': ('Change', 'Object', 'Opcode'),
+    'mending': ('Mended', 'TooCrooked', 'Try', 'mended'),
     'optimizing': ('optimize',),
     'python_source': ('PythonSource', 'source'),
     'records': ('Argument', 'Brief', 'Briefs', 'End', 'Extension', 'Global', 'Name', 'Reach', 'Ref', 'Value'),
     'renaming.one': ('Renamed', 'RenamedImport', 'rename'),
+    'sameness': ('same',),
     'scan.checking': ('check',),
     'scan.gating': ('gate',),
     'session': ('Session',),
     'session_answers': ('Heap', 'Items', 'ShownObjects'),
-    'session_records': ('Item', 'Mark', 'Ran', 'Shown', 'Where'),
-    'short_records': ('GateAnswer', 'Member', 'OtherForm', 'ReachAnswer'),
+    'session_records': ('Changed', 'Item', 'Mark', 'Ran', 'Shown', 'Step', 'Stored', 'Where'),
+    'short_records': ('GateAnswer', 'Member', 'OtherForm', 'ReachAnswer', 'SameAnswer'),
     'sizing': ('Again', 'MemoSize', 'PathSize', 'Saving', 'Sized', 'Sizes', 'size'),
     'tasks': ('calls', 'form', 'listing', 'members', 'objects', 'reach'),
     'trees': ('Call', 'tree'),

@@ -5,6 +5,7 @@ The readers are those of `scan`, which are imported where there is something to 
 
 from __future__ import annotations
 
+import contextlib
 import os
 import shlex
 import sys
@@ -13,7 +14,7 @@ from importlib import import_module
 from typing import TYPE_CHECKING, Any, List, Optional, Sequence, Tuple, Union, overload
 
 from .errors import NotOpened, PicklestepError
-from .opens import BETWEEN, begins_gated, has_zip_behind, holds_others, is_at_server, is_gated_whole, may_have_arrays, split
+from .opens import BETWEEN, begins_gated, begins_unlike_pickle, has_zip_behind, holds_others, is_at_server, is_gated_whole, lists_members, may_have_arrays, split
 from .sources import Source, content_of, is_opened
 from .wording import shown
 
@@ -21,13 +22,15 @@ if TYPE_CHECKING:
     from .scan.finder import Finding, Found
 
 __all__ = ['FoundPickle', 'FoundPickles', 'Opened', 'arrays_of', 'bytes_at', 'check_out', 'content_in', 'ends_early', 'gated', 'given', 'holes_of', 'is_in', 'left_out', 'opened',
-           'opened_in', 'pickles_in', 'quoted', 'ranges', 'said_of', 'saved', 'zip_behind']
+           'opened_in', 'other_kinds', 'pickles_in', 'quoted', 'ranges', 'said_of', 'saved', 'unlisted', 'what_else']
 
 # So many addresses are shown, and so many lines of what was not looked at.
 _MOST_SHOWN = 100
 _MOST_MISSED = 5
 # So many ranges of bytes that are left out are named.
 _MOST_RANGES = 3
+# So many bytes show of which kind a file is that nothing opens.
+_HEAD = 2048
 
 
 @dataclass(frozen=True)
@@ -337,10 +340,10 @@ def left_out(address: str, skip: Sequence[Tuple[int, int]], of_objects: int = 0)
     return lines
 
 
-def ends_early(found: Opened) -> str:
-    """What is said of a pickle whose reading ends at its first array, where no bytes are left out."""
-    return (f'its opcodes end at {found.skip[0][0]}, where the numbers of an array begin: picklestep calls {quoted(found.address)} reads on behind '
-            'them')
+def ends_early(address: str, skip: Sequence[Tuple[int, int]], task: str = '') -> List[str]:
+    """What is said where a word, which the task names, does not leave these bytes out: it ends at the first of them, if not before."""
+    further = f'picklestep scan --allow LIST {quoted(address)} judges the rest' if task == 'gate' else f'picklestep calls {quoted(address)} reads on behind them'
+    return [f'the numbers of an array begin at {skip[0][0]}, and nothing from there on is read: {further}'] if skip else []
 
 
 def ranges(skip: Sequence[Tuple[int, int]]) -> str:
@@ -352,10 +355,51 @@ def ranges(skip: Sequence[Tuple[int, int]]) -> str:
     return ' '.join([*(f'--skip {offset}:{size}' for offset, size in skip[:_MOST_RANGES]), *(['..'] if len(skip) > _MOST_RANGES else [])])
 
 
+# --- What a word does not read ---
+
+def what_else(path: str, task: str = '') -> List[str]:
+    """What a file has or is besides what a word reads, which the task names and which takes the file as it is, a line each. (`calls` leaves arrays out.
+    Whoever reads a file that cannot be read says so.)"""
+    lines = other_kinds(path)
+    with contextlib.suppress(OSError):
+        lines += ends_early(path, holes_of(path), task)
+    return lines
+
+
+def other_kinds(path: str) -> List[str]:
+    """What else a file is that is read as a pickle: of a kind that nothing here opens, by its first bytes, or a zip archive too, by its last ones."""
+    kind = _kind_of(path) if begins_unlike_pickle(path) else None
+    lines = [f'{shown(path)} begins like {kind}, which is not opened here'] if kind is not None else []
+    if has_zip_behind(path):
+        lines.append(f'a zip archive stands at the end of {shown(path)}, which some loaders open; the pickle at its beginning is read: '
+                     f'picklestep scan {quoted(path)} looks into both')
+    return lines
+
+
+def unlisted(path: str) -> List[str]:
+    """What is said of a file whose members `members` cannot list, as it is of another kind."""
+    if lists_members(path):
+        return []
+    kind = _kind_of(path, is_opened=True)
+    begins = 'begins like none of these' if kind is None else f'begins like {kind}'
+    return [f'members reads zip, tar, gzip and zlib, and {shown(path)} {begins}: picklestep scan {quoted(path)} looks into more kinds']
+
+
+def _kind_of(path: str, is_opened: bool = False) -> Optional[str]:
+    """What a file begins like that nothing here opens, or also what `scan` opens."""
+    with contextlib.suppress(OSError), open(path, 'rb') as file:
+        head = file.read(_HEAD)
+        opened = import_module('picklestep.scan.containers').kind_by_sign(head) if is_opened else None
+        kind: Optional[str] = opened.name if opened is not None else import_module('picklestep.unread').kind_of_long(head)
+        return kind
+    return None
+
+
 # --- Words of the command line ---
 
 def given(word: str) -> 'Tuple[Source, Optional[Opened]]':
-    """What a word of the package reads: the file, or the bytes that are opened in it, which is said on standard error. Raises NotOpened."""
+    """What a word of the package reads: the file, or the bytes that are opened in it. What it does not read is said on standard error. Raises
+    NotOpened."""
     found = opened(word)
     for line in said_of(word, found):
         print(line if line.startswith('  ') else f'picklestep: {line}', file=sys.stderr)
@@ -363,17 +407,9 @@ def given(word: str) -> 'Tuple[Source, Optional[Opened]]':
     return source, found
 
 
-def said_of(word: str, found: Optional[Opened]) -> List[str]:
-    """What is said of what a word reads, a line each."""
-    return zip_behind(word) if found is None else [*found.said, *([ends_early(found)] if found.skip else [])]
-
-
-def zip_behind(word: str) -> List[str]:
-    """That a file which is read as a pickle ends as a zip archive, if it does."""
-    if not has_zip_behind(word):
-        return []
-    return [f'a zip archive stands at the end of {shown(word)}, which some loaders open; the pickle at its beginning is read: '
-            f'picklestep scan {quoted(word)} looks into both']
+def said_of(word: str, found: Optional[Opened], task: str = '') -> List[str]:
+    """What is said of what a word reads, which the task names, a line each."""
+    return what_else(word, task) if found is None else [*found.said, *ends_early(found.address, found.skip, task)]
 
 
 def is_in(path: str, container: str) -> bool:

@@ -34,6 +34,10 @@ def inside(value: Any) -> List[Any]:
     return [value.module, value.name] if isinstance(value, Global) else list(value)
 
 
+# A container, with all that it holds.
+_Held = Tuple[Any, List[Any]]
+
+
 class Labels:
     """Labels of values: two values have the same one where they are alike. (Where they hold themselves, perhaps also where they differ deep inside.)
 
@@ -102,16 +106,17 @@ class Labels:
         """Labels a container and all in it, those first that hold no others. (Tarjan's way to find which hold one another.)"""
         order: Dict[int, int] = {}
         lowest: Dict[int, int] = {}
-        waiting: List[Any] = []
+        waiting: List[_Held] = []
         path: List[Tuple[Any, Iterator[Any]]] = []
 
         def enter(value: Any) -> bool:
-            unknown = [part for part in map(values.of, inside(value)) if type(part) not in _PLAIN and _has_inside(part) and id(part) not in self._known]
+            parts = list(map(values.of, inside(value)))
+            unknown = [part for part in parts if type(part) not in _PLAIN and _has_inside(part) and id(part) not in self._known]
             if not unknown:
-                self._known[id(value)] = self._of_container(values, value, {})
+                self._known[id(value)] = self._of_container(value, parts, {})
                 return False
             order[id(value)] = lowest[id(value)] = len(order)
-            waiting.append(value)
+            waiting.append((value, parts))
             path.append((value, iter(unknown)))
             return True
         enter(first)
@@ -130,29 +135,27 @@ class Labels:
                     holder = id(path[-1][0])
                     lowest[holder] = min(lowest[holder], lowest[id(value)])
                 if lowest[id(value)] == order[id(value)]:
-                    at = next(at for at in range(len(waiting) - 1, -1, -1) if waiting[at] is value)
-                    self._settle(values, waiting[at:])
+                    at = next(at for at in range(len(waiting) - 1, -1, -1) if waiting[at][0] is value)
+                    self._settle(waiting[at:])
                     del waiting[at:]
 
-    def _settle(self, values: Values, together: List[Any]) -> None:
+    def _settle(self, together: List[_Held]) -> None:
         """Labels containers that hold one another, or one alone."""
-        if len(together) == 1 and all(values.of(part) is not together[0] for part in inside(together[0])):
-            self._known[id(together[0])] = self._of_container(values, together[0], {})
+        first, held = together[0]
+        if len(together) == 1 and all(part is not first for part in held):
+            self._known[id(first)] = self._of_container(first, held, {})
             return
-        found = dict.fromkeys(map(id, together), self._label(('holds itself',), is_exact=False))
+        found = {id(value): self._label(('holds itself',), is_exact=False) for value, _ in together}
         for _ in range(_LEVELS):
-            found = {id(value): self._of_container(values, value, found) for value in together}
+            found = {id(value): self._of_container(value, held, found) for value, held in together}
         self._known.update(found)
 
-    def _of_container(self, values: Values, value: Any, found: Dict[int, int]) -> int:
+    def _of_container(self, value: Any, held: List[Any], found: Dict[int, int]) -> int:
         """The label of a container by those of what it holds, some of which are only found for now."""
         parts = []
-        for part in map(values.of, inside(value)):
-            if type(part) in _PLAIN or not _has_inside(part):
-                parts.append(self._of_plain(part))
-            else:
-                label = found.get(id(part))
-                parts.append(self._known[id(part)] if label is None else label)
+        for part in held:
+            label = self._texts.get(part) if type(part) is str else found.get(id(part), self._known.get(id(part)))
+            parts.append(self._of_plain(part) if label is None else label)
         kind = type(value)
         is_exact = self._inexact.isdisjoint(parts)
         if kind is Call:

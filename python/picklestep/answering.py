@@ -19,7 +19,7 @@ from typing import Iterator, List, Optional, Sequence, Tuple
 from .entrance import explains, gathers, saves
 from .errors import PicklestepError, reason
 from .hints import Watch
-from .opens import has_zip_behind, is_gated_whole, is_taken_apart, may_have_arrays, split
+from .opens import has_more, has_zip_behind, is_gated_whole, is_taken_apart, may_have_arrays, split
 from .place import NOT_FOR_NODE, find_program, program_words
 from .waiting import Waiting
 from .wording import shown
@@ -27,7 +27,6 @@ from .wording import shown
 __all__ = ['main']
 
 _BLOCK = 1 << 16
-_HEAD = 1 << 10
 # Options of the program whose value is a word of its own.
 _WITH_VALUES = ('--memo', '--save', '--skip', '--window')
 # Words that are about the bytes of a file, whatever these hold.
@@ -84,21 +83,18 @@ def _run(given: _Given) -> int:
     if watch is None and status != 2:  # (the program had written all before its reader left)
         return _complain('cannot write')
     hints = () if watch is None else watch.hints_of_frames if given.leaves_out else watch.hints
-    for why in _unread(given.words[1:]) if status == 2 else (*hints, *(_kinds(given) if status and is_watched else ())):
+    for why in _unread(given.words[1:]) if status == 2 else (*hints, *(_unlisted(given.words) if status else ())):
         _complain(why)
     return status
 
 
-def _kinds(given: _Given) -> Iterator[str]:
-    """What a file begins like that nothing here opens."""
-    at = _place_of_file(given.words)
-    if at is None or given.said or not os.path.isfile(given.words[at]):
-        return
-    from .unread import kind_of_long
-    with contextlib.suppress(OSError), open(given.words[at], 'rb') as file:
-        kind = kind_of_long(file.read(_HEAD))
-        if kind is not None:
-            yield f'{shown(given.words[at])} begins like {kind}, which is not opened here'
+def _unlisted(words: List[str]) -> List[str]:
+    """Why `members` lists nothing: the file is of another kind."""
+    at = _place_of_file(words)
+    if words[0] != 'members' or at is None:
+        return []
+    from .addresses import unlisted
+    return unlisted(words[at])
 
 
 def _complain(text: str) -> int:
@@ -135,6 +131,8 @@ def _given(words: List[str], held: contextlib.ExitStack) -> _Given:
         check_out(out, '' if parts is None else parts[0])
     if words[0] == 'gate':
         return _gated(words, held)
+    if words[0] == 'same':
+        return _compared(words, held)
     if words[0] in _OF_BYTES and at is not None and parts is not None:
         return _at_address(words, at, held)
     if at is None or words[0] in _OF_BYTES:
@@ -143,7 +141,7 @@ def _given(words: List[str], held: contextlib.ExitStack) -> _Given:
         given = _opened(words, at, held)
         if given is not None:
             return given
-    return _beside(words, words[at], held) if words[0] == 'calls' else _Given(words)
+    return _beside(words, words[at], held)
 
 
 def _opened(words: List[str], at: int, held: contextlib.ExitStack) -> Optional[_Given]:
@@ -161,7 +159,7 @@ def _opened(words: List[str], at: int, held: contextlib.ExitStack) -> Optional[_
         return made
     if words[0] == 'calls':
         return made.without(found.skip, held, addresses.left_out(found.address, found.skip))
-    return _Given(made.words, said=(*made.said, addresses.ends_early(found)))
+    return _Given(made.words, said=(*made.said, *addresses.ends_early(found.address, found.skip)))
 
 
 def _gated(words: List[str], held: contextlib.ExitStack) -> _Given:
@@ -172,15 +170,28 @@ def _gated(words: List[str], held: contextlib.ExitStack) -> _Given:
     is_json = '--json' in (words[:words.index('--')] if '--' in words else words)
     for at in places:
         name = words[at]
-        if split(name) is None if len(places) > 1 else not is_taken_apart(name) or is_gated_whole(name):
+        if split(name) is None if len(places) > 1 else is_gated_whole(name) or not is_taken_apart(name) and not has_more(name):
             continue
         from . import addresses
         found = addresses.gated(name)
+        said += addresses.said_of(name, found, 'gate')
         if found is not None:
-            said += addresses.said_of(name, found)
             words = _with_content(words, at, found.content, held)
             names += [(_printed(words[at], is_json), _printed(name, is_json))] if len(places) > 1 else []
     return _Given(words, said=tuple(said), names=tuple(names))
+
+
+def _compared(words: List[str], held: contextlib.ExitStack) -> _Given:
+    """The same for `same`: what is opened in either file."""
+    said: List[str] = []
+    for at in [at for at, each in enumerate(_with_options(words)) if at and _is_file(*each)]:
+        if is_taken_apart(words[at]):
+            from . import addresses
+            found = addresses.opened(words[at])
+            if found is not None:
+                said += addresses.said_of(words[at], found)
+                words = _with_content(words, at, found.content, held)
+    return _Given(words, said=tuple(said))
 
 
 def _printed(name: str, is_json: bool = False) -> str:
@@ -214,16 +225,15 @@ def _with_content(words: List[str], at: int, content: bytes, held: contextlib.Ex
 
 
 def _beside(words: List[str], path: str, held: contextlib.ExitStack) -> _Given:
-    """What `calls` is given of a file that is a pickle itself. Arrays in it are left out."""
-    given = _Given(words)
+    """What a word is given of a file that is a pickle itself. `calls` leaves arrays in it out."""
+    if not has_more(path) and not has_zip_behind(path):
+        return _Given(words)
+    from . import addresses
+    if words[0] != 'calls':
+        return _Given(words, said=tuple(addresses.what_else(path)))
+    given = _Given(words, said=tuple(addresses.other_kinds(path)))
     try:
-        has_arrays, has_zip = not _value_of(words, '--skip') and may_have_arrays(path), has_zip_behind(path)
-        if not has_arrays and not has_zip:
-            return given
-        from . import addresses
-        if has_zip:
-            given = _Given(words, said=tuple(addresses.zip_behind(path)))
-        skip, said = addresses.arrays_of(path) if has_arrays else ((), [])
+        skip, said = addresses.arrays_of(path) if not _value_of(words, '--skip') and may_have_arrays(path) else ((), [])
     except OSError:
         return given  # (the program says so)
     return given.without(skip, held, said) if skip else given

@@ -18,6 +18,7 @@ from .collector import without_collector
 from .comparing import Comparison, Difference, has_same_bytes, shown_line, shown_pair, shown_value
 from .errors import NoResult, PicklestepError, reason
 from .heaps import Heap
+from .listed import Fields, argument_of
 from .listing_records import Opcode
 from .printing import print_text
 from .records import Reach
@@ -140,18 +141,24 @@ def of_opcodes(old: Source, new: Source, many: bool = False, unframed: bool = Fa
     answers = [listing(source, many=many, unframed=unframed) for source in (old, new)]
     if answers[0].protocol != answers[1].protocol:
         yield f'highest protocol among opcodes: {answers[0].protocol} -> {answers[1].protocol}'
-    one, other = (list(answer) for answer in answers)
-    steps = Steps.for_items(len(one) + len(other))
-    keys = [[(opcode.name, _key(opcode.argument)) for opcode in some] for some in (one, other)]
-    pairs = aligned(keys[0], keys[1], steps)
-    for lefts, rights, _ in gaps(pairs, len(one), len(other)):
-        names = [one[at].name for at in lefts], [other[to].name for to in rights]
+    one, other = answers
+    keys = [[read for _, read in answer.each(_compared)] for answer in answers]
+    steps = Steps.for_items(len(keys[0]) + len(keys[1]))
+    for lefts, rights, _ in gaps(aligned(keys[0], keys[1], steps), len(keys[0]), len(keys[1])):
+        if not lefts and not rights:
+            continue
+        names = [keys[0][at][0] for at in lefts], [keys[1][to][0] for to in rights]
         for less, more, pair in gaps(aligned(names[0], names[1], steps), len(lefts), len(rights)):
-            yield from (f'- opcode at {one[lefts[at]].offset}: {_shown_opcode(one[lefts[at]])}' for at in less)
-            yield from (f'+ opcode at {other[rights[to]].offset}: {_shown_opcode(other[rights[to]])}' for to in more)
+            yield from (f'- {_shown_opcode(one[lefts[at]])}' for at in less)
+            yield from (f'+ {_shown_opcode(other[rights[to]])}' for to in more)
             if pair is not None:
                 first, second = one[lefts[pair[0]]], other[rights[pair[1]]]
                 yield f'opcode at {first.offset}: {first.name} {" -> ".join(shown_pair(*_arguments(first, second)))}'
+
+
+def _compared(fields: Fields) -> Tuple[str, Any]:
+    """What opcodes are compared by."""
+    return fields['opcode'], _key(argument_of(fields))
 
 
 def _key(argument: Any) -> Any:
@@ -177,10 +184,10 @@ def _argument(opcode: Opcode) -> Any:
 
 
 def _shown_opcode(opcode: Opcode) -> str:
+    said, value = f'opcode at {opcode.offset}: {opcode.name}', opcode.value
     if opcode.argument is None:
-        return opcode.name
-    value = opcode.value
-    return f'{opcode.name} {" ".join(map(shown_value, value)) if isinstance(value, tuple) else shown_value(_argument(opcode))}'
+        return said
+    return f'{said} {" ".join(map(shown_value, value)) if isinstance(value, tuple) else shown_value(_argument(opcode))}'
 
 
 def _ends(answer: Calls) -> Tuple[str, ...]:

@@ -28,7 +28,7 @@ def main(words: 'list[str]') -> int:
     if sys.version_info < (3, 8):
         if words and _is_of_program(words[0]):
             return _hand_over(words)
-        return _complain('python3 is older than 3.8: only list, objects, calls, form, gate, reach, members, assemble and debug work with it')
+        return _complain('python3 is older than 3.8: only list, objects, calls, form, gate, reach, members, assemble, same and debug work with it')
     if not words or words[0] in _ASKS_HELP:
         return _print_page('picklestep', to_output=bool(words))
     first, rest = words[0], words[1:]
@@ -108,13 +108,17 @@ def _slips(one: str, other: str) -> int:
 def _is_told_more(words: 'list[str]') -> bool:
     """Whether something stands beside the program's own lines: where else to look, or which file cannot be read; or something is opened, an
     address or a container (help/start.sh asks the same)."""
-    if words[0] == 'calls' or saves(words) or '--' in words:  # (behind that a file may have a name like an option)
+    if words[0] in ('calls', 'members') or saves(words) or '--' in words:  # (behind that a file may have a name like an option)
         return True
     if explains(words) or gathers(words):
         return True
-    from .opens import holds_others
-    opens = words[0] != 'gate' or sum(not word.startswith('-') for word in words) <= 3  # (LIST and FILE: among several files none is opened)
-    return any(not os.access(word, os.R_OK) or os.path.isdir(word) or opens and holds_others(word) for word in words[1:] if not word.startswith('-'))
+    from .opens import has_more, holds_others
+    files = [word for word in words[1:] if not word.startswith('-')]
+    if any(not os.access(word, os.R_OK) or os.path.isdir(word) for word in files):
+        return True
+    if words[0] == 'gate':
+        files = files[1:] if len(files) == 2 else []  # (LIST and FILE: among several files none is opened)
+    return words[0] != 'assemble' and any(holds_others(word) or has_more(word) for word in files)
 
 
 def explains(words: 'list[str]') -> bool:

@@ -7,7 +7,8 @@ from typing import Iterator, Optional, Set, Tuple
 __all__ = ['ARRAY', 'AT_FRAMES', 'FRAME', 'IN_FRAMES', 'OF_FRAMES', 'OLD_TORCH', 'PAST_END', 'WRAPPER', 'Watch', 'is_array_wrapper', 'of_array', 'of_frame']
 
 # The lines, with a place for an offset, and for the word that reads on.
-ARRAY = 'a joblib file goes on at {} with an array, which is not read here: `picklestep scan FILE` reads on behind it'
+ARRAY = ('a joblib file goes on at {} with an array, which is not read here: `picklestep scan FILE` reads on behind it, and `picklestep calls FILE` too if '
+         'joblib wrote the file')
 FRAME = 'what is in that frame is not read: `picklestep {} --unframed FILE` does, `picklestep mend FILE OUT` keeps it'
 
 # What ends a reading at a frame: as an opcode like others it does not.
@@ -41,8 +42,8 @@ def is_array_wrapper(name: str) -> bool:
 def of_array(offset: int) -> str:
     """What is said of a file of joblib with an array that begins at an offset.
 
-    >>> of_array(217)
-    'a joblib file goes on at 217 with an array, which is not read here: `picklestep scan FILE` reads on behind it'
+    >>> of_array(217)[:70]
+    'a joblib file goes on at 217 with an array, which is not read here: `p'
     """
     return ARRAY.format(offset)
 

@@ -6,7 +6,8 @@ This imports only what an interpreter has loaded when it starts, since the entra
 
 import os
 
-__all__ = ['BEGINS', 'BETWEEN', 'ENOUGH', 'SERVERS', 'begins_gated', 'begins_like_one', 'has_index', 'has_zip_behind', 'holds_others', 'is_archive', 'is_at_server', 'is_gated_whole', 'is_taken_apart', 'may_have_arrays', 'split']
+__all__ = ['BEGINS', 'BETWEEN', 'ENOUGH', 'SERVERS', 'begins_gated', 'begins_like_one', 'begins_unlike_pickle', 'has_index', 'has_more', 'has_zip_behind',
+           'holds_others', 'is_archive', 'is_at_server', 'is_gated_whole', 'is_taken_apart', 'lists_members', 'may_have_arrays', 'split']
 
 # What stands between the names of an address.
 BETWEEN = ' > '
@@ -26,8 +27,12 @@ _AT_FIRST = tuple(magic for offset, magic in BEGINS if not offset)
 _BEHIND = tuple((offset, magic) for offset, magic in BEGINS if offset)
 # How zip archives begin, and the others that `gate` looks at itself: gzip, zlib, arrays of numpy, and tar archives, whose sign stands in a header.
 _ARCHIVES = (b'PK\x03\x04', b'PK\x05\x06')
-_GATED = (*_ARCHIVES, b'\x1f\x8b', b'x\x01', b'x\x5e', b'x\x9c', b'x\xda', b'\x93NUMPY')
+_LISTED = (*_ARCHIVES, b'\x1f\x8b', b'x\x01', b'x\x5e', b'x\x9c', b'x\xda')
+_GATED = (*_LISTED, b'\x93NUMPY')
 _TAR, _TAR_AT = b'ustar', 257
+# How pickles begin, but for a few of those of a number alone; and what begins so, and is known by more bytes (help/start.sh asks the same).
+_PICKLES = (b'\x80', b"S'", b'S"', *(bytes([first]) for first in b'()]}cKNTUVX'), *(bytes([first, sign]) for first in b'FIL' for sign in b'-0123456789'))
+_NO_PICKLES = (b'(This file must', b'conectix', b'KC\n', b'KDMV', b'NBCDB', b'TDB file', b'ToKyO', b'UBI#', b'XFSB')
 # So many bytes show that.
 ENOUGH = max(offset + len(magic) for offset, magic in BEGINS)
 # The record that closes a zip archive has so many bytes, and then a comment, whose length its last two bytes say.
@@ -103,6 +108,41 @@ def begins_gated(head: bytes) -> bool:
     (True, True, False)
     """
     return head.startswith(_GATED) or head.startswith(_TAR, _TAR_AT)
+
+
+def lists_members(path: str) -> bool:
+    """Whether a file begins as what `members` lists: a zip archive or a tar archive, or a file of gzip or zlib. What this process was given open is not
+    read here: it may be one.
+
+    >>> lists_members('/dev/stdin')
+    True
+    """
+    if not _is_read_here(path):
+        return True
+    head = _head(path)
+    return head.startswith(_LISTED) or head.startswith(_TAR, _TAR_AT)
+
+
+def has_more(path: str) -> bool:
+    """Whether a file that is read as it is may be of another kind, or have bytes that are no opcodes: then a word has something to say of it.
+
+    >>> has_more('no file'), has_more('/dev/stdin')
+    (False, False)
+    """
+    try:
+        return begins_unlike_pickle(path) or may_have_arrays(path)
+    except OSError:
+        return False  # (whoever reads it says so)
+
+
+def begins_unlike_pickle(path: str) -> bool:
+    """Whether a file does not begin as most pickles do.
+
+    >>> begins_unlike_pickle('no file')
+    False
+    """
+    head = _head(path) if _is_read_here(path) else b''
+    return head != b'' and (not head.startswith(_PICKLES) or head.startswith(_NO_PICKLES))
 
 
 def _is_read_here(path: str) -> bool:

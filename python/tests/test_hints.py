@@ -96,7 +96,7 @@ class Answers(unittest.TestCase):
                 self.assertRegex(lines[0], 'first: the last lines say why this is not all')
                 self.assertRegex('\n'.join(lines[-3:]), '(?m)^# .*(reading ends here|are not read|`picklestep scan FILE`)')
         for data, length in ((HIDDEN, array_of(HIDDEN)), (SWALLOWED, len(_WRAPPER)), *((data + b'\x01', len(data)) for data in OF_CLASS)):
-            self.assertRegex(picklestep.source(data)[-1], rf'^# a joblib file goes on at {length} .*`picklestep scan FILE`')
+            self.assertRegex(picklestep.source(data)[-1], rf'^# a joblib file goes on at {length} .*`picklestep scan FILE` .* `picklestep calls FILE`')
         self.assertIn('Running this does the same', picklestep.source(b'N.N.', many=True)[0])
 
     def test_shell(self) -> None:
@@ -129,7 +129,7 @@ class Reports(EntranceCase):
             with self.subTest(name), contextlib.redirect_stderr(io.StringIO()) as errors:
                 out = self.folder / f'{name}.html'
                 self.assertEqual(view([str(self.file(name, data)), '--export', str(out)]), 1)
-                self.assertRegex(errors.getvalue(), r'^picklestep: \S+ has not all of the file: [^\n]*\n$')
+                self.assertRegex(errors.getvalue().splitlines()[-1], r'^picklestep: \S+ has not all of the file: ')
                 top = out.read_text(encoding='utf-8').partition('<nav>')[0].partition('<header>')[2]
                 self.assertIn('Not all of the file is in this report:', top)
                 for text in (top.partition('</strong>')[2].partition('</p>')[0], errors.getvalue()):
@@ -173,11 +173,11 @@ class Entrance(EntranceCase):
                         self.assertEqual((run.returncode, run.stdout), (0, alone.stdout), run.stderr)
 
     def test_other_words_say_what_the_program_says(self) -> None:
-        self.file('a.joblib', HIDDEN)
+        self.file('a.pkl', CUT)
         for word in ('list', 'objects', 'debug'):
-            alone = self.start([find_program(), word, 'a.joblib'])
+            alone = self.start([find_program(), word, 'a.pkl'])
             for way, entrance in chosen(ways().items(), 1):
-                run = self.start([*entrance, word, 'a.joblib'])
+                run = self.start([*entrance, word, 'a.pkl'])
                 self.assertEqual((run.returncode, run.stdout, run.stderr), (alone.returncode, alone.stdout, alone.stderr), (way, word))
 
 

@@ -35,7 +35,7 @@ from picklestep import scan
 from picklestep.diff import main as diff
 from picklestep.hints import OLD_TORCH, WRAPPER
 from picklestep.mend import main as mend
-from picklestep.opens import BEGINS, SERVERS, has_zip_behind, holds_others, may_have_arrays, split
+from picklestep.opens import BEGINS, SERVERS, has_more, has_zip_behind, holds_others, may_have_arrays, split
 from picklestep.place import find_program, is_module
 from picklestep.python_source import main as source
 from picklestep.scan.blobs import Limits
@@ -43,12 +43,13 @@ from picklestep.scan.containers import CONTAINERS, STORES
 from picklestep.scan.looking import Options
 from picklestep.scan.stores.address import SERVERS as READ_BY
 from picklestep.shell.command import main as shell
-from picklestep.unread import kind_of_short
+from picklestep.unread import kind_of_long, kind_of_short
 from picklestep.view.command import main as view
 from pickles import LIST, REAL, chosen
 from scan_support import HARMLESS, HOSTILE, MODELS, Made, environment, tarred, zip_of
 from test_entrance import PACKAGE, EntranceCase, ways
-from test_hints import HIDDEN, SWALLOWED
+from test_hints import HIDDEN, SWALLOWED, array_of
+from test_stores_unread import BEGINS as BEGINS_OF_OTHERS, SURE as SURE_BEGINS
 
 DATA = 'archive/data.pkl'
 PICKLES = {'a.pkl': HOSTILE, 'b.pkl': HARMLESS}
@@ -202,9 +203,49 @@ class WordsOfTheProgram(OpenerCase):
             self.assertIn('is the address of several, and loaders differ in which they take', run.stderr)
 
     def test_what_is_not_opened(self) -> None:
+        """Each word says what the file begins like."""
         self.file('a.7z', b'7z\xbc\xaf\x27\x1c' + bytes(40))
-        for way, run in self.runs(['calls', 'a.7z']):
-            self.assertEqual((run.returncode, run.stderr), (1, 'picklestep: a.7z begins like 7z, which is not opened here\n'), way)
+        self.file('names', b'builtins.eval\n')
+        for words in (['calls'], ['list'], ['objects'], ['form'], ['reach'], ['debug'], ['gate', 'names'], ['source'], ['mend'], ['size']):
+            for way, run in self.runs([*words, 'a.7z'], words in (['list'], ['gate', 'names'])):
+                self.assertEqual(run.stderr, 'picklestep: a.7z begins like 7z, which is not opened here\n', (way, words))
+                self.assertEqual(run.returncode, int(words not in (['reach'], ['debug'])), (way, words))
+        self.assertIn('# a.7z begins like 7z, which is not opened here', picklestep.source('a.7z').text.splitlines())
+
+    def test_who_asks(self) -> None:
+        """What is not opened begins like no pickle, and Python looks at what may have arrays: help/start.sh finds the same files. Of others the program alone
+        is asked, which starts sooner."""
+        kinds = [begin for begins in (*BEGINS_OF_OTHERS.values(), [*SURE_BEGINS.values()]) for begin in begins]
+        files = [str(self.file(f'kind_{number}', begin + b'\1\0' * 20)) for number, begin in enumerate(kinds)]
+        self.assertEqual([path for path in files if not has_more(path) and not holds_others(path) and kind_of_long(Path(path).read_bytes()) is not None], [])
+        files += [str(self.file('a.joblib', HIDDEN)), str(self.file('empty', b'')), str(self.file('zeros', bytes(1 << 20))), '/dev/null', 'none',
+                  str(self.file('late.joblib', b'\x80\x04X\0\0\x10\0' + bytes(1 << 20) + HIDDEN[2:])), *map(str, MODELS.iterdir()), *map(str, REAL)]
+        expected = [path for path in files if holds_others(path) or has_more(path)]
+        self.assertEqual([path for path in map(str, REAL) if path in expected and Path(path).read_bytes()[:1] == b'\x80'], [])
+        script = f'. "{PACKAGE}/help/start.sh"; for each in "$@"; do ! holds_others "$each" && ! has_more "$each" || printf "%s\\n" "$each"; done'
+        for interpreter in filter(os.path.exists, ('/bin/bash', '/bin/dash')):
+            for language in ('C', 'C.UTF-8'):
+                run = subprocess.run([interpreter, '-c', script, interpreter, *files], capture_output=True, text=True, env={**os.environ, 'LC_ALL': language},
+                                     timeout=600, check=True)
+                self.assertEqual((run.stdout.splitlines(), run.stderr), (expected, ''), interpreter)
+
+    def test_a_file_that_cannot_be_read(self) -> None:
+        """The program says so, and nothing is said before."""
+        with mock.patch('picklestep.opens.may_have_arrays', side_effect=PermissionError):
+            self.assertFalse(has_more(str(self.file('a.pkl', HIDDEN))))
+
+    def test_members_of_other_kinds(self) -> None:
+        """It says what it lists, and what the file begins like."""
+        for name, content, begins in (('a.bz2', bz2.compress(HOSTILE), 'like bz2'), ('a.npy', array_of_objects(HOSTILE), 'like npy'), ('a.7z', b'7z\xbc\xaf\x27\x1c', 'like 7z'),
+                                      ('a.joblib', HIDDEN, 'like none of these')):
+            self.file(name, content)
+            for way, run in self.runs(['members', name], name == 'a.joblib'):
+                self.assertEqual((run.returncode, run.stdout[:13]), (1, 'not in form: '), (way, name))
+                self.assertEqual(run.stderr, f'picklestep: members reads zip, tar, gzip and zlib, and {name} begins {begins}: picklestep scan {name} looks into '
+                                             'more kinds\n', (way, name))
+        self.file('cut.zip', zipped(PICKLES)[:-1])
+        for way, run in self.runs(['members', 'cut.zip']):
+            self.assertEqual((run.returncode, run.stderr), (1, ''), way)
 
     def test_source_of_old_torch(self) -> None:
         number = b'\x80\x02' + OLD_TORCH + b'.'
@@ -529,10 +570,23 @@ class Arrays(OpenerCase):
                     self.assertEqual(self.start([find_program(), 'calls', *skip, 'a.joblib']).stdout, run.stdout)
 
     def test_words_that_leave_nothing_out(self) -> None:
+        """They say where they end, and the program's answer is as it was."""
+        self.file('a.joblib', HIDDEN)
         self.file('a.joblib.gz', gzip.compress(HIDDEN))
-        for words in (['list', 'a.joblib.gz'], ['source', 'a.joblib.gz']):
-            run = self.start([*ways()['-I -m'], *words])
-            self.assertRegex(run.stderr, r"its opcodes end at [0-9]+, .*: picklestep calls 'a.joblib.gz > \(gzip\)' reads on behind them\n$")
+        self.file('names', b'builtins.eval\n')
+        end = f'picklestep: the numbers of an array begin at {array_of(HIDDEN)}, and nothing from there on is read: picklestep'
+        words = [[word] for word in 'list objects form reach debug source mend size shell'.split()]
+        for name, address in (('a.joblib', 'a.joblib'), ('a.joblib.gz', "'a.joblib.gz > (gzip)'")):
+            for before in (*words, ['diff', name], ['optimize', '--save', 'out'], ['convert', '--protocol', '2', '--save', 'out']):
+                for way, run in self.runs([*before, name], before == ['list']):
+                    self.assertIn(f'{end} calls {address} reads on behind them\n', run.stderr, (way, before))
+        for before in (['list'], ['gate', 'names']):
+            alone = self.start([find_program(), *before, 'a.joblib'])
+            for way, run in self.runs([*before, 'a.joblib'], True):
+                self.assertEqual((run.returncode, run.stdout), (alone.returncode, alone.stdout), way)
+        for way, run in self.runs(['gate', 'names', 'a.joblib']):
+            self.assertEqual(run.stderr, f'{end} scan --allow LIST a.joblib judges the rest\n')
+        self.assertFalse(Path('out').exists())
 
     def test_what_joblib_does_not_write(self) -> None:
         """The lines of the program, and where else to look."""
@@ -742,7 +796,7 @@ class Pages(OpenerCase):
     def test_using(self) -> None:
         shown = ''.join(f'{line}\n' for block in blocks('common') for line in block)
         found = re.findall(r'^\$ \./(picklestep .*)\n((?:[^$].*\n)*)', shown, re.MULTILINE)
-        self.assertEqual(len(found), 3)
+        self.assertEqual(len(found), 4)
         command = self.file('bin/picklestep', f'#!/bin/sh\nexec {" ".join(ways()["-I -m"])} "$@"\n'.encode())
         command.chmod(0o755)
         for words, wanted in found:

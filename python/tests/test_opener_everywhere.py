@@ -41,7 +41,8 @@ ASKS: Dict[str, Callable[[Any], Any]] = {
     'Session': of_session, 'calls': lambda source: picklestep.calls(source).text, 'check': functools.partial(picklestep.check, names=NAMES, loader='pickle'),
     'compare': lambda source: picklestep.compare(source, b'N.'), 'convert': functools.partial(picklestep.convert, protocol=0), 'form': picklestep.form,
     'gate': lambda source: bool(picklestep.gate(source, names=NAMES)), 'listing': lambda source: picklestep.listing(source).text,
-    'objects': lambda source: picklestep.objects(source).text, 'optimize': picklestep.optimize, 'reach': picklestep.reach,
+    'mended': lambda source: picklestep.mended(source).content, 'objects': lambda source: picklestep.objects(source).text, 'optimize': picklestep.optimize, 'reach': picklestep.reach,
+    'same': lambda source: picklestep.same(source, b'N.').text,
     'rename': functools.partial(picklestep.rename, pairs={'collections': 'other'}), 'size': picklestep.size, 'source': lambda source: picklestep.source(source).text,
     'tree': lambda source: repr(picklestep.tree(source))}
 # Those that are about a container, or about no file.
@@ -49,7 +50,7 @@ OF_OTHERS = {'assemble', 'members', 'pickles_in'}
 # Words, with what stands behind the file.
 WORDS: Dict[str, List[str]] = {
     'calls': [], 'convert': ['--protocol', '0', '--save', 'out'], 'debug': [], 'diff': ['none.pkl'], 'form': [], 'list': [], 'mend': ['out'], 'objects': [],
-    'optimize': ['--save', 'out'], 'reach': [], 'shell': ['--batch', 'script'], 'size': [], 'source': [], 'view': ['--export', 'out', '--force']}
+    'optimize': ['--save', 'out'], 'reach': [], 'same': ['none.pkl'], 'shell': ['--batch', 'script'], 'size': [], 'source': [], 'view': ['--export', 'out', '--force']}
 # Those that print the name, or are asked in another way: here, and in test_opener.py.
 WORDS_OF_OTHERS = {'assemble', 'dap', 'gate', 'members', 'policy', 'rename', 'scan'}
 

@@ -515,8 +515,11 @@ class OverNode(unittest.TestCase):
             self.assertEqual('PICKLESTEP_MEMORY' in given, memory is not None)
 
     def test_nor_where_the_program_is_handed_over(self) -> None:
-        with mock.patch('picklestep.entrance._become', side_effect=lambda command: len(os.environ.keys() & place.NOT_FOR_NODE)):
-            self.assertEqual(entrance.main(['list', __file__]), 0)  # (a file that can be read)
+        with mock.patch('picklestep.entrance._become', side_effect=lambda command: len(os.environ.keys() & place.NOT_FOR_NODE)), \
+                tempfile.NamedTemporaryFile() as file:
+            file.write(LIST)
+            file.flush()
+            self.assertEqual(entrance.main(['list', file.name]), 0)  # (nothing else is said of a pickle)
         self.assertIn(f'unset {" ".join(place.NOT_FOR_NODE)} ', Path(entrance.__file__).with_name('help').joinpath('start.sh').read_text())
 
 

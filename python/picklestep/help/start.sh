@@ -28,7 +28,7 @@ holds_others() {
             # shellcheck disable=SC3045
             LC_ALL=C IFS='' read -r -d '' -n "$left" part || left=0
             begin=$begin$part left=$((left - ${#part} - 1))
-        done <"$1"
+        done <"$1" 2>/dev/null # (which names a locale that is not there)
     else
         begin=$(head -c 262 <"$1")
     fi
@@ -38,6 +38,23 @@ holds_others() {
     ?NUMPY* | ?7zXZ* | ?HDF* | ?W[[:cntrl:]]* | ??W[[:cntrl:]]* | *ustar*) return 0 ;;
     esac
     return 1
+}
+
+# Whether a file, whose beginning holds_others has read, begins like no pickle, or has the name of joblib's arrays or the number of torch's old files:
+# opens.py asks the same.
+has_more() {
+    case $1 in
+    /dev/* | /proc/*) return 1 ;;
+    esac
+    [ -s "$1" ] || return 1
+    case $begin in
+    *' j'?P[[:cntrl:]]* | [![:print:][:cntrl:]][[:cntrl:]][[:cntrl:]]* | ?[[:cntrl:]]sNaPpY*) return 0 ;;
+    '(This file must'* | conectix* | KC[[:cntrl:]]* | KDMV* | NBCDB* | 'TDB file'* | ToKyO* | 'UBI#'* | XFSB*) return 0 ;;
+    NXSB* | T-DB*) return 0 ;; # (behind NUL bytes)
+    [\(\)\]\}cKNTUVX]* | [FIL][-0-9]* | S[\'\"]* | [![:print:][:cntrl:]][[:cntrl:]]*) ;;
+    *) return 0 ;;
+    esac
+    head -c 67108864 <"$1" 2>/dev/null | grep -q NumpyArrayWrapper 2>/dev/null
 }
 
 # Whether a list is a set of the package, or includes others: Python puts these together.
@@ -53,9 +70,9 @@ is_put_together() {
 # address or a container (entrance.py asks the same). Without Python the program's lines are all.
 is_told_more() {
     command -v python3 >/dev/null || return 1
-    [ "$1" != calls ] || return 0
-    case " $* " in ' assemble '*' --save'* | ' assemble '*' --frame '*) return 0 ;; esac # (Python saves, and frames)
-    opens=1
+    case " $* " in ' calls '* | ' members '* | ' assemble '*' --save'* | ' assemble '*' --frame '*) return 0 ;; esac # (Python saves, and frames)
+    opens=1 listed=''
+    [ "$1" != assemble ] || opens=''
     if [ "$1" = gate ]; then
         case " $*" in *' --explain'* | *' --list'*) return 0 ;; esac
         listed=$2 files=$#
@@ -71,7 +88,9 @@ is_told_more() {
         -*) ;;
         *)
             [ -r "$word" ] && [ ! -d "$word" ] || return 0
-            [ -z "$opens" ] || ! holds_others "$word" || return 0
+            if [ -n "$opens" ] && [ "$word" != "$listed" ]; then
+                ! holds_others "$word" && ! has_more "$word" || return 0
+            fi
             ;;
         esac
     done
@@ -91,6 +110,6 @@ enter() {
     if command -v python3 >/dev/null; then
         exec python3 -I ${PYTHONDONTWRITEBYTECODE:+-B} "$package/entrance.py" "$@"
     fi
-    echo 'picklestep: python3 (3.8 or later) is not there: only list, objects, calls, form, gate, reach, members, assemble and debug work without it' >&2
+    echo 'picklestep: python3 (3.8 or later) is not there: only list, objects, calls, form, gate, reach, members, assemble, same and debug work without it' >&2
     exit 2
 }

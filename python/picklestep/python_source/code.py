@@ -6,7 +6,7 @@ import contextlib
 import os
 from typing import Iterator, List, Optional
 
-from ..addresses import opened_in, zip_behind
+from ..addresses import opened_in, other_kinds
 from ..answers import Answer
 from ..collector import without_collector
 from ..hints import OF_FRAMES, OLD_TORCH, of_array, of_frame
@@ -91,7 +91,7 @@ def source(pickle: Source, *, full: bool = True, many: bool = False, unframed: b
     if first is not None and first < 0:
         raise ValueError('first is a number of opcodes, which is not below 0')
     opened = opened_in(pickle)
-    unread = zip_behind(os.fsdecode(pickle)) if opened is None and isinstance(pickle, (str, os.PathLike)) else []
+    unread = other_kinds(os.fsdecode(pickle)) if opened is None and isinstance(pickle, (str, os.PathLike)) else []
     is_file = isinstance(pickle, (str, os.PathLike)) or hasattr(pickle, 'read')
     with without_collector(), Input(pickle if opened is None else opened.content) as given:
         # (Who gives bytes says that they are a pickle, and the page writes the same of them.)

@@ -17,6 +17,7 @@ from ..opcodes import BY_NAME
 from ..texts import has_key
 from .expressions import Expression, dotted
 from .opened import Opened
+from .words import NotThere
 
 __all__ = ['BREAKS', 'Break', 'BreakError', 'made_break', 'is_hit', 'next_break']
 
@@ -50,14 +51,14 @@ class Break:
 
 
 def made_break(pickle: Opened, number: int, what: str, rest: str, condition: str = '') -> Break:
-    """A breakpoint of a kind. Raises BreakError where there can be no such one."""
+    """A breakpoint of a kind. Raises BreakError where there can be no such one, and NotThere where there is no such opcode."""
     rest = rest.lstrip('#') if what == 'change' else rest.upper() if what == 'opcode' else unquoted(rest) if what == 'text' else rest
     if what in _OF_NUMBERS and not rest.isdecimal():
         raise BreakError(f'break {what} takes a number')
     if what == 'opcode' and rest and rest not in BY_NAME:
         raise BreakError(f'{rest[:40]!r} is no opcode')
     if what == 'at' and int(rest) >= len(pickle.lines):
-        raise BreakError(f'there is no opcode at {rest}')
+        raise NotThere(f'there is no opcode at {rest}')
     if what == _EACH and (rest or not condition):
         raise BreakError(f"break {_EACH} takes a condition, as in break if top == 'os'")
     if not rest and what != _EACH:

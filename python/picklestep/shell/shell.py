@@ -34,7 +34,7 @@ from .expressions import Expression, ExpressionError, split_condition
 from .nests import behind_mark, behind_next
 from .opened import Opened
 from .shown import MOST_BYTES, latest, question_of_whole, reached, said_of_part, shown_argument, shown_bytes, shown_opcode
-from .words import WORDS, help_page, help_pages, it_is, no_word, understood, whole_word
+from .words import WORDS, NotThere, WordError, help_page, help_pages, it_is, no_word, understood, whole_word
 
 __all__ = ['Shell', 'WordError']
 
@@ -49,14 +49,10 @@ _FUNCTION = pattern(r'[\w*?]+(?:\.[\w*?]+)+')
 # Words that do nothing without what comes after them.
 _NEED = frozenset('goto until go clear off on condition find who show replace insert delete set rename frame'.split())
 _SHOW_OBJECTS = frozenset('step back goto until run go where explain show stack memo objects display'.split())
-# How it is said that something is not there, which may be in the rest where a part of the pickle is read.
-_NOT_THERE = pattern('there is no (?:opcode|object)|no opcode begins|in no opcode|no such|at the end|are read')
+# Codes of lines about an opcode or an object that is not there: at the end of what is read, or behind it.
+_NOT_THERE = frozenset(('C2', 'C4', 'E1', 'V1', 'V2'))
 # Words that may do with what is known before the pickle is read after an edit.
 _UNREAD = frozenset('where step back goto until list stack insert replace delete set undo'.split())
-
-
-class WordError(ValueError):
-    """A line that the shell cannot run, and why."""
 
 
 class Shell:
@@ -137,15 +133,15 @@ class Shell:
             self._check_names()  # (of a rename that was interrupted)
             return self._done(name, text)
         except Refused as error:
-            raise WordError(self._of_part(f'refused: {plainly(error.text)}')) from error
+            raise WordError(self._of_part(f'refused: {plainly(error.text)}', error.code in _NOT_THERE)) from error
         except (EditError, ValueError, TypeError, OverflowError, OSError, PicklestepError) as error:
-            raise WordError(self._of_part(str(error))) from error
+            raise WordError(self._of_part(str(error), isinstance(error, NotThere))) from error
         except Exception as error:  # (edits are not lost for what went wrong in one word)
             raise WordError(f'{name} failed: {type(error).__name__}: {error}') from error
 
-    def _of_part(self, text: str) -> str:
+    def _of_part(self, text: str, is_not_there: bool) -> str:
         """Why a word cannot be done; where something is not there, also that the pickle has more than is read."""
-        return '\n'.join([text, *self.pickle.kept]) if self.pickle.is_part and _NOT_THERE.search(text) else text
+        return '\n'.join([text, *self.pickle.kept]) if self.pickle.is_part and is_not_there else text
 
     def _done(self, name: str, text: str) -> str:
         """What a word answers; behind one that goes somewhere, what is displayed there."""
@@ -202,7 +198,7 @@ class Shell:
             return len(self.pickle.lines)
         place = self.pickle.lines.place_of(number)
         if not len(self.pickle.lines) or self.pickle.lines.offset(place) != number:
-            raise WordError(f'no opcode begins at offset {number}')
+            raise NotThere(f'no opcode begins at offset {number}')
         return place
 
     @staticmethod
@@ -369,7 +365,7 @@ class Shell:
         number = self._count(text.lstrip('#'))
         maker = self.pickle.maker(number)
         if maker is None:
-            raise WordError(f'there is no object #{number}')
+            raise NotThere(f'there is no object #{number}')
         return maker
 
     # --- Breaks ---
@@ -476,8 +472,10 @@ class Shell:
         goes_on = not words and self._listed[0] == here and self._listed[1] < len(self.pickle.lines)
         first = self._place(words[0]) if words else self._listed[1] if goes_on else max(0, here - _MOST_LINES // 2)
         last = first + _MOST_LINES if len(words) < 2 else first + self._count(words[1][1:]) if words[1][:1] == '+' else self._place(words[1]) + 1
-        if len(words) > 2 or first >= len(self.pickle.lines):
-            raise WordError(f'it is: {WORDS["list"].usage}' if len(words) > 2 else f'there is no opcode at {first}')
+        if len(words) > 2:
+            raise WordError(it_is('list'))
+        if first >= len(self.pickle.lines):
+            raise NotThere(f'there is no opcode at {first}')
         if last <= first:
             raise WordError(f'{last - 1} is before {first}')
         self._listed = here, last
@@ -493,7 +491,7 @@ class Shell:
         here = self._now()[0]
         found = self.pickle.find(text, self._found[2] if self._found[:2] == (text, here) else here)
         if found is None:
-            raise WordError(f'{text[:40]!r} is in no opcode')
+            raise NotThere(f'{text[:40]!r} is in no opcode')
         is_again = self.pickle.is_part and found <= (self._found[2] if self._found[:2] == (text, here) else here)
         self._found = text, here, found
         return '\n'.join([*self._rows(found - 1, found + 2, here), f'at {found}', *(self.pickle.kept if is_again else [])])
@@ -505,11 +503,11 @@ class Shell:
         content = self.pickle.content()
         if len(words) > 1 and _PLACE.fullmatch(words[0]) and _is_offset(words[0]):
             if self.pickle.is_part and _number(words[0]) >= len(content):
-                raise WordError(f'only {len(content):,} bytes are read')
+                raise NotThere(f'only {len(content):,} bytes are read')
             return shown_bytes(content, _number(words[0]), _number(words[0]) + self._count(words[1]))
         place = self._place(words[0])
         if place >= len(self.pickle.lines):
-            raise WordError(f'there is no opcode at {place}')
+            raise NotThere(f'there is no opcode at {place}')
         start = self.pickle.lines.offset(place)
         after = self.pickle.lines.offset(place + 1) if place + 1 < len(self.pickle.lines) else min(len(content), start + MOST_BYTES)
         return shown_bytes(content, start, start + self._count(words[1]) if len(words) > 1 else after)
@@ -596,7 +594,7 @@ class Shell:
         known = []
         for edit in edits:
             if edit.place > len(self.pickle.lines) or (edit.word != 'insert' and edit.place == len(self.pickle.lines)):
-                raise WordError(f'there is no opcode at {edit.place}')
+                raise NotThere(f'there is no opcode at {edit.place}')
             now = self.pickle.lines.at(edit.place).name if edit.place < len(self.pickle.lines) else ''
             known.append(of_value(self.pickle, edit, now) if edit.word in ('replace', 'insert') else edit)
         was = ['' if edit.word in ('insert', 'frame') else self._was(edit.place) for edit in known]

@@ -6,10 +6,18 @@ from typing import Dict, List, NamedTuple, Tuple
 
 from ..patterns import pattern
 
-__all__ = ['OTHERS', 'SAMPLE', 'WORDS', 'Word', 'examples', 'help_page', 'help_pages', 'it_is', 'no_word', 'understood', 'whole_word']
+__all__ = ['NotThere', 'OTHERS', 'SAMPLE', 'WORDS', 'Word', 'WordError', 'examples', 'help_page', 'help_pages', 'it_is', 'no_word', 'understood', 'whole_word']
 
 # The pickle of the examples: a call of a function of a module that was renamed.
 SAMPLE = b'\x80\x02coldapp.tasks\nsend\nq\x00X\x03\x00\x00\x00bobq\x01K\x03\x86q\x02Rq\x03.'
+
+
+class WordError(ValueError):
+    """A line that the shell cannot run, and why."""
+
+
+class NotThere(WordError):
+    """A line about something that is not in what was read: where that is a part of the pickle, it may be in the rest."""
 
 
 class Word(NamedTuple):
