@@ -64,7 +64,7 @@ class Row:
 class Word:
     """A word of the command, as the page names it, with its arguments, what it reads, and how many megabytes the largest file has that it gets.
 
-    FILE, OTHER, CUT, NAMES and OUT among the arguments stand for files, and LIMIT for the program of limit.c.
+    FILE, OTHER, CUT, TEXT, NAMES and OUT among the arguments stand for files, and LIMIT for the program of limit.c. TEXT is what `list` prints of FILE.
     """
 
     what: str
@@ -84,6 +84,7 @@ WORDS = [
     Word('`calls`', [ENTRANCE, 'calls', 'FILE'], largest=100),
     Word('`scan`', [ENTRANCE, 'scan', *WITHOUT_LIMITS, 'FILE'], largest=100),
     Word('`mend` of the same, cut off', [ENTRANCE, 'mend', 'CUT', 'OUT'], status=1),
+    Word('`assemble` of what `list` prints', [ENTRANCE, 'assemble', 'TEXT', '--save', 'OUT']),
     Word('`source`', [ENTRANCE, 'source', 'FILE'], largest=1),
     Word('`picklestep.tree` (Python)', [sys.executable, '-c', PACKAGE + 'picklestep.tree(sys.argv[1])', 'FILE'], largest=1),
     Word('`size`', [ENTRANCE, 'size', 'FILE'], largest=1),
@@ -127,7 +128,8 @@ def rows_of_words(folder: Path, size: float, scale: fractions.Fraction) -> Itera
     content = inputs.pickled(values)
     values[len(values) // 2]['id'] = -1
     program = limit.compiled(folder)
-    files = {'FILE': makes_file(folder / f'{size}.pickle', content), 'CUT': makes_file(folder / 'cut.pickle', content[:-len(content) // 20]),
+    text = folder / 'text'
+    files = {'TEXT': text, 'FILE': makes_file(folder / f'{size}.pickle', content), 'CUT': makes_file(folder / 'cut.pickle', content[:-len(content) // 20]),
              'OTHER': makes_file(folder / 'other.pickle', inputs.pickled(values)), 'NAMES': makes_file(folder / 'names.txt', inputs.NAMES_OF_PLAIN.encode()),
              'OUT': folder / 'out.pickle', **({'LIMIT': program} if program else {})}
     del values, content
@@ -135,6 +137,9 @@ def rows_of_words(folder: Path, size: float, scale: fractions.Fraction) -> Itera
         limit.must_print_the_same(PROGRAM, str(program), str(files['FILE']))
     given = sized(float(size * scale))
     yield Row('opcodes', given, '', opcodes_of(files['FILE']), None, None)
+    with text.open('wb') as listing:  # (of a larger file it would be too large for `assemble`)
+        if size * scale <= 10:
+            subprocess.run([PROGRAM, 'list', files['FILE']], stdout=listing, check=True)
     for word in WORDS:
         if size * scale <= word.largest and (program or 'LIMIT' not in word.words):
             words = [str(files.get(each, each)) for each in word.words]
@@ -199,6 +204,8 @@ def rows_of_large(folder: Path, scale: fractions.Fraction) -> Iterator[Row]:
     inputs.make_model(path, int(5000 * MEGABYTE * scale) >> 20 << 20)
     given = f'a `.pt` of {sized(float(5000 * scale))}, whose pickle has 1 MB'
     yield from command_row('many', '`scan`', given, [ENTRANCE, 'scan', str(path)], folder)
+    makes_file(path, inputs.array(int(100 * MEGABYTE * scale)))
+    yield from command_row('many', '`size`', f'a pickle of {sized(float(100 * scale))}: one object of bytes', [ENTRANCE, 'size', str(path)], folder)
     makes_file(path, inputs.array(int(1000 * MEGABYTE * scale)))
     yield from command_row('many', '`calls`', f'a pickle of {gigabyte}: one object of bytes', [ENTRANCE, 'calls', str(path)], folder)
     path.unlink()

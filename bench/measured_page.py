@@ -20,7 +20,7 @@ PAGE = Path(__file__).resolve().parent.parent / 'docs/why/measured.md'
 SECONDS, MEMORY = 's', 'MB'
 # the columns of a table: the row of the first table that has the same, and what it shows
 CONTENTS = (('list', SECONDS), ('calls', SECONDS), ('calls', MEMORY), ('objects', MEMORY), ('debug', MEMORY))
-RECORDS, DEBUG, SCAN = 'records, as above', '`debug`, run to the end', '`scan`'
+RECORDS, DEBUG, SCAN, JOBS = 'records, as above', '`debug`, run to the end', '`scan`', '`scan --jobs 4`'
 # What people ask about: a pickle of so many megabytes. What a word takes for it is a guess if it was measured only with files that are less
 # than a tenth as large.
 ASKED, GUESSED = 40, 10
@@ -34,12 +34,14 @@ OTHER_WAYS = {
     '`optimize`': '`pickletools.optimize`, which is quicker, and compares nothing',
     '`convert --protocol 2`': 'if the file is yours: load it, and pickle it again'}
 # What people would use in place of picklestep, or to compare with: the first table that has both rows, the input, and what is done.
+NODE = '`calls` in Node'
 LIMIT, SMALL_FILES = '*the limit: a C program that prints what `list` does*', '1,000 pickles of 2 to 7 KB'
 BESIDE = [
     ('words', '1 MB', '`list`', '*`python3 -m pickletools`*'),
     ('words', '100 MB', '`list`', LIMIT),
     ('words', '10 MB', '`calls`', '*`pickle.load`*'),
     ('words', '10 MB', '`objects`', '*`pickle.load`*'),
+    ('words', '10 MB', '`calls`', NODE),
     ('many', SMALL_FILES, 'Python: `picklestep.calls` in a loop', '*`pickletools.genops` in a loop*'),
     ('many', SMALL_FILES, '`scan`', '*`pickletools.genops` in a loop*')]
 MEMORY_ENDS = (
@@ -111,6 +113,8 @@ class Kept:
         self.rows: Dict[Key, Numbers] = {
             (row['table'], row['what'], row['given']): (row['seconds'] if self.is_quiet or row['table'] == 'opcodes' else row['used'], row['memory'])
             for row in content['rows'] if self.is_quiet or row['used'] is not None or row['table'] == 'opcodes'}
+        # How long the processors worked for `scan --jobs 4`.
+        self.used_by_jobs: float = next(row['used'] for row in content['rows'] if row['what'] == JOBS)
 
     def of(self, name: str) -> List[Tuple[str, str, Numbers]]:
         """The rows of a table."""
@@ -156,8 +160,11 @@ class Kept:
     def beside(self) -> str:
         """What other programs take for the same input."""
         rows = [[f'records of {given}' if name == 'words' else given, what, seconds(ours), other, seconds(theirs), f'{theirs / ours:.1f}']
-                for name, given, what, other in BESIDE if (ours := self._time(name, what, given)) and (theirs := self._time(name, other, given))]
+                for name, given, what, other in BESIDE if (ours := self._time(name, what, given)) and (theirs := self._other(name, other, given))]
         return table(['Input', '!You use', 's', '!In place of it', 's', 'times as long'], rows)
+
+    def _other(self, name: str, what: str, given: str) -> float:
+        return self._time('node', what, f'records of {given}') if what == NODE else self._time(name, what, given)
 
     def _time(self, name: str, what: str, given: str) -> float:
         return self.rows.get((name, what, given), (0.0, None))[0]
@@ -242,14 +249,15 @@ class Kept:
         return table(['You have', '!You use', 'Time', 'Memory'], cells)
 
     def _about_starts(self) -> str:
-        quarter = '' if self.is_quiet else ': with four processors you wait about a quarter of this CPU time'
+        quarter = (f', which took {span(self.used_by_jobs)} of CPU time together' if self.is_quiet else
+                   ': with four processors you wait about a quarter of this CPU time')
         return (f'`scan --jobs 4` shares the files out among four processes{quarter}. '
                 f'Each start of `scan` takes {self._start("`./picklestep FILE`")}, so give many '
                 'files to one command. `list`, `objects`, `gate`, `form`, `reach`, `members` and `debug` start a native program, which takes '
                 f'{self._start("`./picklestep list")}.')
 
     def _is_daily(self, what: str) -> bool:
-        return what in ('`gate`', '`scan --jobs 4`')
+        return what in ('`gate`', JOBS)
 
     def _largest_two(self, word: str, which: int) -> List[Tuple[float, float]]:
         """The sizes of the two largest files that were measured, and what each took."""

@@ -14,6 +14,7 @@ from dataclasses import dataclass, field
 from pathlib import Path
 
 import reference
+from reference import text_of
 from trials.trial import Lack, Trial
 
 # A page is as long as its readers need, but who meets the README decides by two screens whether to read on.
@@ -26,6 +27,7 @@ COLUMNS = 100
 # What the package and the tests from outside have.
 PACKAGE = ["python/picklestep/**/*"]
 OUTSIDE = ["equipment/*", "equipment/trials/*", "share/**/*", "targets/library/*"]
+FIELD_OF_SCAN = "scan has a field of that name"
 SCAN = ["python/picklestep/scan/**/*", "python/tests/*.py", "python/pyproject.toml", "equipment/*"]
 
 
@@ -78,18 +80,19 @@ CHECKLISTS = [
          "python/tests/test_sessions.py"],
         {
             "equipment/surface.txt": "names of the specification",
-            "equipment/trials/begins.py": "scan has a field of that name",
             "equipment/trials/large.py": "asks it of a large pickle",
-            "python/picklestep/scan/folders.py": "scan has a field of that name",
-            "python/picklestep/scan/policy/baseline.py": "scan has a field of that name",
-            "python/picklestep/scan/results.py": "scan has a field of that name",
             "python/picklestep/shell/words.py": "the shell has words of its own",
-            "python/picklestep/view/alone/opening.js": "the page has an element of that name",
             "python/picklestep/view/alone/session.js": "asks it, as the page needs it",
-            "python/picklestep/view/page.html": "the page has an element of that name",
-            "python/picklestep/view/script.js": "the page has an element of that name",
-            "share/picklestep-scan.schema.json": "scan has a field of that name",
+            **dict.fromkeys((f"python/picklestep/view/{name}" for name in ("alone/opening.js", "page.html", "script.js")), "the page has an element of that name"),
+            **dict.fromkeys((f"python/picklestep/scan/{name}.py" for name in ("folders", "policy/baseline", "results")), FIELD_OF_SCAN),
+            **dict.fromkeys(("equipment/trials/begins.py", "share/picklestep-scan.schema.json"), FIELD_OF_SCAN),
         },
+    ),
+    Checklist(
+        "To add a field of an answer",
+        r"\bmemo_size\b",
+        ["crates/debug_json/**/*.rt", "crates/debug_json/**/*.antt", *OUTSIDE, *PACKAGE],
+        {"python/picklestep/view/alone/document.js": "the page shows it"},
     ),
     Checklist(
         "To add a text or a command",
@@ -100,16 +103,14 @@ CHECKLISTS = [
             "equipment/reference.py": "a table has that name",
             "equipment/trials/examples.py": "a page has that name",
             "python/picklestep/scan/reading.py": "scan asks it",
-            "python/picklestep/scan/report.py": "scan has a field of that name",
-            "python/picklestep/scan/results.py": "scan has a field of that name",
             "python/picklestep/shell/words.py": "the shell has words of its own",
             "python/picklestep/view/alone/document.js": "the page shows it",
             "python/picklestep/view/export.py": "the page shows it",
             "python/picklestep/pickle_lines.py": "a document asks it",
-            "python/tests/test_gate.py": "scan has a field of that name",
             "python/tests/test_other_systems.py": "asks it of files on other drives",
             "python/tests/test_shell.py": "the shell has words of its own",
-            "share/picklestep-scan.schema.json": "scan has a field of that name",
+            **dict.fromkeys((f"python/picklestep/scan/{name}.py" for name in ("report", "results")), FIELD_OF_SCAN),
+            **dict.fromkeys(("python/tests/test_gate.py", "share/picklestep-scan.schema.json"), FIELD_OF_SCAN),
         },
     ),
 ]
@@ -312,11 +313,6 @@ def listed(root: Path, page: str, heading: str) -> set[str]:
     items = re.findall(r"^\d+\. .*(?:\n   .*)*", section, flags=re.M)
     names = [name for item in items for span in re.findall(r"`([^`]+/[^`]+)`", item) for name in expanded(span)]
     return {f"crates/{name}" if (root / "crates" / name.split("/")[0]).is_dir() else name for name in names}
-
-
-@functools.lru_cache(maxsize=None)
-def text_of(file: Path) -> str:
-    return file.read_text(encoding="utf-8", errors="replace")
 
 
 def has_sample(file: Path, sample: str) -> bool:

@@ -20,8 +20,9 @@ OF_ALL = frozenset(("--help", "--version"))
 CODE = re.compile(r"\b[CEFSUVX]\d{1,2}\b")
 
 
+@functools.lru_cache(maxsize=None)
 def text_of(file: Path) -> str:
-    return file.read_text(encoding="utf-8")
+    return file.read_text(encoding="utf-8", errors="replace")
 
 
 def section(text: str, heading: str) -> str:
