@@ -34,8 +34,8 @@ enum {
 typedef struct {
     size_t size;    /* its bytes */
     uint8_t status; /* the status of the program: 1 where an opcode or a line is refused, the bytes have a fault, the lines of `calls` end in
-                       `unsure:`, `kept:` or `warning:`, a pickle is not in the form or does not pass a list, a loader may reach something, or a
-                       hole ends behind the last byte, 2 where a line of a list is no entry, else 0 */
+                       `unsure:`, `kept:` or `warning:`, a pickle is not in the form or does not pass a list, a loader may reach something,
+                       two pickles do not make the same objects, or a hole ends behind the last byte, 2 where a line of a list is no entry, else 0 */
 } picklestep_written;
 
 /* The opcodes of a pickle; with `many`, of several pickles that follow one another (`picklestep list FILE [--many]`). */
@@ -88,6 +88,11 @@ uint8_t picklestep_members(const uint8_t *bytes, size_t length, uint8_t *out, si
 /* The bytes that a text of opcodes is assembled to, which has lines as `picklestep list` prints them (`picklestep assemble FILE`). Where a line
  * gives none, its number and the reason are the text, and the status is 1. */
 uint8_t picklestep_assemble(const uint8_t *text, size_t length, uint8_t *out, size_t room, picklestep_written *written);
+
+/* Whether two pickles, or with `many` several in each input that follow one another, make the same objects in the same order, or how they differ
+ * (`picklestep same FILE OTHER [--many]`). The status is 0 where they make the same, else 1. */
+uint8_t picklestep_same(bool many, const uint8_t *bytes, size_t length, const uint8_t *other, size_t other_length, uint8_t *out, size_t room,
+                        picklestep_written *written);
 
 /* The answers of a conversation: those to all lines of a script, of `script_length` bytes, in a session of a pickle, or with `many` of several
  * (`picklestep debug FILE [--many]`, with the script as its standard input). A conversation that goes on is asked with all lines so far. */
