@@ -31,8 +31,8 @@ class Refused(unittest.TestCase):
 
     def test_what_changes_spellings_alone(self) -> None:
         data = pickle.dumps(['a', 5, {'b': (None, 'a' * 300)}], 5)
-        for name, write in (('protocols.changing', lambda: picklestep.convert(data, protocol=4)), ('optimizing', lambda: picklestep.optimize(data))):
-            with self.subTest(name), mock.patch(f'picklestep.{name}.same_bytes', return_value=_OTHER) as asked:
+        for name, write in (('convert', lambda: picklestep.convert(data, protocol=4)), ('optimize', lambda: picklestep.optimize(data))):
+            with self.subTest(name), mock.patch('picklestep.sameness.same_bytes', return_value=_OTHER) as asked:
                 with self.assertRaisesRegex(NotConverted, 'it would not make the same objects: another object #0'):
                     write()
                 self.assertEqual(asked.call_count, 1)
@@ -40,7 +40,7 @@ class Refused(unittest.TestCase):
     def test_what_has_other_objects(self) -> None:
         """Lines, calls that stand for opcodes, and names that a loader takes otherwise: these are not asked about."""
         for data, protocol in ((b'K\x05.', 0), (b'I5\n.', 1), (b'L5\n.', 0), (b'C\x01a.', 2), (b'\x80\x02cm\nn\n.', 3), (b'\x80\x03cm\nn\n.', 2), (b']K\x01aK\x02a.', 2)):
-            with self.subTest(data, protocol=protocol), mock.patch('picklestep.protocols.changing.same_bytes', return_value=_OTHER) as asked:
+            with self.subTest(data, protocol=protocol), mock.patch('picklestep.sameness.same_bytes', return_value=_OTHER) as asked:
                 picklestep.convert(data, protocol=protocol)
                 self.assertEqual(asked.call_count, 0)
 
