@@ -20,11 +20,12 @@ OF_TEXTS = {'texts.py': 1, 'scan/hash_steps.py': 5, 'scan/made_depths.py': 2}
 OF_SCRIPTS: Dict[str, int] = {}
 # Others of `scan`. They read files of other forms: names of files and of members, headers, and what begins or holds a pickle. Five modules read names and
 # entries of lists (`allow`, `names`, `policy`), and `reading` and `severity` what the package itself says.
-OF_SCAN = {'allow': 1, 'arrays': 1, 'begins': 3, 'canonical/items': 2, 'canonical/kinds': 2, 'canonical/npy': 1, 'canonical/pickles': 1, 'canonical/streams': 3,
-           'canonical/tars': 7, 'canonical/torch': 1, 'canonical/zips': 5, 'command': 1, 'containers': 5, 'costs': 1, 'fingerprints': 1, 'like_imports': 1,
-           'looking': 1, 'names': 6, 'other_forms': 1, 'other_loaders': 1, 'policy/index': 3, 'policy/patterns': 3, 'policy/reader': 2, 'reading': 4,
-           'reports/markdown': 2, 'severity': 2, 'stores/anywhere': 6, 'stores/dbm_files': 3, 'stores/early': 1, 'stores/encodings': 9, 'stores/long_texts': 1,
-           'stores/memcached_server': 3, 'stores/sql': 1, 'stores/sqlite': 1, 'stores/telling': 17, 'tar_headers': 1, 'tars': 1, 'walk': 1, 'zips': 1}
+OF_SCAN = {'allow': 1, 'arrays': 1, 'begins': 3, 'canonical/agreed': 2, 'canonical/items': 2, 'canonical/kinds': 2, 'canonical/npy': 1,
+           'canonical/pickles': 1, 'canonical/streams': 3, 'canonical/tars': 7, 'canonical/torch': 1, 'canonical/zips': 5, 'command': 1, 'containers': 5,
+           'costs': 1, 'fingerprints': 1, 'like_imports': 1, 'looking': 1, 'names': 6, 'other_forms': 1, 'other_loaders': 1, 'policy/index': 3,
+           'policy/patterns': 3, 'policy/reader': 2, 'reading': 4, 'reports/markdown': 2, 'severity': 2, 'stores/anywhere': 6, 'stores/dbm_files': 3,
+           'stores/early': 1, 'stores/encodings': 9, 'stores/long_texts': 1, 'stores/memcached_server': 3, 'stores/sql': 1, 'stores/sqlite': 1,
+           'stores/telling': 17, 'tar_headers': 1, 'tars': 1, 'walk': 1, 'zips': 1}
 # Others, whose patterns read something else: words that are typed, names, numbers of a pickle, letters of opcodes, files of other forms.
 OTHERS = {'dap/console.py': 1, 'dap/target.py': 3, 'dap/wire.py': 1, 'protocols/reading.py': 3, 'python_source/names.py': 2, 'python_source/shapes.py': 2,
           'edits.py': 1, 'question.py': 1, 'shell/expressions.py': 2, 'shell/shell.py': 4, 'shell/words.py': 4, 'sources.py': 1, 'unread.py': 7,
