@@ -60,7 +60,7 @@ AT_ONCE = 4
 NEEDS_OTHERS = ("INTERP", "NEEDED")
 LIMITS = (8, 16, 32, 64)  # MiB
 LIMITS_OF_ARM = (48, 64, 96)  # MiB of addresses in the emulator, which puts a stack and the like into the first 40
-MOST_BYTES = 12_500_000
+MOST_BYTES = 12_750_000
 
 
 class Answer(NamedTuple):
@@ -545,7 +545,7 @@ Row = tuple[str, Callable[[Machines], "str | Noted"]]
 ROWS: list[Row] = [
     ("the sample meets each word, option, opcode and code", lambda machines: fault_of_sample(machines.root)),
     ("further machines: tools of another version are noted", other_tools),
-    ("further machines: dist is under 12.5 MB", size_of_all),
+    ("further machines: dist is under 12.75 MB", size_of_all),
     ("x86-64, static: needs no other file", lambda machines: alone(machines, STATIC)),
     ("x86-64, static: the sample in an empty root", in_empty_root),
     ("x86-64, static: a few real pickles on what is like an Alpine", on_alpine),

@@ -24,8 +24,8 @@ PRINTED = re.compile(r"(?m)^\| (`.*?) \| (`.*?) \|")
 NUMBER_OR_TEXT = re.compile(r"\bN\b|'NAME'|\.\.")
 # Options that no row gives: a trial of its own saves, another one reads lines of JSON, and the package explains by itself.
 ELSEWHERE = frozenset(("--save", "--json", "--explain", "--list"))
-# Codes and refusals that no row meets, since what they refuse is too large for a row.
-TOO_LARGE = frozenset(("E7", "E8", "X7", "too many ways to read the bytes"))
+# Codes and refusals that no row meets, since what they refuse is too large for a row, or (V3) is refused in lines of JSON alone.
+UNMET = frozenset(("E7", "E8", "V3", "X7", "too many ways to read the bytes"))
 
 
 def refusals_of(root: Path) -> set[tuple[str, str]]:
@@ -98,9 +98,9 @@ def named(root: Path) -> set[tuple[str, str]]:
     """What a sample has to meet: each opcode that Python has, each code of docs/reference/codes.md, each word of the debugger, and each option, status and refusal
     of each word."""
     codes = re.findall(r"(?m)^- \*\*([A-Z]\d+)\b", (root / "docs/reference/codes.md").read_text("utf-8"))
-    met = {("", name) for name in (*(opcode.name for opcode in pickletools.opcodes), *codes) if name not in TOO_LARGE}
+    met = {("", name) for name in (*(opcode.name for opcode in pickletools.opcodes), *codes) if name not in UNMET}
     met |= {(word, f"status {status}") for word in WORDS for status in (0, 1)}
-    met |= {pair for pair in refusals_of(root) if pair[1] not in TOO_LARGE}
+    met |= {pair for pair in refusals_of(root) if pair[1] not in UNMET}
     pages = {word: (root / f"python/picklestep/help/{word}.txt").read_text("utf-8") for word in WORDS}
     for word, page in pages.items():
         met |= {(word, option) for option in re.findall(r"(?m)^  (--[a-z-]+)", page) if option not in ELSEWHERE}

@@ -138,7 +138,8 @@ class ShownObjects(Answer[Shown]):
         ...     session.step(), session.show(0).text
         (1, '0 #0 none\\n')
         """
-        return ''.join(f'{conversation.shown_text(each.depth, each.number, each.json and conversation.read(each.json))}\n' for each in self._lines)
+        fields = ((each, None if each.json is None else conversation.read(each.json)) for each in self._lines)
+        return ''.join(f'{conversation.shown_text(each.depth, each.number, read)}\n' for each, read in fields)
 
     def _find(self) -> Iterator[int]:
         return iter(range(len(self._lines)))

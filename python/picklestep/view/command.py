@@ -110,7 +110,7 @@ def _lesson(path: str) -> str:
 def _name(options: argparse.Namespace, found: Optional[Opened]) -> str:
     """What the pickle is called: the name of its file, and where it is in there."""
     path, rest = (options.file, '') if found is None else (found.path, found.address[len(found.path):])
-    return (path if is_at_server(path) else os.path.basename(path)) + rest
+    return f'{path if is_at_server(path) else os.path.basename(path)}{rest}'
 
 
 def _served(options: argparse.Namespace) -> Served:
