@@ -20,7 +20,7 @@ from picklestep.scan.blobs import Budget, BytesBlob, PartMet
 from picklestep.scan.canonical import Form, NotCanonical, agreed, archives
 from picklestep.scan.names import Names
 from picklestep.scan.zips import read_archive, unpacker_of
-from scan_support import HOSTILE, Made, ScanCase, closing, entry, local, looks_at, names_of, notes_of, places_of, zip_of
+from scan_support import HOSTILE, Made, ScanCase, Unseekable, closing, entry, local, looks_at, names_of, notes_of, places_of, zip_of
 from test_scan_honest import changed
 from test_scan_members import with_number
 
@@ -33,21 +33,6 @@ GIT = struct.pack('<HHBI', 0x5455, 5, 1, 1)
 NTFS = struct.pack('<HHIHH', 0x000A, 32, 0, 1, 24) + bytes(24)
 WHY = 'the gate does not know its form'
 MARK = 'not in the form that torch, numpy, zipfile and Info-ZIP write'
-
-
-class Unseekable(io.RawIOBase):
-    """A stream in which sizes stand behind the data."""
-
-    def __init__(self) -> None:
-        super().__init__()
-        self.written = b''
-
-    def writable(self) -> bool:
-        return True
-
-    def write(self, data: Any) -> int:
-        self.written += bytes(data)
-        return len(data)
 
 
 def zipped(*members: Tuple[str, bytes], method: int = 8, extra: bytes = b'', comment: bytes = b'', is_stream: bool = False) -> bytes:

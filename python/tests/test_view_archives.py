@@ -24,6 +24,7 @@ from typing import Any, Dict, List
 
 import picklestep
 from pickles import HOSTILE, ROOT, known_opcodes
+from scan_support import Unseekable
 from test_view_alone import MODELS, InChromium
 
 SCRIPTS = [ROOT / 'python' / 'picklestep' / 'view' / name for name in ('bytes.js', 'alone/lines.js', 'alone/library.js', 'alone/containers.js')]
@@ -61,21 +62,6 @@ def sums(path: Path) -> Dict[str, str]:
     """What `zipfile` reads of an archive."""
     with zipfile.ZipFile(path) as archive:
         return {name: hashlib.sha256(archive.read(name)).hexdigest() for name in archive.namelist() if not name.endswith('/')}
-
-
-class _Unseekable(io.RawIOBase):
-    """A stream that a writer cannot go back in, so that sizes stand behind the data."""
-
-    def __init__(self) -> None:
-        super().__init__()
-        self.written = b''
-
-    def writable(self) -> bool:
-        return True
-
-    def write(self, data: Any) -> int:
-        self.written += bytes(data)
-        return len(data)
 
 
 def torch_like(members: Dict[str, bytes], in_extra: bool) -> bytes:
@@ -150,7 +136,7 @@ class Archives(unittest.TestCase):
     def test_long_forms(self) -> None:
         """Keras asks zipfile for long sizes before the data; streams have sizes behind them; above 65,535 members the short count is none."""
         members = {'model/data.pkl': HOSTILE, 'model/version': b'3\n', 'model/data/0': bytes(100)}
-        forced, stream, many = io.BytesIO(), _Unseekable(), io.BytesIO()
+        forced, stream, many = io.BytesIO(), Unseekable(), io.BytesIO()
         with zipfile.ZipFile(forced, 'w', zipfile.ZIP_DEFLATED) as archive:
             for name, data in members.items():
                 with archive.open(name, 'w', force_zip64=True) as out:
