@@ -41,7 +41,6 @@ pub fn array_sentence(why: ArrayReason) -> &'static str
 }
 
 /// Writes the first rule that an array breaks, and where.
-#[tactic(auto, using(pickle_io::proofs::Devices::text_steps), unfolding(crate::specs::FaultText::array_line))]
 pub(crate) fn write_array_line<S: Page>(refusal: ArrayRefusal, page: &mut S) -> Result<(), Failed>
     ensures { Writes (S.told page.old) (S.told page.new) result (array_line refusal) }
 {
@@ -61,7 +60,6 @@ fn behind_words() -> &'static str
 }
 
 /// Writes what is said of what is behind the header of an array.
-#[tactic(auto, using(pickle_io::proofs::Devices::text_steps), unfolding(crate::specs::FaultText::behind_text))]
 pub(crate) fn write_behind<S: Page>(
     verdict: Verdict,
     line: &[u8],
@@ -96,7 +94,6 @@ fn stream_words() -> &'static str
 }
 
 /// Writes why a packed member is no stream of deflate, and where.
-#[tactic(auto, using(pickle_io::proofs::Devices::text_steps), unfolding(crate::specs::FaultText::stream_line))]
 fn write_stream<S: Page>(refusal: Refusal, page: &mut S) -> Result<(), Failed>
     ensures { Writes (S.told page.old) (S.told page.new) result (stream_line refusal) }
 {
@@ -174,7 +171,6 @@ fn write_fault<S: Page>(fault: Fault, line: &[u8], page: &mut S) -> Result<(), F
 }
 
 /// Writes the same with the name of the member in front.
-#[tactic(auto, using(pickle_io::proofs::Devices::text_steps), unfolding(crate::specs::FaultText::named))]
 pub(crate) fn write_failing<S: Page>(
     name: &[u8],
     fault: Fault,

@@ -78,7 +78,6 @@ pub fn write_file<S: Page>(
 }
 
 /// Writes what is said of a file, with its name in front.
-#[tactic(auto, using(pickle_io::proofs::Devices::text_steps), unfolding(crate::specs::FaultText::named))]
 fn write_named<S: Page>(name: &[u8], judged: &Judged<'_>, page: &mut S) -> Result<(), Failed>
     ensures { Writes (S.told page.old) (S.told page.new) result (named name.now (judged_output judged.now).text) }
 {
@@ -121,7 +120,6 @@ fn no_entry_words() -> &'static str
 }
 
 /// Writes that a line of a list is no entry. `Failed` where the sink fails; a beginning of the text was written then.
-#[tactic(auto, using(pickle_io::proofs::Devices::text_steps), unfolding(crate::specs::GateText::no_list_line))]
 pub fn write_no_list<S: Page>(line: usize, page: &mut S) -> Result<(), Failed>
     ensures { Writes (S.told page.old) (S.told page.new) result (no_list_line line) }
 {

@@ -24,7 +24,6 @@ use zip_archive::{EntryRef, Refusal, read_zip};
 const DEFLATE: u16 = 8;
 
 /// Writes to how many bytes a member was packed.
-#[tactic(auto, using(pickle_io::proofs::Devices::text_steps), unfolding(crate::specs::MembersText::deflated_text))]
 fn write_deflated<S: Page>(packed: usize, page: &mut S) -> Result<(), Failed>
     ensures { Writes (S.told page.old) (S.told page.new) result (deflated_text packed) }
 {
@@ -46,7 +45,6 @@ fn write_packed<S: Page>(entry: &EntryRef<'_>, page: &mut S) -> Result<(), Faile
 }
 
 /// Writes the line of a member.
-#[tactic(auto, using(pickle_io::proofs::Devices::text_steps), unfolding(crate::specs::MembersText::member_line))]
 fn write_member<S: Page>(entry: &EntryRef<'_>, page: &mut S) -> Result<(), Failed>
     requires { data_place entry.now < 2 ^ 64 }
     ensures { Writes (S.told page.old) (S.told page.new) result (member_line entry.now) }
@@ -72,7 +70,6 @@ fn write_lines<S: Page>(entries: &[EntryRef<'_>], page: &mut S) -> Result<(), Fa
 }
 
 /// Writes the first rule that bytes break, and where.
-#[tactic(auto, using(pickle_io::proofs::Devices::text_steps), unfolding(crate::specs::MembersText::refusal_line))]
 pub(crate) fn write_refusal<S: Page>(refusal: Refusal, page: &mut S) -> Result<(), Failed>
     ensures { Writes (S.told page.old) (S.told page.new) result (refusal_line refusal) }
 {
@@ -112,7 +109,6 @@ fn start_of(packing: Packing, bytes: &[u8]) -> usize
 }
 
 /// Writes the line of what a packed file opens to.
-#[tactic(auto, using(pickle_io::proofs::Devices::text_steps), unfolding(crate::specs::MembersText::packed_member_line))]
 fn write_packed_member<S: Page>(
     packing: Packing,
     start: usize,

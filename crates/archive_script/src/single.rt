@@ -82,7 +82,6 @@ pub fn packing_word(packing: Packing) -> &'static [u8]
 }
 
 /// Writes what is said of what a packed file opens to, with its address in front.
-#[tactic(auto, using(pickle_io::proofs::Devices::text_steps), unfolding(crate::specs::FaultText::named))]
 fn write_addressed<S: Page>(packing: Packing, single: &Single, page: &mut S) -> Result<(), Failed>
     ensures { Writes (S.told page.old) (S.told page.new) result (named (packing_word packing) (single_output single.now).text) }
 {
@@ -124,7 +123,6 @@ pub fn packed_sentence(why: PackedReason) -> &'static str
 }
 
 /// Writes the first rule that a packed file breaks, and where.
-#[tactic(auto, using(pickle_io::proofs::Devices::text_steps), unfolding(crate::specs::SingleText::packed_line))]
 fn write_packed_line<S: Page>(refusal: PackedRefusal, page: &mut S) -> Result<(), Failed>
     ensures { Writes (S.told page.old) (S.told page.new) result (packed_line refusal) }
 {
@@ -152,7 +150,6 @@ fn too_large_back() -> &'static str
 }
 
 /// Writes that something unpacks to more bytes than a file may have.
-#[tactic(auto, using(pickle_io::proofs::Devices::text_steps), unfolding(crate::specs::SingleText::too_large_line))]
 pub(crate) fn write_too_large<S: Page>(page: &mut S) -> Result<(), Failed>
     ensures { Writes (S.told page.old) (S.told page.new) result too_large_line }
 {

@@ -36,7 +36,6 @@ pub fn tar_sentence(why: Reason) -> &'static str
 }
 
 /// Writes the first rule that a tar archive breaks, and where.
-#[tactic(auto, using(pickle_io::proofs::Devices::text_steps), unfolding(crate::specs::TarText::tar_line))]
 pub(crate) fn write_tar_line<S: Page>(refusal: Refusal, page: &mut S) -> Result<(), Failed>
     ensures { Writes (S.told page.old) (S.told page.new) result (tar_line refusal) }
 {

@@ -49,7 +49,6 @@ fn line_words() -> &'static str
 }
 
 /// Writes the number of the first line that gives no bytes, and why.
-#[tactic(auto, using(pickle_io::proofs::Devices::text_steps), unfolding(crate::specs::AssemblyText::refused_line))]
 fn write_refusal<S: Page>(number: u64, why: &str, page: &mut S) -> Result<(), Failed>
     ensures { Writes (S.told page.old) (S.told page.new) result (refused_line number why.now) }
 {

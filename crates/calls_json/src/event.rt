@@ -100,7 +100,6 @@ fn made_word(kind: KindRef<'_>) -> &'static str
 }
 
 /// Writes a member of a module that is imported and called.
-#[tactic(auto, using(json_lines::proofs::Lines::fields_steps), unfolding(crate::specs::EventFields::inst_fields))]
 fn write_inst<M: Inspect, P: Page>(
     naming: Naming,
     machine: &M,
@@ -116,7 +115,6 @@ fn write_inst<M: Inspect, P: Page>(
 }
 
 /// Writes what is called, and the arguments.
-#[tactic(auto, using(json_lines::proofs::Lines::fields_steps), unfolding(crate::specs::EventFields::call_fields))]
 fn write_call<M: Inspect, P: Page>(
     naming: Naming,
     machine: &M,
@@ -130,7 +128,6 @@ fn write_call<M: Inspect, P: Page>(
 }
 
 /// Writes the same with arguments that have names.
-#[tactic(auto, using(json_lines::proofs::Lines::fields_steps), unfolding(crate::specs::EventFields::call_with_fields))]
 fn write_call_with<M: Inspect, P: Page>(
     naming: Naming,
     machine: &M,
@@ -154,7 +151,6 @@ fn after_first(parts: &[ObjId]) -> &[ObjId]
 }
 
 /// Writes the class, and the arguments after it.
-#[tactic(auto, using(json_lines::proofs::Lines::fields_steps), unfolding(crate::specs::EventFields::obj_fields))]
 fn write_obj<M: Inspect, P: Page>(
     naming: Naming,
     machine: &M,
@@ -219,7 +215,6 @@ fn write_made_fields<M: Inspect, P: Page>(
 }
 
 /// Begins a line: its kind, and where the item is.
-#[tactic(auto, using(pickle_io::proofs::Devices::text_steps), unfolding(crate::specs::EventFields::begun_at))]
 fn begin_event<P: Page>(kind: &str, offset: u64, page: &mut P) -> Result<(), Failed>
     ensures { Writes (P.told page.old) (P.told page.new) result (begun_at kind.now offset) }
 {
@@ -228,7 +223,6 @@ fn begin_event<P: Page>(kind: &str, offset: u64, page: &mut P) -> Result<(), Fai
 }
 
 /// Ends a line with its object, and the line for people.
-#[tactic(auto, using(pickle_io::proofs::Devices::text_steps), unfolding(crate::specs::EventFields::ended_with))]
 fn end_event<P: Page>(id: ObjId, line: &LineBuffer, page: &mut P) -> Result<(), Failed>
     ensures { Writes (P.told page.old) (P.told page.new) result (ended_with id (line_text (held_by line.now))) }
 {
@@ -238,7 +232,6 @@ fn end_event<P: Page>(id: ObjId, line: &LineBuffer, page: &mut P) -> Result<(), 
 }
 
 /// Writes the line of an object that was made.
-#[tactic(auto, using(crate::proofs::Events::event_steps), unfolding(crate::specs::EventFields::made_line))]
 fn write_made_line<M: Inspect, P: Page>(
     offset: u64,
     line: &LineBuffer,
@@ -257,7 +250,6 @@ fn write_made_line<M: Inspect, P: Page>(
 }
 
 /// Writes the line of an object that is not there.
-#[tactic(auto, using(crate::proofs::Events::bare_steps), unfolding(crate::specs::EventFields::absent_line))]
 fn write_absent_line<P: Page>(
     offset: u64,
     line: &LineBuffer,
@@ -291,7 +283,6 @@ fn write_made<M: Inspect, P: Page>(
 }
 
 /// Writes the line of an object that becomes the state of another.
-#[tactic(auto, using(crate::proofs::Events::event_steps), unfolding(crate::specs::EventFields::state_line))]
 fn write_state<M: Inspect, P: Page>(
     offset: u64,
     line: &LineBuffer,
@@ -330,7 +321,6 @@ fn write_count<P: Page>(count: usize, page: &mut P) -> Result<(), Failed>
 }
 
 /// Writes the line of what goes into an object.
-#[tactic(auto, using(crate::proofs::Events::event_steps), unfolding(crate::specs::EventFields::filled_line))]
 fn write_filled<P: Page>(
     offset: u64,
     line: &LineBuffer,

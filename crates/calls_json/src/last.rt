@@ -36,7 +36,6 @@ use pickle_ops::ObjId;
 use pickle_text::Closing;
 
 /// Writes what the bytes begin like.
-#[tactic(auto, using(json_lines::proofs::Lines::fields_steps))]
 fn write_like_fields<P: Page>(name: &str, page: &mut P) -> Result<(), Failed>
     ensures { Writes (P.told page.old) (P.told page.new) result (fields_text (like_fields name.now)) }
 {
@@ -45,7 +44,6 @@ fn write_like_fields<P: Page>(name: &str, page: &mut P) -> Result<(), Failed>
 }
 
 /// Writes the line of what the bytes begin like.
-#[tactic(auto, using(json_lines::proofs::Lines::line_steps), unfolding(crate::specs::LastFields::like_line))]
 fn write_like<P: Page>(name: &str, page: &mut P) -> Result<(), Failed>
     ensures { Writes (P.told page.old) (P.told page.new) result (like_line name.now) }
 {
@@ -66,7 +64,6 @@ fn write_begins<P: Page>(bytes: &[u8], page: &mut P) -> Result<(), Failed>
 }
 
 /// Writes how many imports and calls there are.
-#[tactic(auto, using(json_lines::proofs::Lines::fields_steps))]
 fn write_counts_fields<P: Page>(course: Course, page: &mut P) -> Result<(), Failed>
     ensures { Writes (P.told page.old) (P.told page.new) result (fields_text (counts_fields course.imports course.calls)) }
 {
@@ -76,7 +73,6 @@ fn write_counts_fields<P: Page>(course: Course, page: &mut P) -> Result<(), Fail
 }
 
 /// Writes the line of how many imports and calls there are.
-#[tactic(auto, using(json_lines::proofs::Lines::line_steps), unfolding(crate::specs::LastFields::counts_line))]
 fn write_counts<P: Page>(course: Course, page: &mut P) -> Result<(), Failed>
     ensures { Writes (P.told page.old) (P.told page.new) result (counts_line course.imports course.calls) }
 {
@@ -102,7 +98,6 @@ fn write_item<P: Page>(place: usize, page: &mut P) -> Result<(), Failed>
 }
 
 /// Writes an end after STOP, and the line for people.
-#[tactic(auto, using(json_lines::proofs::Lines::fields_steps))]
 fn write_stopped_shown<P: Page>(kept: u64, line: &LineBuffer, page: &mut P) -> Result<(), Failed>
     ensures { Writes (P.told page.old) (P.told page.new) result (fields_text (stopped_fields kept None ⊕ shown_fields (line_text (held_by line.now)))) }
 {
@@ -111,7 +106,6 @@ fn write_stopped_shown<P: Page>(kept: u64, line: &LineBuffer, page: &mut P) -> R
 }
 
 /// Writes the line of an end after STOP, behind which there are `kept` bytes.
-#[tactic(auto, using(json_lines::proofs::Lines::line_steps), unfolding(crate::specs::LastFields::stopped_line))]
 fn write_stopped<P: Page>(kept: u64, line: &LineBuffer, page: &mut P) -> Result<(), Failed>
     ensures { Writes (P.told page.old) (P.told page.new) result (stopped_line kept (line_text (held_by line.now))) }
 {
@@ -121,7 +115,6 @@ fn write_stopped<P: Page>(kept: u64, line: &LineBuffer, page: &mut P) -> Result<
 }
 
 /// Writes why an item is refused, and which it is.
-#[tactic(auto, using(json_lines::proofs::Lines::fields_steps))]
 fn write_refused_item<P: Page>(place: usize, refusal: Refusal, page: &mut P) -> Result<(), Failed>
     ensures { Writes (P.told page.old) (P.told page.new) result (fields_text (refused_fields refusal None ⊕ item_fields place)) }
 {
@@ -130,7 +123,6 @@ fn write_refused_item<P: Page>(place: usize, refusal: Refusal, page: &mut P) -> 
 }
 
 /// Writes an end at an item that is refused, and the line for people.
-#[tactic(auto, using(json_lines::proofs::Lines::fields_steps))]
 fn write_refused_shown<P: Page>(
     place: usize,
     refusal: Refusal,
@@ -144,7 +136,6 @@ fn write_refused_shown<P: Page>(
 }
 
 /// Writes the line of an end at an item that is refused.
-#[tactic(auto, using(json_lines::proofs::Lines::line_steps), unfolding(crate::specs::LastFields::refused_line))]
 fn write_refused<P: Page>(
     place: usize,
     refusal: Refusal,
@@ -159,7 +150,6 @@ fn write_refused<P: Page>(
 }
 
 /// Writes an end at a fault, and the line for people.
-#[tactic(auto, using(json_lines::proofs::Lines::fields_steps))]
 fn write_fault_shown<P: Page>(
     fault: TailFault,
     offset: u64,
@@ -173,7 +163,6 @@ fn write_fault_shown<P: Page>(
 }
 
 /// Writes the line of an end at a fault.
-#[tactic(auto, using(json_lines::proofs::Lines::line_steps), unfolding(crate::specs::LastFields::fault_line))]
 fn write_fault<P: Page>(
     fault: TailFault,
     offset: u64,
@@ -212,7 +201,6 @@ fn mixed_words() -> &'static str
 }
 
 /// Writes that a frame goes on behind the STOP at this offset.
-#[tactic(auto, using(json_lines::proofs::Lines::fields_steps))]
 fn write_unsure_fields<P: Page>(offset: u64, page: &mut P) -> Result<(), Failed>
     ensures { Writes (P.told page.old) (P.told page.new) result (fields_text (how_fields (codes "unsure") ⊕ coded_fields (codes "U1") unsure_words ⊕ at_fields offset)) }
 {
@@ -222,7 +210,6 @@ fn write_unsure_fields<P: Page>(offset: u64, page: &mut P) -> Result<(), Failed>
 }
 
 /// Writes an end behind which loaders disagree, and the line for people.
-#[tactic(auto, using(json_lines::proofs::Lines::fields_steps))]
 fn write_unsure_shown<P: Page>(offset: u64, line: &LineBuffer, page: &mut P) -> Result<(), Failed>
     ensures { Writes (P.told page.old) (P.told page.new) result (fields_text (how_fields (codes "unsure") ⊕ coded_fields (codes "U1") unsure_words ⊕ at_fields offset ⊕ shown_fields (line_text (held_by line.now)))) }
 {
@@ -231,7 +218,6 @@ fn write_unsure_shown<P: Page>(offset: u64, line: &LineBuffer, page: &mut P) -> 
 }
 
 /// Writes the line of an end behind which loaders disagree.
-#[tactic(auto, using(json_lines::proofs::Lines::line_steps), unfolding(crate::specs::LastFields::unsure_line))]
 fn write_unsure<P: Page>(offset: u64, line: &LineBuffer, page: &mut P) -> Result<(), Failed>
     ensures { Writes (P.told page.old) (P.told page.new) result (unsure_line offset (line_text (held_by line.now))) }
 {
@@ -289,7 +275,6 @@ fn write_part_closing<P: Page>(closing: Closing, page: &mut P) -> Result<(), Fai
 }
 
 /// Writes what the bytes begin like, how many imports and calls there are, and how the reading ended, with its offset in the file.
-#[tactic(auto, using(pickle_io::proofs::Devices::text_steps), unfolding(crate::specs::LastFields::end_text))]
 pub fn write_end_lines<P: Page>(
     bytes: &[u8],
     course: Course,
@@ -320,7 +305,6 @@ fn deep_words() -> &'static str
 }
 
 /// Writes what an object warns of.
-#[tactic(auto, using(json_lines::proofs::Lines::fields_steps), unfolding(crate::specs::LastFields::warning_fields))]
 fn write_warning_fields<P: Page>(
     about: &str,
     id: ObjId,
@@ -335,7 +319,6 @@ fn write_warning_fields<P: Page>(
 }
 
 /// Writes that an import leads to the unpickler, and the line for people.
-#[tactic(auto, using(json_lines::proofs::Lines::fields_steps))]
 fn write_leads_fields<P: Page>(id: ObjId, page: &mut P) -> Result<(), Failed>
     ensures { Writes (P.told page.old) (P.told page.new) result (fields_text (warning_fields (codes "unpickler") id leads_words ⊕ shown_fields (line_text (warning_line id)))) }
 {
@@ -344,7 +327,6 @@ fn write_leads_fields<P: Page>(id: ObjId, page: &mut P) -> Result<(), Failed>
 }
 
 /// Writes the line of an import that leads to the unpickler.
-#[tactic(auto, using(json_lines::proofs::Lines::line_steps), unfolding(crate::specs::LastFields::leads_line))]
 fn write_leads_line<P: Page>(id: ObjId, page: &mut P) -> Result<(), Failed>
     ensures { Writes (P.told page.old) (P.told page.new) result (leads_line id) }
 {
@@ -354,7 +336,6 @@ fn write_leads_line<P: Page>(id: ObjId, page: &mut P) -> Result<(), Failed>
 }
 
 /// Writes that a tuple is nested too deep, and the line for people.
-#[tactic(auto, using(json_lines::proofs::Lines::fields_steps))]
 fn write_deep_fields<P: Page>(id: ObjId, page: &mut P) -> Result<(), Failed>
     ensures { Writes (P.told page.old) (P.told page.new) result (fields_text (warning_fields (codes "nesting") id deep_words ⊕ shown_fields (line_text (nested_line id)))) }
 {
@@ -363,7 +344,6 @@ fn write_deep_fields<P: Page>(id: ObjId, page: &mut P) -> Result<(), Failed>
 }
 
 /// Writes the line of a tuple that is nested too deep.
-#[tactic(auto, using(json_lines::proofs::Lines::line_steps), unfolding(crate::specs::LastFields::deep_line))]
 fn write_deep_line<P: Page>(id: ObjId, page: &mut P) -> Result<(), Failed>
     ensures { Writes (P.told page.old) (P.told page.new) result (deep_line id) }
 {
@@ -419,7 +399,6 @@ fn frames_word(frames: Frames) -> &'static str
 }
 
 /// Writes what a loader does with frames, and the line for people.
-#[tactic(auto, using(json_lines::proofs::Lines::fields_steps))]
 fn write_heading_fields<P: Page>(frames: Frames, page: &mut P) -> Result<(), Failed>
     ensures { Writes (P.told page.old) (P.told page.new) result (fields_text (field (codes "frames") (string (frames_word frames)) ⊕ shown_fields (line_text (header frames)))) }
 {
@@ -428,7 +407,6 @@ fn write_heading_fields<P: Page>(frames: Frames, page: &mut P) -> Result<(), Fai
 }
 
 /// Writes the line above what loaders may do.
-#[tactic(auto, using(json_lines::proofs::Lines::line_steps), unfolding(crate::specs::LastFields::heading_line))]
 pub fn write_heading<P: Page>(frames: Frames, page: &mut P) -> Result<(), Failed>
     ensures { Writes (P.told page.old) (P.told page.new) result (heading_line frames) }
 {
@@ -438,7 +416,6 @@ pub fn write_heading<P: Page>(frames: Frames, page: &mut P) -> Result<(), Failed
 }
 
 /// Writes how a part ended, and a line where an import leads to the unpickler.
-#[tactic(auto, using(pickle_io::proofs::Devices::text_steps))]
 fn write_closing_warned<P: Page>(
     closing: Closing,
     leads: Option<ObjId>,
@@ -451,7 +428,6 @@ fn write_closing_warned<P: Page>(
 }
 
 /// Writes the last lines of a part.
-#[tactic(auto, using(pickle_io::proofs::Devices::text_steps), unfolding(crate::specs::LastFields::part_end))]
 pub fn write_part_end<P: Page>(
     course: Course,
     closing: Closing,
@@ -465,7 +441,6 @@ pub fn write_part_end<P: Page>(
 }
 
 /// Writes what loaders disagree about, and where.
-#[tactic(auto, using(json_lines::proofs::Lines::fields_steps))]
 fn write_coded_at<P: Page>(code: &str, words: &str, offset: u64, page: &mut P) -> Result<(), Failed>
     ensures { Writes (P.told page.old) (P.told page.new) result (fields_text (coded_fields code.now words.now ⊕ at_fields offset)) }
 {
@@ -474,7 +449,6 @@ fn write_coded_at<P: Page>(code: &str, words: &str, offset: u64, page: &mut P) -
 }
 
 /// Writes where bytes of a frame are lost, and the line for people.
-#[tactic(auto, using(json_lines::proofs::Lines::fields_steps))]
 fn write_loss_fields<P: Page>(offset: u64, page: &mut P) -> Result<(), Failed>
     ensures { Writes (P.told page.old) (P.told page.new) result (fields_text (coded_fields (codes "U2") loss_words ⊕ at_fields offset ⊕ shown_fields (line_text (lost_line offset)))) }
 {
@@ -483,7 +457,6 @@ fn write_loss_fields<P: Page>(offset: u64, page: &mut P) -> Result<(), Failed>
 }
 
 /// Writes that bytes of a frame are lost at this offset.
-#[tactic(auto, using(json_lines::proofs::Lines::line_steps), unfolding(crate::specs::LastFields::loss_line))]
 pub fn write_loss<P: Page>(offset: u64, page: &mut P) -> Result<(), Failed>
     ensures { Writes (P.told page.old) (P.told page.new) result (loss_line offset) }
 {
@@ -493,7 +466,6 @@ pub fn write_loss<P: Page>(offset: u64, page: &mut P) -> Result<(), Failed>
 }
 
 /// Writes from where frames may be mixed, and the line for people.
-#[tactic(auto, using(json_lines::proofs::Lines::fields_steps))]
 fn write_mixed_fields<P: Page>(offset: u64, page: &mut P) -> Result<(), Failed>
     ensures { Writes (P.told page.old) (P.told page.new) result (fields_text (coded_fields (codes "U3") mixed_words ⊕ at_fields offset ⊕ shown_fields (line_text (mixing_line offset)))) }
 {
@@ -502,7 +474,6 @@ fn write_mixed_fields<P: Page>(offset: u64, page: &mut P) -> Result<(), Failed>
 }
 
 /// Writes that frames may be mixed from this offset on.
-#[tactic(auto, using(json_lines::proofs::Lines::line_steps), unfolding(crate::specs::LastFields::mixed_line))]
 pub fn write_mixed<P: Page>(offset: u64, page: &mut P) -> Result<(), Failed>
     ensures { Writes (P.told page.old) (P.told page.new) result (mixed_line offset) }
 {
@@ -512,7 +483,6 @@ pub fn write_mixed<P: Page>(offset: u64, page: &mut P) -> Result<(), Failed>
 }
 
 /// Writes which hole it is, and how many bytes there are.
-#[tactic(auto, using(json_lines::proofs::Lines::fields_steps), unfolding(crate::specs::LastFields::hole_fields))]
 fn write_hole_fields<P: Page>(hole: Hole, size: usize, page: &mut P) -> Result<(), Failed>
     ensures { Writes (P.told page.old) (P.told page.new) result (fields_text (hole_fields hole size)) }
 {
@@ -522,7 +492,6 @@ fn write_hole_fields<P: Page>(hole: Hole, size: usize, page: &mut P) -> Result<(
 }
 
 /// Writes the line of a hole that does not lie within so many bytes.
-#[tactic(auto, using(json_lines::proofs::Lines::line_steps), unfolding(crate::specs::LastFields::hole_line))]
 pub fn write_hole<P: Page>(hole: Hole, size: usize, page: &mut P) -> Result<(), Failed>
     ensures { Writes (P.told page.old) (P.told page.new) result (hole_line hole size) }
 {
@@ -532,7 +501,6 @@ pub fn write_hole<P: Page>(hole: Hole, size: usize, page: &mut P) -> Result<(), 
 }
 
 /// Writes the last line of all, with the status.
-#[tactic(auto, using(json_lines::proofs::Lines::line_steps), unfolding(crate::specs::LastFields::status_line))]
 pub fn write_status<P: Page>(status: u8, page: &mut P) -> Result<(), Failed>
     ensures { Writes (P.told page.old) (P.told page.new) result (status_line status) }
 {

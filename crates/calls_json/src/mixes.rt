@@ -55,7 +55,6 @@ fn write_many_shown<P: Page>(page: &mut P) -> Result<(), Failed>
 }
 
 /// Writes the line above the opcodes.
-#[tactic(auto, using(json_lines::proofs::Lines::line_steps), unfolding(crate::specs::MixFields::above_line))]
 pub fn write_above<P: Page>(page: &mut P) -> Result<(), Failed>
     ensures { Writes (P.told page.old) (P.told page.new) result above_line }
 {
@@ -65,7 +64,6 @@ pub fn write_above<P: Page>(page: &mut P) -> Result<(), Failed>
 }
 
 /// Writes where an opcode is, and its name.
-#[tactic(auto, using(json_lines::proofs::Lines::fields_steps))]
 fn write_opcode_fields<P: Page>(offset: u64, op: &Op, page: &mut P) -> Result<(), Failed>
     ensures { Writes (P.told page.old) (P.told page.new) result (fields_text (field (codes "offset") (whole offset) ⊕ field (codes "opcode") (string (name_of op.now.opcode)))) }
 {
@@ -74,7 +72,6 @@ fn write_opcode_fields<P: Page>(offset: u64, op: &Op, page: &mut P) -> Result<()
 }
 
 /// Writes where an opcode is, its name, and its line.
-#[tactic(auto, using(json_lines::proofs::Lines::fields_steps))]
 fn write_taken_fields<P: Page>(offset: u64, op: &Op, page: &mut P) -> Result<(), Failed>
     ensures { Writes (P.told page.old) (P.told page.new) result (fields_text (taken_fields offset op.now)) }
 {
@@ -83,7 +80,6 @@ fn write_taken_fields<P: Page>(offset: u64, op: &Op, page: &mut P) -> Result<(),
 }
 
 /// Writes the line of an opcode.
-#[tactic(auto, using(json_lines::proofs::Lines::line_steps), unfolding(crate::specs::MixFields::taken_line))]
 pub fn write_taken<P: Page>(offset: u64, op: &Op, page: &mut P) -> Result<(), Failed>
     ensures { Writes (P.told page.old) (P.told page.new) result (taken_line offset op.now) }
 {
@@ -93,7 +89,6 @@ pub fn write_taken<P: Page>(offset: u64, op: &Op, page: &mut P) -> Result<(), Fa
 }
 
 /// Writes how many opcodes there are.
-#[tactic(auto, using(json_lines::proofs::Lines::fields_steps))]
 fn write_below_fields<P: Page>(count: u64, page: &mut P) -> Result<(), Failed>
     ensures { Writes (P.told page.old) (P.told page.new) result (fields_text (below_fields count)) }
 {
@@ -102,7 +97,6 @@ fn write_below_fields<P: Page>(count: u64, page: &mut P) -> Result<(), Failed>
 }
 
 /// Writes the line below so many opcodes.
-#[tactic(auto, using(json_lines::proofs::Lines::line_steps), unfolding(crate::specs::MixFields::below_line))]
 pub fn write_below<P: Page>(count: u64, page: &mut P) -> Result<(), Failed>
     ensures { Writes (P.told page.old) (P.told page.new) result (below_line count) }
 {
@@ -112,7 +106,6 @@ pub fn write_below<P: Page>(count: u64, page: &mut P) -> Result<(), Failed>
 }
 
 /// Writes that there are too many ways to read the bytes.
-#[tactic(auto, using(json_lines::proofs::Lines::line_steps), unfolding(crate::specs::MixFields::many_line))]
 pub fn write_too_many<P: Page>(page: &mut P) -> Result<(), Failed>
     ensures { Writes (P.told page.old) (P.told page.new) result many_line }
 {

@@ -34,7 +34,6 @@ fn write_said<P: Page>(
 }
 
 /// Writes both names as they are said.
-#[tactic(auto, using(json_lines::proofs::Lines::fields_steps), unfolding(crate::specs::NameFields::pair_fields))]
 fn write_pair<P: Page>(pair: NamePair<'_>, page: &mut P) -> Result<(), Failed>
     ensures { Writes (P.told page.old) (P.told page.new) result (fields_text (pair_fields (pair_view pair.entry))) }
 {
@@ -43,7 +42,6 @@ fn write_pair<P: Page>(pair: NamePair<'_>, page: &mut P) -> Result<(), Failed>
 }
 
 /// Writes the names that the pickle says, where something else is imported for them.
-#[tactic(auto, using(json_lines::proofs::Lines::fields_steps), unfolding(crate::specs::NameFields::for_fields))]
 fn write_for<P: Page>(pair: NamePair<'_>, page: &mut P) -> Result<(), Failed>
     ensures { Writes (P.told page.old) (P.told page.new) result (fields_text (for_fields (pair_view pair.entry))) }
 {
@@ -67,7 +65,6 @@ fn write_member<P: Page>(
 }
 
 /// Writes what is imported.
-#[tactic(auto, using(json_lines::proofs::Lines::fields_steps), unfolding(crate::specs::NameFields::import_fields))]
 fn write_import<P: Page>(new: Imported<'_>, pair: NamePair<'_>, page: &mut P) -> Result<(), Failed>
     ensures { Writes (P.told page.old) (P.told page.new) result (fields_text (import_fields (new_view new.entry) (pair_view pair.entry))) }
 {
@@ -76,7 +73,6 @@ fn write_import<P: Page>(new: Imported<'_>, pair: NamePair<'_>, page: &mut P) ->
 }
 
 /// Writes what is imported, and for which names.
-#[tactic(auto, using(json_lines::proofs::Lines::fields_steps), unfolding(crate::specs::NameFields::import_for_fields))]
 fn write_import_for<P: Page>(
     new: Imported<'_>,
     pair: NamePair<'_>,

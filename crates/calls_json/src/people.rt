@@ -22,7 +22,6 @@ fn begins_words() -> &'static str
 }
 
 /// Writes what the bytes begin like.
-#[tactic(auto, using(pickle_io::proofs::Devices::text_steps), unfolding(pickle_calls::specs::Begins::begins_line))]
 pub(crate) fn write_begins_text<P: Page>(name: &str, page: &mut P) -> Result<(), Failed>
     ensures { Writes (P.told page.old) (P.told page.new) result (begins_line name.now) }
 {
@@ -41,7 +40,6 @@ fn kept_words() -> &'static str
 }
 
 /// Writes how many bytes are behind STOP.
-#[tactic(auto, using(pickle_io::proofs::Devices::text_steps), unfolding(pickle_text::specs::Closing::kept_text))]
 fn write_kept_text<P: Page>(kept: u64, page: &mut P) -> Result<(), Failed>
     ensures { Writes (P.told page.old) (P.told page.new) result (kept_text kept) }
 {
@@ -64,7 +62,6 @@ fn write_kept<P: Page>(kept: u64, page: &mut P) -> Result<(), Failed>
 }
 
 /// Writes how many bytes STOP left, if any, and how the run ended.
-#[tactic(auto, using(pickle_io::proofs::Devices::text_steps))]
 fn write_closed<P: Page>(kept: u64, closing: Closing, page: &mut P) -> Result<(), Failed>
     ensures { Writes (P.told page.old) (P.told page.new) result (kept_line kept ⧺ closing_line closing) }
 {
@@ -81,7 +78,6 @@ fn unsure_words() -> &'static str
 }
 
 /// Writes that a frame goes on behind the STOP at this offset.
-#[tactic(auto, using(pickle_io::proofs::Devices::text_steps), unfolding(pickle_calls::specs::CallsLine::unsure_line))]
 fn write_unsure_text<P: Page>(offset: u64, page: &mut P) -> Result<(), Failed>
     ensures { Writes (P.told page.old) (P.told page.new) result (unsure_line offset) }
 {
@@ -110,7 +106,6 @@ fn stop_words() -> &'static str
 }
 
 /// Writes that a part ended at STOP.
-#[tactic(auto, using(pickle_io::proofs::Devices::text_steps), unfolding(pickle_further::specs::Parts::stop_line))]
 fn write_stop_text<P: Page>(page: &mut P) -> Result<(), Failed>
     ensures { Writes (P.told page.old) (P.told page.new) result stop_line }
 {

@@ -121,7 +121,6 @@ pub(crate) fn write_whole<P: Page>(
 }
 
 /// Writes the bytes that were read of a text, and how many there are behind them.
-#[tactic(auto, using(json_lines::proofs::Lines::fields_steps))]
 fn write_front<P: Page>(
     coding: Coding,
     left: usize,
@@ -140,7 +139,6 @@ fn write_front<P: Page>(
 }
 
 /// Writes the first bytes of a text that cannot be read, and how many there are behind them.
-#[tactic(auto, using(json_lines::proofs::Lines::fields_steps), unfolding(crate::specs::TextFields::raw_fields))]
 fn write_raw<P: Page>(bytes: &[u8], page: &mut P) -> Result<(), Failed>
     ensures { Writes (P.told page.old) (P.told page.new) result (fields_text (raw_fields bytes.now)) }
 {
@@ -178,7 +176,6 @@ pub(crate) fn write_text<P: Page>(
 }
 
 /// Writes the first bytes of a payload, and how many there are behind them.
-#[tactic(auto, using(json_lines::proofs::Lines::fields_steps), unfolding(crate::specs::TextFields::cut_payload))]
 fn write_cut_payload<P: Page>(bytes: &[u8], page: &mut P) -> Result<(), Failed>
     ensures { Writes (P.told page.old) (P.told page.new) result (fields_text (cut_payload bytes.now)) }
 {
@@ -243,7 +240,6 @@ fn write_whole_long<P: Page>(bytes: &[u8], page: &mut P) -> Result<(), Failed>
 }
 
 /// Writes a number by its first bytes, and how many there are behind them.
-#[tactic(auto, using(json_lines::proofs::Lines::fields_steps), unfolding(crate::specs::TextFields::cut_long))]
 fn write_cut_long<P: Page>(bytes: &[u8], page: &mut P) -> Result<(), Failed>
     ensures { Writes (P.told page.old) (P.told page.new) result (fields_text (cut_long bytes.now)) }
 {

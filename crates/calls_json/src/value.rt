@@ -142,7 +142,6 @@ fn write_kind_fields<M: Inspect, P: Page>(
 }
 
 /// Writes an object of this kind with these parts in brief.
-#[tactic(auto, using(crate::proofs::Values::object_steps))]
 fn write_kind<M: Inspect, P: Page>(
     naming: Naming,
     machine: &M,
@@ -159,7 +158,6 @@ fn write_kind<M: Inspect, P: Page>(
 }
 
 /// Writes an object that is not there.
-#[tactic(auto, using(crate::proofs::Values::object_steps))]
 fn write_absent<P: Page>(id: ObjId, page: &mut P) -> Result<(), Failed>
     ensures { Writes (P.told page.old) (P.told page.new) result (value_text (id_json id)) }
 {
@@ -185,7 +183,6 @@ fn write_brief<M: Inspect, P: Page>(
 }
 
 /// Writes one object more, after a comma.
-#[tactic(auto, using(pickle_io::proofs::Devices::text_steps), unfolding(crate::specs::ValueFields::next_brief))]
 fn write_next<M: Inspect, P: Page>(
     naming: Naming,
     machine: &M,
@@ -215,7 +212,6 @@ fn write_all_next<M: Inspect, P: Page>(
 }
 
 /// Writes an object, and others after it.
-#[tactic(auto, using(crate::proofs::Values::array_steps))]
 fn write_some<M: Inspect, P: Page>(
     naming: Naming,
     machine: &M,
@@ -261,7 +257,6 @@ fn write_array<M: Inspect, P: Page>(
 }
 
 /// Writes what is before the value of an operand.
-#[tactic(auto, using(pickle_io::proofs::Devices::text_steps), unfolding(json_lines::specs::Line::name_text))]
 fn write_name<P: Page>(operand: Operand, page: &mut P) -> Result<(), Failed>
     ensures { Writes (P.told page.old) (P.told page.new) result (name_text (operand_name operand)) }
 {
@@ -271,7 +266,6 @@ fn write_name<P: Page>(operand: Operand, page: &mut P) -> Result<(), Failed>
 }
 
 /// Writes objects as an operand.
-#[tactic(auto, using(json_lines::proofs::Lines::field_steps), unfolding(crate::specs::ValueFields::all_parts))]
 fn write_all_parts<M: Inspect, P: Page>(
     operand: Operand,
     naming: Naming,
@@ -298,7 +292,6 @@ fn write_left<P: Page>(operand: Operand, count: usize, page: &mut P) -> Result<(
 }
 
 /// Writes the first objects as an operand, and how many more there are.
-#[tactic(auto, using(json_lines::proofs::Lines::fields_steps), unfolding(crate::specs::ValueFields::first_parts))]
 fn write_first_parts<M: Inspect, P: Page>(
     operand: Operand,
     naming: Naming,
@@ -330,7 +323,6 @@ pub(crate) fn write_parts<M: Inspect, P: Page>(
 }
 
 /// Writes an object of this kind as an operand, in brief.
-#[tactic(auto, using(json_lines::proofs::Lines::field_steps), unfolding(crate::specs::ValueFields::one_field))]
 fn write_one<M: Inspect, P: Page>(
     operand: Operand,
     naming: Naming,
@@ -366,7 +358,6 @@ fn write_operand_kind<M: Inspect, P: Page>(
 }
 
 /// Writes an object that is not there as an operand.
-#[tactic(auto, using(json_lines::proofs::Lines::field_steps), unfolding(crate::specs::ValueFields::no_operand))]
 fn write_no_operand<P: Page>(operand: Operand, id: ObjId, page: &mut P) -> Result<(), Failed>
     ensures { Writes (P.told page.old) (P.told page.new) result (fields_text (no_operand operand id)) }
 {

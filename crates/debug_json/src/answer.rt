@@ -27,7 +27,6 @@ use pickle_session::{Past, Session};
 use std::alloc::Global;
 
 /// Writes the line that answers a line without a word.
-#[tactic(auto, using(crate::proofs::Arrays::bare_steps), unfolding(crate::specs::Lines::nothing_line))]
 fn write_nothing<P: Page>(page: &mut P) -> Result<(), Failed>
     ensures { Writes (P.told page.old) (P.told page.new) result nothing_line }
 {
@@ -36,7 +35,6 @@ fn write_nothing<P: Page>(page: &mut P) -> Result<(), Failed>
 }
 
 /// Writes the line that answers `quit`.
-#[tactic(auto, using(crate::proofs::Arrays::bare_steps), unfolding(crate::specs::Lines::quit_line))]
 fn write_quit<P: Page>(page: &mut P) -> Result<(), Failed>
     ensures { Writes (P.told page.old) (P.told page.new) result quit_line }
 {

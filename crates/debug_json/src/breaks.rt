@@ -27,7 +27,6 @@ fn break_at<A: Past>(session: &Session<A>, place: usize) -> Option<usize>
 }
 
 /// Writes a place behind so many others.
-#[tactic(auto, using(pickle_io::proofs::Devices::text_steps))]
 fn write_next<P: Page>(count: usize, place: usize, page: &mut P) -> Result<(), Failed>
     ensures { Writes (P.told page.old) (P.told page.new) result (lead count ⧺ value_text (whole place)) }
 {
@@ -74,7 +73,6 @@ fn write_array<A: Past, P: Page>(session: &Session<A>, page: &mut P) -> Result<(
 }
 
 /// Writes the field of these places.
-#[tactic(auto, using(json_lines::proofs::Lines::field_steps), unfolding(crate::specs::OwnFields::breaks_fields))]
 fn write_field<A: Past, P: Page>(session: &Session<A>, page: &mut P) -> Result<(), Failed>
     ensures { Writes (P.told page.old) (P.told page.new) result (fields_text (breaks_fields session.now.session)) }
 {
@@ -83,7 +81,6 @@ fn write_field<A: Past, P: Page>(session: &Session<A>, page: &mut P) -> Result<(
 }
 
 /// Writes the line of these places, by rising number, in time linear in the items.
-#[tactic(auto, using(json_lines::proofs::Lines::line_steps), unfolding(crate::specs::OwnFields::breaks_line))]
 pub(crate) fn write_breaks<A: Past, P: Page>(
     session: &Session<A>,
     page: &mut P,

@@ -78,7 +78,6 @@ pub(crate) fn write_argument<P: Page>(op: &Op, page: &mut P) -> Result<(), Faile
 }
 
 /// Writes where an operation is, and its name.
-#[tactic(auto, using(json_lines::proofs::Lines::fields_steps), unfolding(pickle_json::specs::ItemFields::head_fields))]
 pub(crate) fn write_head<P: Page>(op: &Op, offset: u64, page: &mut P) -> Result<(), Failed>
     ensures { Writes (P.told page.old) (P.told page.new) result (fields_text (head_fields op.now offset)) }
 {
@@ -87,7 +86,6 @@ pub(crate) fn write_head<P: Page>(op: &Op, offset: u64, page: &mut P) -> Result<
 }
 
 /// Writes whether the cursor is at an item, and whether the item has a breakpoint.
-#[tactic(auto, using(json_lines::proofs::Lines::fields_steps), unfolding(crate::specs::ItemsFields::sign_fields))]
 fn write_signs<P: Page>(at_cursor: bool, breaks: bool, page: &mut P) -> Result<(), Failed>
     ensures { Writes (P.told page.old) (P.told page.new) result (fields_text (sign_fields at_cursor breaks)) }
 {
@@ -115,7 +113,6 @@ fn write_item_fields<A: Past, P: Page>(
 }
 
 /// Writes the same as an object.
-#[tactic(auto, using(crate::proofs::Arrays::object_steps), unfolding(crate::specs::ItemsFields::item_json))]
 fn write_item<A: Past, P: Page>(
     session: &Session<A>,
     place: usize,
@@ -132,7 +129,6 @@ fn write_item<A: Past, P: Page>(
 }
 
 /// Writes the same behind so many items before it.
-#[tactic(auto, using(pickle_io::proofs::Devices::text_steps))]
 fn write_next<A: Past, P: Page>(
     session: &Session<A>,
     i: usize,
@@ -232,7 +228,6 @@ fn write_array<A: Past, P: Page>(session: &Session<A>, page: &mut P) -> Result<(
 }
 
 /// Writes the field of all items.
-#[tactic(auto, using(json_lines::proofs::Lines::field_steps), unfolding(crate::specs::ItemsFields::items_fields))]
 fn write_field<A: Past, P: Page>(session: &Session<A>, page: &mut P) -> Result<(), Failed>
     ensures { Writes (P.told page.old) (P.told page.new) result (fields_text (items_fields session.now.session)) }
 {
@@ -241,7 +236,6 @@ fn write_field<A: Past, P: Page>(session: &Session<A>, page: &mut P) -> Result<(
 }
 
 /// Writes the line of all items, in time linear in them.
-#[tactic(auto, using(json_lines::proofs::Lines::line_steps), unfolding(crate::specs::ItemsFields::items_line))]
 pub(crate) fn write_items<A: Past, P: Page>(
     session: &Session<A>,
     page: &mut P,
@@ -254,7 +248,6 @@ pub(crate) fn write_items<A: Past, P: Page>(
 }
 
 /// Writes the field of a range of items.
-#[tactic(auto, using(json_lines::proofs::Lines::field_steps), unfolding(crate::specs::OwnFields::some_items_fields))]
 fn write_some_field<A: Past, P: Page>(
     session: &Session<A>,
     from: usize,
@@ -268,7 +261,6 @@ fn write_some_field<A: Past, P: Page>(
 }
 
 /// Writes the line of the items from one place on and before another. This goes over these items, and over those that `offset_at` goes over.
-#[tactic(auto, using(json_lines::proofs::Lines::line_steps), unfolding(crate::specs::OwnFields::some_items_line))]
 pub(crate) fn write_some_items<A: Past, P: Page>(
     session: &Session<A>,
     from: usize,

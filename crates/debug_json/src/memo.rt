@@ -25,7 +25,6 @@ fn write_comma<P: Page>(first: bool, page: &mut P) -> Result<(), Failed>
 }
 
 /// Writes a key, and the object that the memo has under it.
-#[tactic(auto, using(json_lines::proofs::Lines::fields_steps), unfolding(crate::specs::ShownFields::entry_fields))]
 fn write_entry_fields<P: Page>(key: u64, id: ObjId, page: &mut P) -> Result<(), Failed>
     ensures { Writes (P.told page.old) (P.told page.new) result (fields_text (entry_fields (key, id))) }
 {
@@ -34,7 +33,6 @@ fn write_entry_fields<P: Page>(key: u64, id: ObjId, page: &mut P) -> Result<(), 
 }
 
 /// Writes an entry.
-#[tactic(auto, using(crate::proofs::Arrays::object_steps), unfolding(crate::specs::ShownFields::entry_value))]
 fn write_entry<P: Page>(key: u64, id: ObjId, page: &mut P) -> Result<(), Failed>
     ensures { Writes (P.told page.old) (P.told page.new) result (value_text (entry_value (key, id))) }
 {
@@ -44,7 +42,6 @@ fn write_entry<P: Page>(key: u64, id: ObjId, page: &mut P) -> Result<(), Failed>
 }
 
 /// Writes an entry behind what was written.
-#[tactic(auto, using(pickle_io::proofs::Devices::text_steps))]
 fn write_next<P: Page>(first: bool, key: u64, id: ObjId, page: &mut P) -> Result<(), Failed>
     ensures { Writes (P.told page.old) (P.told page.new) result (comma first ⧺ value_text (entry_value (key, id))) }
 {
@@ -129,7 +126,6 @@ fn write_array<P: Page>(memo: &Entries, page: &mut P) -> Result<(), Failed>
 }
 
 /// Writes the field of the entries.
-#[tactic(auto, using(json_lines::proofs::Lines::field_steps), unfolding(crate::specs::ShownFields::memo_fields))]
 fn write_field<P: Page>(memo: &Entries, page: &mut P) -> Result<(), Failed>
     ensures { Writes (P.told page.old) (P.told page.new) result (fields_text (memo_fields memo.now)) }
 {
@@ -138,7 +134,6 @@ fn write_field<P: Page>(memo: &Entries, page: &mut P) -> Result<(), Failed>
 }
 
 /// Writes the line of the memo.
-#[tactic(auto, using(json_lines::proofs::Lines::line_steps), unfolding(crate::specs::ShownFields::memo_line))]
 pub(crate) fn write_memo<P: Page>(machine: &Machine, page: &mut P) -> Result<(), Failed>
     ensures { Writes (P.told page.old) (P.told page.new) result (memo_line machine.now.state.memo) }
 {

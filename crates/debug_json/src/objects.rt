@@ -16,7 +16,6 @@ use pickle_io::{Failed, Page, write_all};
 use pickle_ops::Object;
 
 /// Writes an object.
-#[tactic(auto, using(crate::proofs::Arrays::object_steps), unfolding(crate::specs::ShownFields::heap_json))]
 fn write_value<P: Page>(id: usize, object: &Object, page: &mut P) -> Result<(), Failed>
     ensures { Writes (P.told page.old) (P.told page.new) result (value_text (heap_json id object.now)) }
 {
@@ -26,7 +25,6 @@ fn write_value<P: Page>(id: usize, object: &Object, page: &mut P) -> Result<(), 
 }
 
 /// Writes an object behind so many others.
-#[tactic(auto, using(pickle_io::proofs::Devices::text_steps))]
 fn write_next<P: Page>(i: usize, id: usize, object: &Object, page: &mut P) -> Result<(), Failed>
     ensures { Writes (P.told page.old) (P.told page.new) result (lead i ⧺ value_text (heap_json id object.now)) }
 {
@@ -97,7 +95,6 @@ fn write_array<P: Page>(heap: &[Object], page: &mut P) -> Result<(), Failed>
 }
 
 /// Writes the field of objects.
-#[tactic(auto, using(json_lines::proofs::Lines::field_steps), unfolding(crate::specs::ShownFields::heap_fields))]
 fn write_field<P: Page>(heap: &[Object], page: &mut P) -> Result<(), Failed>
     ensures { Writes (P.told page.old) (P.told page.new) result (fields_text (heap_fields heap.now)) }
 {
@@ -106,7 +103,6 @@ fn write_field<P: Page>(heap: &[Object], page: &mut P) -> Result<(), Failed>
 }
 
 /// Writes the line of objects.
-#[tactic(auto, using(json_lines::proofs::Lines::line_steps), unfolding(crate::specs::ShownFields::heap_line))]
 pub(crate) fn write_objects<P: Page>(heap: &[Object], page: &mut P) -> Result<(), Failed>
     ensures { Writes (P.told page.old) (P.told page.new) result (heap_line heap.now) }
 {
@@ -116,7 +112,6 @@ pub(crate) fn write_objects<P: Page>(heap: &[Object], page: &mut P) -> Result<()
 }
 
 /// Writes the field of a range of objects.
-#[tactic(auto, using(json_lines::proofs::Lines::field_steps), unfolding(crate::specs::OwnFields::some_heap_fields))]
 fn write_some_field<P: Page>(
     heap: &[Object],
     from: usize,
@@ -130,7 +125,6 @@ fn write_some_field<P: Page>(
 }
 
 /// Writes the line of the objects from one number on and before another.
-#[tactic(auto, using(json_lines::proofs::Lines::line_steps), unfolding(crate::specs::OwnFields::some_heap_line))]
 pub(crate) fn write_some_objects<P: Page>(
     heap: &[Object],
     from: usize,

@@ -11,7 +11,6 @@ use pickle_machine::Machine;
 use pickle_session::{Past, Session};
 
 /// Writes a place, how many items there are, and where the place begins.
-#[tactic(auto, using(json_lines::proofs::Lines::fields_steps), unfolding(crate::specs::WhereFields::cursor_fields))]
 fn write_cursor<P: Page>(place: usize, len: usize, offset: u64, page: &mut P) -> Result<(), Failed>
     ensures { Writes (P.told page.old) (P.told page.new) result (fields_text (cursor_fields place len offset)) }
 {
@@ -21,7 +20,6 @@ fn write_cursor<P: Page>(place: usize, len: usize, offset: u64, page: &mut P) ->
 }
 
 /// Writes how much a machine holds.
-#[tactic(auto, using(json_lines::proofs::Lines::fields_steps), unfolding(crate::specs::WhereFields::count_fields))]
 fn write_counts<P: Page>(machine: &Machine, page: &mut P) -> Result<(), Failed>
     ensures { Writes (P.told page.old) (P.told page.new) result (fields_text (count_fields machine.now.state)) }
 {
@@ -32,7 +30,6 @@ fn write_counts<P: Page>(machine: &Machine, page: &mut P) -> Result<(), Failed>
 }
 
 /// Writes the count of buffers and the results of a machine.
-#[tactic(auto, using(json_lines::proofs::Lines::fields_steps), unfolding(crate::specs::WhereFields::reached_fields))]
 pub(crate) fn write_reached<P: Page>(machine: &Machine, page: &mut P) -> Result<(), Failed>
     ensures { Writes (P.told page.old) (P.told page.new) result (fields_text (reached_fields machine.now.state)) }
 {
@@ -41,7 +38,6 @@ pub(crate) fn write_reached<P: Page>(machine: &Machine, page: &mut P) -> Result<
 }
 
 /// Writes where a session is.
-#[tactic(auto, using(json_lines::proofs::Lines::fields_steps))]
 fn write_where_fields<A: Past, P: Page>(session: &Session<A>, page: &mut P) -> Result<(), Failed>
     ensures { Writes (P.told page.old) (P.told page.new) result (fields_text (where_fields session.now.session session.now.machine.state)) }
 {
@@ -58,7 +54,6 @@ fn write_where_fields<A: Past, P: Page>(session: &Session<A>, page: &mut P) -> R
 
 /// Writes the line of where a session is: the cursor, how many items there are, the offset of the cursor, how much the machine holds, and
 /// why the document ends.
-#[tactic(auto, using(json_lines::proofs::Lines::line_steps), unfolding(crate::specs::WhereFields::where_line))]
 pub(crate) fn write_where<A: Past, P: Page>(
     session: &Session<A>,
     page: &mut P,

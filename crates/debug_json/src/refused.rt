@@ -28,7 +28,6 @@ pub(crate) fn write_end_fields<P: Page>(end: End, page: &mut P) -> Result<(), Fa
 }
 
 /// Writes how a document ends, as an object.
-#[tactic(auto, using(crate::proofs::Arrays::object_steps))]
 fn write_end_object<P: Page>(end: End, page: &mut P) -> Result<(), Failed>
     ensures { Writes (P.told page.old) (P.told page.new) result (value_text (object_json (codes "end") (end_fields end))) }
 {
@@ -38,7 +37,6 @@ fn write_end_object<P: Page>(end: End, page: &mut P) -> Result<(), Failed>
 }
 
 /// Writes how a document ends, as a field.
-#[tactic(auto, using(json_lines::proofs::Lines::field_steps), unfolding(crate::specs::RefusedFields::end_field))]
 pub(crate) fn write_end<P: Page>(end: End, page: &mut P) -> Result<(), Failed>
     ensures { Writes (P.told page.old) (P.told page.new) result (fields_text (end_field end)) }
 {
@@ -47,7 +45,6 @@ pub(crate) fn write_end<P: Page>(end: End, page: &mut P) -> Result<(), Failed>
 }
 
 /// Writes why the item at a place is refused, and which it is.
-#[tactic(auto, using(json_lines::proofs::Lines::fields_steps))]
 fn write_item_fields<P: Page>(place: usize, refusal: Refusal, page: &mut P) -> Result<(), Failed>
     ensures { Writes (P.told page.old) (P.told page.new) result (fields_text (item_refused_fields place refusal)) }
 {
@@ -56,7 +53,6 @@ fn write_item_fields<P: Page>(place: usize, refusal: Refusal, page: &mut P) -> R
 }
 
 /// Writes the same as an object.
-#[tactic(auto, using(crate::proofs::Arrays::object_steps))]
 fn write_item_object<P: Page>(place: usize, refusal: Refusal, page: &mut P) -> Result<(), Failed>
     ensures { Writes (P.told page.old) (P.told page.new) result (value_text (object_json (codes "end") (item_refused_fields place refusal))) }
 {
@@ -66,7 +62,6 @@ fn write_item_object<P: Page>(place: usize, refusal: Refusal, page: &mut P) -> R
 }
 
 /// Writes the same as a field.
-#[tactic(auto, using(json_lines::proofs::Lines::field_steps), unfolding(crate::specs::RefusedFields::item_field))]
 fn write_item<P: Page>(place: usize, refusal: Refusal, page: &mut P) -> Result<(), Failed>
     ensures { Writes (P.told page.old) (P.told page.new) result (fields_text (item_field place refusal)) }
 {
@@ -176,7 +171,6 @@ fn write_fault_rest<P: Page>(fault: Fault, page: &mut P) -> Result<(), Failed>
 }
 
 /// Writes why a command is refused.
-#[tactic(auto, using(json_lines::proofs::Lines::fields_steps))]
 fn write_fault<P: Page>(fault: Fault, page: &mut P) -> Result<(), Failed>
     ensures { Writes (P.told page.old) (P.told page.new) result (fields_text (fault_fields fault)) }
 {
@@ -185,7 +179,6 @@ fn write_fault<P: Page>(fault: Fault, page: &mut P) -> Result<(), Failed>
 }
 
 /// Writes the line of a command that is refused.
-#[tactic(auto, using(json_lines::proofs::Lines::line_steps), unfolding(crate::specs::RefusedFields::refused_command))]
 pub(crate) fn write_refused_command<P: Page>(fault: Fault, page: &mut P) -> Result<(), Failed>
     ensures { Writes (P.told page.old) (P.told page.new) result (refused_command fault) }
 {
@@ -274,7 +267,6 @@ fn write_syntax_rest<P: Page>(syntax: Syntax, page: &mut P) -> Result<(), Failed
 }
 
 /// Writes why a line says nothing.
-#[tactic(auto, using(json_lines::proofs::Lines::fields_steps))]
 fn write_syntax<P: Page>(syntax: Syntax, page: &mut P) -> Result<(), Failed>
     ensures { Writes (P.told page.old) (P.told page.new) result (fields_text (syntax_fields syntax)) }
 {
@@ -283,7 +275,6 @@ fn write_syntax<P: Page>(syntax: Syntax, page: &mut P) -> Result<(), Failed>
 }
 
 /// Writes the line of a line that says nothing.
-#[tactic(auto, using(json_lines::proofs::Lines::line_steps), unfolding(crate::specs::RefusedFields::refused_syntax))]
 pub(crate) fn write_refused_syntax<P: Page>(syntax: Syntax, page: &mut P) -> Result<(), Failed>
     ensures { Writes (P.told page.old) (P.told page.new) result (refused_syntax syntax) }
 {
@@ -301,7 +292,6 @@ fn no_object_words() -> &'static str
 }
 
 /// Writes that there is no object of this number.
-#[tactic(auto, using(json_lines::proofs::Lines::fields_steps), unfolding(crate::specs::RefusedFields::no_object_fields))]
 fn write_no_object_fields<P: Page>(number: u64, page: &mut P) -> Result<(), Failed>
     ensures { Writes (P.told page.old) (P.told page.new) result (fields_text (no_object_fields number)) }
 {
@@ -310,7 +300,6 @@ fn write_no_object_fields<P: Page>(number: u64, page: &mut P) -> Result<(), Fail
 }
 
 /// Writes the line that there is no object of this number.
-#[tactic(auto, using(json_lines::proofs::Lines::line_steps), unfolding(crate::specs::RefusedFields::no_object_line))]
 pub(crate) fn write_no_object<P: Page>(number: u64, page: &mut P) -> Result<(), Failed>
     ensures { Writes (P.told page.old) (P.told page.new) result (no_object_line number) }
 {
@@ -328,7 +317,6 @@ fn no_item_words() -> &'static str
 }
 
 /// Writes that no place has this offset.
-#[tactic(auto, using(json_lines::proofs::Lines::fields_steps), unfolding(crate::specs::RefusedFields::no_item_fields))]
 fn write_no_item_fields<P: Page>(offset: u64, page: &mut P) -> Result<(), Failed>
     ensures { Writes (P.told page.old) (P.told page.new) result (fields_text (no_item_fields offset)) }
 {
@@ -337,7 +325,6 @@ fn write_no_item_fields<P: Page>(offset: u64, page: &mut P) -> Result<(), Failed
 }
 
 /// Writes the line that no place has this offset.
-#[tactic(auto, using(json_lines::proofs::Lines::line_steps), unfolding(crate::specs::RefusedFields::no_item_line))]
 pub(crate) fn write_no_item<P: Page>(offset: u64, page: &mut P) -> Result<(), Failed>
     ensures { Writes (P.told page.old) (P.told page.new) result (no_item_line offset) }
 {

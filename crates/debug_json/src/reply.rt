@@ -23,7 +23,6 @@ fn write_why<P: Page>(end: End, why: Why, page: &mut P) -> Result<(), Failed>
 }
 
 /// Writes where a run stopped, and why.
-#[tactic(auto, using(json_lines::proofs::Lines::fields_steps))]
 fn write_ran_fields<P: Page>(end: End, place: usize, why: Why, page: &mut P) -> Result<(), Failed>
     ensures { Writes (P.told page.old) (P.told page.new) result (fields_text (ran_fields end place why)) }
 {
@@ -32,7 +31,6 @@ fn write_ran_fields<P: Page>(end: End, place: usize, why: Why, page: &mut P) -> 
 }
 
 /// Writes the line of a run.
-#[tactic(auto, using(json_lines::proofs::Lines::line_steps), unfolding(crate::specs::ReplyFields::ran_line))]
 fn write_ran<P: Page>(end: End, place: usize, why: Why, page: &mut P) -> Result<(), Failed>
     ensures { Writes (P.told page.old) (P.told page.new) result (ran_line end place why) }
 {
@@ -42,7 +40,6 @@ fn write_ran<P: Page>(end: End, place: usize, why: Why, page: &mut P) -> Result<
 }
 
 /// Writes a line of this kind, and the place that it is about.
-#[tactic(auto, using(json_lines::proofs::Lines::line_steps), unfolding(crate::specs::ReplyFields::placed_line))]
 fn write_placed<P: Page>(kind: &str, place: usize, page: &mut P) -> Result<(), Failed>
     ensures { Writes (P.told page.old) (P.told page.new) result (placed_line kind.now place) }
 {

@@ -24,7 +24,6 @@ fn write_id<P: Page>(i: usize, id: ObjId, page: &mut P) -> Result<(), Failed>
 }
 
 /// Writes the number of an object behind those before it.
-#[tactic(auto, using(pickle_io::proofs::Devices::text_steps))]
 fn write_next_id<P: Page>(i: usize, id: ObjId, page: &mut P) -> Result<(), Failed>
     ensures { Writes (P.told page.old) (P.told page.new) result (lead i ⧺ value_text (id_json i id)) }
 {
@@ -65,7 +64,6 @@ fn write_id_array<P: Page>(machine: &Machine, page: &mut P) -> Result<(), Failed
 }
 
 /// Writes the field of the objects of the stack.
-#[tactic(auto, using(json_lines::proofs::Lines::field_steps), unfolding(crate::specs::ShownFields::ids_field))]
 fn write_ids_field<P: Page>(machine: &Machine, page: &mut P) -> Result<(), Failed>
     ensures { Writes (P.told page.old) (P.told page.new) result (fields_text (ids_field machine.now.state)) }
 {
@@ -74,7 +72,6 @@ fn write_ids_field<P: Page>(machine: &Machine, page: &mut P) -> Result<(), Faile
 }
 
 /// Writes the item of a mark, and how many objects are below it.
-#[tactic(auto, using(json_lines::proofs::Lines::fields_steps), unfolding(crate::specs::ShownFields::mark_fields))]
 fn write_mark_fields<P: Page>(mark: (usize, usize), page: &mut P) -> Result<(), Failed>
     ensures { Writes (P.told page.old) (P.told page.new) result (fields_text (mark_fields mark)) }
 {
@@ -83,7 +80,6 @@ fn write_mark_fields<P: Page>(mark: (usize, usize), page: &mut P) -> Result<(), 
 }
 
 /// Writes a mark.
-#[tactic(auto, using(crate::proofs::Arrays::object_steps), unfolding(crate::specs::ShownFields::mark_json))]
 fn write_mark<P: Page>(i: usize, mark: (usize, usize), page: &mut P) -> Result<(), Failed>
     ensures { Writes (P.told page.old) (P.told page.new) result (value_text (mark_json i mark)) }
 {
@@ -93,7 +89,6 @@ fn write_mark<P: Page>(i: usize, mark: (usize, usize), page: &mut P) -> Result<(
 }
 
 /// Writes a mark behind those before it.
-#[tactic(auto, using(pickle_io::proofs::Devices::text_steps))]
 fn write_next_mark<P: Page>(i: usize, mark: (usize, usize), page: &mut P) -> Result<(), Failed>
     ensures { Writes (P.told page.old) (P.told page.new) result (lead i ⧺ value_text (mark_json i mark)) }
 {
@@ -134,7 +129,6 @@ fn write_mark_array<P: Page>(machine: &Machine, page: &mut P) -> Result<(), Fail
 }
 
 /// Writes the field of the marks.
-#[tactic(auto, using(json_lines::proofs::Lines::field_steps), unfolding(crate::specs::ShownFields::marks_field))]
 fn write_marks_field<P: Page>(machine: &Machine, page: &mut P) -> Result<(), Failed>
     ensures { Writes (P.told page.old) (P.told page.new) result (fields_text (marks_field machine.now.state)) }
 {
@@ -143,7 +137,6 @@ fn write_marks_field<P: Page>(machine: &Machine, page: &mut P) -> Result<(), Fai
 }
 
 /// Writes what is on the stack.
-#[tactic(auto, using(json_lines::proofs::Lines::fields_steps))]
 fn write_stack_fields<P: Page>(machine: &Machine, page: &mut P) -> Result<(), Failed>
     ensures { Writes (P.told page.old) (P.told page.new) result (fields_text (stack_fields machine.now.state)) }
 {
@@ -152,7 +145,6 @@ fn write_stack_fields<P: Page>(machine: &Machine, page: &mut P) -> Result<(), Fa
 }
 
 /// Writes the line of the stack.
-#[tactic(auto, using(json_lines::proofs::Lines::line_steps), unfolding(crate::specs::ShownFields::stack_line))]
 pub(crate) fn write_stack<P: Page>(machine: &Machine, page: &mut P) -> Result<(), Failed>
     ensures { Writes (P.told page.old) (P.told page.new) result (stack_line machine.now.state) }
 {

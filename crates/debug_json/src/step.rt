@@ -58,7 +58,6 @@ fn write_flag<P: Page>(name: &str, is_so: bool, page: &mut P) -> Result<(), Fail
 }
 
 /// Writes whether a further pickle began, and which objects a step made, put on the stack and took.
-#[tactic(auto, using(json_lines::proofs::Lines::fields_steps), unfolding(crate::specs::StepFields::object_fields))]
 fn write_objects<P: Page>(
     machine: &Machine,
     op: &Op,
@@ -74,7 +73,6 @@ fn write_objects<P: Page>(
 }
 
 /// Writes what a step did to marks.
-#[tactic(auto, using(json_lines::proofs::Lines::fields_steps), unfolding(crate::specs::StepFields::marking_fields))]
 fn write_marking<P: Page>(
     machine: &Machine,
     op: &Op,
@@ -88,7 +86,6 @@ fn write_marking<P: Page>(
 }
 
 /// Writes an object, and how many changes it got.
-#[tactic(auto, using(json_lines::proofs::Lines::fields_steps), unfolding(crate::specs::StepFields::change_fields))]
 fn write_change_fields<P: Page>(change: (ObjId, usize), page: &mut P) -> Result<(), Failed>
     ensures { Writes (P.told page.old) (P.told page.new) result (fields_text (change_fields change)) }
 {
@@ -97,7 +94,6 @@ fn write_change_fields<P: Page>(change: (ObjId, usize), page: &mut P) -> Result<
 }
 
 /// Writes the same as an object of JSON.
-#[tactic(auto, using(crate::proofs::Arrays::object_steps))]
 fn write_change<P: Page>(change: (ObjId, usize), page: &mut P) -> Result<(), Failed>
     ensures { Writes (P.told page.old) (P.told page.new) result (value_text (object_json (codes "change") (change_fields change))) }
 {
@@ -107,7 +103,6 @@ fn write_change<P: Page>(change: (ObjId, usize), page: &mut P) -> Result<(), Fai
 }
 
 /// Writes the same as a field.
-#[tactic(auto, using(json_lines::proofs::Lines::field_steps), unfolding(crate::specs::StepFields::one_change))]
 fn write_one_change<P: Page>(change: (ObjId, usize), page: &mut P) -> Result<(), Failed>
     ensures { Writes (P.told page.old) (P.told page.new) result (fields_text (one_change change)) }
 {
@@ -133,7 +128,6 @@ fn write_changed<P: Page>(found: Option<(ObjId, usize)>, page: &mut P) -> Result
 }
 
 /// Writes an entry of the memo, and the object that was under its key.
-#[tactic(auto, using(json_lines::proofs::Lines::fields_steps), unfolding(crate::specs::StepFields::stored_fields))]
 fn write_stored_fields<P: Page>(entry: Stored, page: &mut P) -> Result<(), Failed>
     ensures { Writes (P.told page.old) (P.told page.new) result (fields_text (stored_fields entry)) }
 {
@@ -143,7 +137,6 @@ fn write_stored_fields<P: Page>(entry: Stored, page: &mut P) -> Result<(), Faile
 }
 
 /// Writes the same as an object of JSON.
-#[tactic(auto, using(crate::proofs::Arrays::object_steps))]
 fn write_entry<P: Page>(entry: Stored, page: &mut P) -> Result<(), Failed>
     ensures { Writes (P.told page.old) (P.told page.new) result (value_text (object_json (codes "entry") (stored_fields entry))) }
 {
@@ -153,7 +146,6 @@ fn write_entry<P: Page>(entry: Stored, page: &mut P) -> Result<(), Failed>
 }
 
 /// Writes the same as a field.
-#[tactic(auto, using(json_lines::proofs::Lines::field_steps), unfolding(crate::specs::StepFields::one_entry))]
 fn write_one_entry<P: Page>(entry: Stored, page: &mut P) -> Result<(), Failed>
     ensures { Writes (P.told page.old) (P.told page.new) result (fields_text (one_entry entry)) }
 {
@@ -173,7 +165,6 @@ fn write_stored<P: Page>(found: Option<Stored>, page: &mut P) -> Result<(), Fail
 }
 
 /// Writes what a step over an operation did, right after which the machine is.
-#[tactic(auto, using(json_lines::proofs::Lines::fields_steps))]
 fn write_doing<P: Page>(
     machine: &Machine,
     op: &Op,
@@ -225,7 +216,6 @@ fn write_step_fields<A: Past, P: Page>(session: &Session<A>, page: &mut P) -> Re
 }
 
 /// Writes the line of what the step over the item before the cursor did, whose record is kept.
-#[tactic(auto, using(json_lines::proofs::Lines::line_steps), unfolding(crate::specs::StepFields::step_line))]
 pub(crate) fn write_step<A: Past, P: Page>(session: &Session<A>, page: &mut P) -> Result<(), Failed>
     requires { 0 < kept_of session.now }
     ensures { Writes (P.told page.old) (P.told page.new) result (step_line session.now.session session.now.machine.state) }
@@ -252,7 +242,6 @@ fn write_no_step_fields<P: Page>(page: &mut P) -> Result<(), Failed>
 }
 
 /// Writes the line that no record of the step is kept.
-#[tactic(auto, using(json_lines::proofs::Lines::line_steps), unfolding(crate::specs::StepFields::no_step_line))]
 pub(crate) fn write_no_step<P: Page>(page: &mut P) -> Result<(), Failed>
     ensures { Writes (P.told page.old) (P.told page.new) result no_step_line }
 {

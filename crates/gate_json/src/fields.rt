@@ -25,7 +25,6 @@ fn write_words<P: Page>(words: &str, page: &mut P) -> Result<(), Failed>
 }
 
 /// Writes what is wrong, and where.
-#[tactic(auto, using(json_lines::proofs::Lines::fields_steps), unfolding(crate::specs::VerdictFields::placed_fields))]
 pub(crate) fn write_placed<P: Page>(
     how: &str,
     offset: u64,
@@ -40,7 +39,6 @@ pub(crate) fn write_placed<P: Page>(
 }
 
 /// Writes what is wrong with a member that does not open.
-#[tactic(auto, using(json_lines::proofs::Lines::fields_steps), unfolding(crate::specs::VerdictFields::broken_fields))]
 pub(crate) fn write_broken_words<P: Page>(words: &str, page: &mut P) -> Result<(), Failed>
     ensures { Writes (P.told page.old) (P.told page.new) result (fields_text (broken_fields words.now)) }
 {

@@ -96,7 +96,6 @@ fn write_address<P: Page>(packing: Packing, single: &Single, page: &mut P) -> Re
 }
 
 /// Writes what is said of what a packed file opens to, with its address.
-#[tactic(auto, using(json_lines::proofs::Lines::fields_steps))]
 fn write_addressed<P: Page>(packing: Packing, single: &Single, page: &mut P) -> Result<(), Failed>
     ensures { Writes (P.told page.old) (P.told page.new) result (fields_text (address_fields packing single.now ⊕ single_fields single.now)) }
 {
@@ -211,7 +210,6 @@ fn write_fault<P: Page>(fault: Fault, line: &[u8], page: &mut P) -> Result<(), F
 }
 
 /// Writes the name of the first member that does not pass, and why.
-#[tactic(auto, using(json_lines::proofs::Lines::fields_steps))]
 fn write_failing<P: Page>(
     name: &[u8],
     fault: Fault,

@@ -27,7 +27,6 @@ fn write_people<P: Page>(judged: &Judged<'_>, page: &mut P) -> Result<(), Failed
 }
 
 /// Writes what is said of a file, and the line for people.
-#[tactic(auto, using(json_lines::proofs::Lines::fields_steps), unfolding(crate::specs::VerdictFields::told_fields))]
 fn write_told<P: Page>(judged: &Judged<'_>, page: &mut P) -> Result<(), Failed>
     ensures { Writes (P.told page.old) (P.told page.new) result (fields_text (told_fields judged.now)) }
 {
@@ -36,7 +35,6 @@ fn write_told<P: Page>(judged: &Judged<'_>, page: &mut P) -> Result<(), Failed>
 }
 
 /// Writes the line of what is said of a file.
-#[tactic(auto, using(json_lines::proofs::Lines::line_steps), unfolding(crate::specs::GateLine::verdict_line))]
 pub(crate) fn write_verdict_line<P: Page>(judged: &Judged<'_>, page: &mut P) -> Result<(), Failed>
     ensures { Writes (P.told page.old) (P.told page.new) result (verdict_line judged.now) }
 {
@@ -54,7 +52,6 @@ fn write_file<P: Page>(name: &[u8], page: &mut P) -> Result<(), Failed>
 }
 
 /// Writes the name of a file, and what is said of it.
-#[tactic(auto, using(json_lines::proofs::Lines::fields_steps), unfolding(crate::specs::VerdictFields::named_fields))]
 fn write_named<P: Page>(name: &[u8], judged: &Judged<'_>, page: &mut P) -> Result<(), Failed>
     ensures { Writes (P.told page.old) (P.told page.new) result (fields_text (named_fields name.now judged.now)) }
 {
@@ -63,7 +60,6 @@ fn write_named<P: Page>(name: &[u8], judged: &Judged<'_>, page: &mut P) -> Resul
 }
 
 /// Writes the line of it.
-#[tactic(auto, using(json_lines::proofs::Lines::line_steps), unfolding(crate::specs::GateLine::named_line))]
 pub(crate) fn write_named_line<P: Page>(
     name: &[u8],
     judged: &Judged<'_>,
@@ -94,7 +90,6 @@ fn write_no_list_people<P: Page>(line: usize, page: &mut P) -> Result<(), Failed
 }
 
 /// Writes that a line of a list is no entry.
-#[tactic(auto, using(json_lines::proofs::Lines::fields_steps), unfolding(crate::specs::VerdictFields::no_list_fields))]
 fn write_no_list<P: Page>(line: usize, page: &mut P) -> Result<(), Failed>
     ensures { Writes (P.told page.old) (P.told page.new) result (fields_text (no_list_fields line)) }
 {
@@ -104,7 +99,6 @@ fn write_no_list<P: Page>(line: usize, page: &mut P) -> Result<(), Failed>
 }
 
 /// Writes the line of it.
-#[tactic(auto, using(json_lines::proofs::Lines::line_steps), unfolding(crate::specs::GateLine::no_list_json))]
 pub(crate) fn write_no_list_line<P: Page>(line: usize, page: &mut P) -> Result<(), Failed>
     ensures { Writes (P.told page.old) (P.told page.new) result (no_list_json line) }
 {

@@ -42,7 +42,6 @@ fn not_allowed() -> &'static str
 }
 
 /// Writes where an item is that is not allowed, and its words.
-#[tactic(auto, using(json_lines::proofs::Lines::fields_steps), unfolding(crate::specs::VerdictFields::forbidden_fields))]
 fn write_forbidden<P: Page>(offset: u64, words: &[u8], page: &mut P) -> Result<(), Failed>
     ensures { Writes (P.told page.old) (P.told page.new) result (fields_text (forbidden_fields offset words.now)) }
 {
@@ -60,7 +59,6 @@ fn write_item<P: Page>(place: usize, page: &mut P) -> Result<(), Failed>
 }
 
 /// Writes why an item is refused, and which it is.
-#[tactic(auto, using(json_lines::proofs::Lines::fields_steps))]
 fn write_refused<P: Page>(place: usize, refusal: Refusal, page: &mut P) -> Result<(), Failed>
     ensures { Writes (P.told page.old) (P.told page.new) result (fields_text (refused_fields refusal None ⊕ item_fields place)) }
 {
@@ -80,7 +78,6 @@ fn write_closing<P: Page>(closing: Closing, page: &mut P) -> Result<(), Failed>
 }
 
 /// Writes that a frame goes on behind the STOP at this offset.
-#[tactic(auto, using(json_lines::proofs::Lines::fields_steps), unfolding(crate::specs::VerdictFields::unsure_fields))]
 fn write_unsure<P: Page>(offset: u64, page: &mut P) -> Result<(), Failed>
     ensures { Writes (P.told page.old) (P.told page.new) result (fields_text (unsure_fields offset)) }
 {
@@ -115,7 +112,6 @@ pub(crate) fn write_verdict<P: Page>(
 }
 
 /// Writes the same of a pickle behind the header of an array.
-#[tactic(auto, using(json_lines::proofs::Lines::fields_steps))]
 pub(crate) fn write_verdict_behind<P: Page>(
     verdict: Verdict,
     line: &[u8],

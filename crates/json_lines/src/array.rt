@@ -62,7 +62,6 @@ fn write_array<P: Page>(numbers: &[u32], page: &mut P) -> Result<(), Failed>
 }
 
 /// Writes a field that is an array of whole numbers.
-#[tactic(auto, using(crate::proofs::Lines::field_steps))]
 pub fn write_numbers_field<P: Page>(name: &str, numbers: &[u32], page: &mut P) -> Result<(), Failed>
     ensures { Writes (P.told page.old) (P.told page.new) result (fields_text (field name.now (numbers_json numbers.now))) }
 {

@@ -25,7 +25,6 @@ pub fn write_name<P: Page>(name: &str, page: &mut P) -> Result<(), Failed>
 }
 
 /// Writes a field that is a whole number, as text where it is 2^53 or more.
-#[tactic(auto, using(crate::proofs::Lines::field_steps))]
 pub fn write_number_field<P: Page>(name: &str, number: u64, page: &mut P) -> Result<(), Failed>
     ensures { Writes (P.told page.old) (P.told page.new) result (fields_text (field name.now (whole number))) }
 {
@@ -34,7 +33,6 @@ pub fn write_number_field<P: Page>(name: &str, number: u64, page: &mut P) -> Res
 }
 
 /// Writes a field that is a whole number, which may be below 0, as text where it is 2^53 or more without its sign.
-#[tactic(auto, using(crate::proofs::Lines::field_steps))]
 pub fn write_integer_field<P: Page>(name: &str, number: i128, page: &mut P) -> Result<(), Failed>
     ensures { Writes (P.told page.old) (P.told page.new) result (fields_text (field name.now (integer number))) }
 {
@@ -71,7 +69,6 @@ fn write_hex_string<P: Page>(bytes: &[u8], page: &mut P) -> Result<(), Failed>
 }
 
 /// Writes a field that is bytes in hexadecimal, two lower case digits each.
-#[tactic(auto, using(crate::proofs::Lines::field_steps))]
 pub fn write_hex_field<P: Page>(name: &str, bytes: &[u8], page: &mut P) -> Result<(), Failed>
     ensures { Writes (P.told page.old) (P.told page.new) result (fields_text (field name.now (hex bytes.now))) }
 {

@@ -18,7 +18,6 @@ use pickle_script::Stop;
 use std::alloc::Global;
 
 /// Writes the lines where a hole does not lie within so many bytes.
-#[tactic(auto, using(pickle_io::proofs::Devices::text_steps))]
 fn write_outside<S: Page>(hole: Hole, size: usize, page: &mut S) -> Result<(), Failed>
     ensures { Writes (S.told page.old) (S.told page.new) result (hole_line hole size ⧺ status_line 1) }
 {

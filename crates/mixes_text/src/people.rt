@@ -19,7 +19,6 @@ fn above_words() -> &'static str
 }
 
 /// Writes the line above the opcodes.
-#[tactic(auto, using(pickle_io::proofs::Devices::text_steps), unfolding(crate::specs::MixText::above_line))]
 fn write_above_line<S: Page>(page: &mut S) -> Result<(), Failed>
     ensures { Writes (S.told page.old) (S.told page.new) result above_line }
 {
@@ -42,7 +41,6 @@ fn write_op<S: Page>(op: &Op, page: &mut S) -> Result<(), Failed>
 }
 
 /// Writes the line of an opcode.
-#[tactic(auto, using(pickle_io::proofs::Devices::text_steps), unfolding(crate::specs::MixText::taken_line))]
 fn write_taken_line<S: Page>(offset: u64, op: &Op, page: &mut S) -> Result<(), Failed>
     ensures { Writes (S.told page.old) (S.told page.new) result (taken_line offset op.now) }
 {
@@ -53,7 +51,6 @@ fn write_taken_line<S: Page>(offset: u64, op: &Op, page: &mut S) -> Result<(), F
 }
 
 /// Writes the line below so many opcodes.
-#[tactic(auto, using(pickle_io::proofs::Devices::text_steps), unfolding(crate::specs::MixText::below_line))]
 fn write_below_line<S: Page>(count: u64, page: &mut S) -> Result<(), Failed>
     ensures { Writes (S.told page.old) (S.told page.new) result (below_line count) }
 {
@@ -71,7 +68,6 @@ fn many_words() -> &'static str
 }
 
 /// Writes that there are too many ways to read the bytes.
-#[tactic(auto, using(pickle_io::proofs::Devices::text_steps), unfolding(crate::specs::MixText::many_line))]
 fn write_many_line<S: Page>(page: &mut S) -> Result<(), Failed>
     ensures { Writes (S.told page.old) (S.told page.new) result many_line }
 {

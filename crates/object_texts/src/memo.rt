@@ -13,7 +13,6 @@ use pickle_text::write_id;
 use std::collections::BTreeMap;
 
 /// Writes a key, and the object that it has.
-#[tactic(auto, using(pickle_io::proofs::Devices::text_steps), unfolding(crate::specs::MemoText::entry_text))]
 fn write_entry<S: Page>(key: u64, id: ObjId, page: &mut S) -> Result<(), Failed>
     ensures { Writes (S.told page.old) (S.told page.new) result (entry_text (key, id)) }
 {
@@ -57,7 +56,6 @@ fn write_map<S: Page>(memo: &BTreeMap<u64, ObjId>, page: &mut S) -> Result<(), F
 }
 
 /// Writes the entries of slots, and then those of a map.
-#[tactic(auto, using(pickle_io::proofs::Devices::text_steps))]
 fn write_parts<S: Page>(
     slots: &[Option<ObjId>],
     map: &BTreeMap<u64, ObjId>,
@@ -79,7 +77,6 @@ fn write_entries<S: Page>(memo: &Entries, page: &mut S) -> Result<(), Failed>
 
 /// Writes the memo of a machine: `memo`, and ` key=#n` for each entry, by rising key. It takes no memory. `Failed` where the sink
 /// fails; a beginning of the line was written then.
-#[tactic(auto, using(pickle_io::proofs::Devices::text_steps), unfolding(crate::specs::MemoText::memo_text))]
 pub fn write_memo<S: Page>(machine: &Machine, page: &mut S) -> Result<(), Failed>
     ensures { Writes (S.told page.old) (S.told page.new) result (memo_text machine.now.state.memo) }
 {

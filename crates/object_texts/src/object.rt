@@ -10,7 +10,6 @@ use pickle_ops::{Change, ObjId, Object};
 use pickle_text::{write_id, write_with_id};
 
 /// Writes one object more, by its number after a blank.
-#[tactic(auto, using(pickle_io::proofs::Devices::text_steps), unfolding(crate::specs::ObjectText::next_text))]
 pub(crate) fn write_next<S: Page>(id: ObjId, page: &mut S) -> Result<(), Failed>
     ensures { Writes (S.told page.old) (S.told page.new) result (next_text id) }
 {
@@ -89,7 +88,6 @@ fn write_changes<S: Page>(changes: &[Change], page: &mut S) -> Result<(), Failed
 /// Writes an object: `#` and its number, the word of its kind with what its opcode gave it, its parts in brackets, and what was
 /// done to it: ` +#v` for an item put after the others, ` [#k]=#v` for a key mapped to a value, ` &#v` for a member of a set,
 /// ` !#s` for a state. It takes no memory. `Failed` where the sink fails; a beginning of the text was written then.
-#[tactic(auto, using(pickle_io::proofs::Devices::text_steps), unfolding(crate::specs::ObjectText::object_text))]
 pub fn write_object<S: Page>(id: u64, object: &Object, page: &mut S) -> Result<(), Failed>
     ensures { Writes (S.told page.old) (S.told page.new) result (object_text id object.now) }
 {
@@ -101,7 +99,6 @@ pub fn write_object<S: Page>(id: u64, object: &Object, page: &mut S) -> Result<(
 }
 
 /// Writes the line of an object.
-#[tactic(auto, using(pickle_io::proofs::Devices::text_steps), unfolding(crate::specs::ObjectText::object_line))]
 fn write_object_line<S: Page>(id: u64, object: &Object, page: &mut S) -> Result<(), Failed>
     ensures { Writes (S.told page.old) (S.told page.new) result (object_line id object.now) }
 {

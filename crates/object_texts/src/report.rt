@@ -25,7 +25,6 @@ use pickle_text::{Closing, ITEMS_OF_A_PART, Part, TextStop, closing_at, status_o
 use std::alloc::Global;
 
 /// Writes the line of a result.
-#[tactic(auto, using(pickle_io::proofs::Devices::text_steps), unfolding(crate::specs::Report::result_line))]
 fn write_result<S: Page>(id: ObjId, page: &mut S) -> Result<(), Failed>
     ensures { Writes (S.told page.old) (S.told page.new) result (result_line id) }
 {
@@ -46,7 +45,6 @@ fn write_results<S: Page>(ids: &[ObjId], page: &mut S) -> Result<(), Failed>
 }
 
 /// Writes all objects, the results, and how the run that made them ended.
-#[tactic(auto, using(pickle_io::proofs::Devices::text_steps), unfolding(crate::specs::Report::report_text))]
 fn write_lines<S: Page>(machine: &Machine, closing: Closing, page: &mut S) -> Result<(), Failed>
     ensures { Writes (S.told page.old) (S.told page.new) result (report_text machine.now.state.heap machine.now.state.results closing) }
 {

@@ -16,7 +16,6 @@ use pickle_text::TextStop;
 use std::alloc::Global;
 
 /// Writes the line of an object that is shown elsewhere.
-#[tactic(auto, using(pickle_io::proofs::Devices::text_steps), unfolding(crate::specs::Show::again_line))]
 fn write_again<S: Page>(depth: usize, id: ObjId, page: &mut S) -> Result<(), Failed>
     ensures { Writes (S.told page.old) (S.told page.new) result (again_line depth id) }
 {
@@ -26,7 +25,6 @@ fn write_again<S: Page>(depth: usize, id: ObjId, page: &mut S) -> Result<(), Fai
 }
 
 /// Writes the line of an object at its first place.
-#[tactic(auto, using(pickle_io::proofs::Devices::text_steps), unfolding(crate::specs::Show::first_line))]
 fn write_first<S: Page>(
     depth: usize,
     id: ObjId,
@@ -111,7 +109,6 @@ fn go_on<'a, S: Page>(
 }
 
 /// Writes the walk from an object, where there is room for it.
-#[tactic(auto, using(pickle_io::proofs::Devices::text_steps))]
 fn walk_from<'a, S: Page>(
     machine: &'a Machine,
     id: ObjId,

@@ -47,7 +47,6 @@ fn write_between<S: Page>(
 }
 
 /// Writes the section of the stack from one height up to another, and the mark above it.
-#[tactic(auto, using(pickle_io::proofs::Devices::text_steps), unfolding(crate::specs::StackText::section_text))]
 fn write_section<S: Page>(
     machine: &Machine,
     from: usize,

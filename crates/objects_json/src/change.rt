@@ -19,7 +19,6 @@ fn write_value<P: Page>(id: ObjId, page: &mut P) -> Result<(), Failed>
 }
 
 /// Writes a key and the object to which it was mapped.
-#[tactic(auto, using(json_lines::proofs::Lines::fields_steps), unfolding(crate::specs::ObjectFields::pair_fields))]
 fn write_pair<P: Page>(key: ObjId, value: ObjId, page: &mut P) -> Result<(), Failed>
     ensures { Writes (P.told page.old) (P.told page.new) result (fields_text (pair_fields key value)) }
 {
@@ -54,7 +53,6 @@ fn write_change_fields<P: Page>(change: Change, page: &mut P) -> Result<(), Fail
 }
 
 /// Writes a change.
-#[tactic(auto, using(crate::proofs::Changes::change_steps))]
 fn write_change<P: Page>(change: Change, page: &mut P) -> Result<(), Failed>
     ensures { Writes (P.told page.old) (P.told page.new) result (value_text (change_json change)) }
 {
@@ -64,7 +62,6 @@ fn write_change<P: Page>(change: Change, page: &mut P) -> Result<(), Failed>
 }
 
 /// Writes one change more, after a comma.
-#[tactic(auto, using(pickle_io::proofs::Devices::text_steps), unfolding(crate::specs::ObjectFields::next_change))]
 fn write_next<P: Page>(change: Change, page: &mut P) -> Result<(), Failed>
     ensures { Writes (P.told page.old) (P.told page.new) result (next_change change) }
 {
@@ -84,7 +81,6 @@ fn write_all_next<P: Page>(changes: &[Change], page: &mut P) -> Result<(), Faile
 }
 
 /// Writes a change, and others after it.
-#[tactic(auto, using(crate::proofs::Changes::array_steps))]
 fn write_joined<P: Page>(first: Change, rest: &[Change], page: &mut P) -> Result<(), Failed>
     ensures { Writes (P.told page.old) (P.told page.new) result (changes_text (first ∷ rest.now)) }
 {
@@ -103,7 +99,6 @@ fn write_array<P: Page>(first: Change, rest: &[Change], page: &mut P) -> Result<
 }
 
 /// Writes a change, and others after it, as a field.
-#[tactic(auto, using(json_lines::proofs::Lines::field_steps))]
 fn write_some<P: Page>(first: Change, rest: &[Change], page: &mut P) -> Result<(), Failed>
     ensures { Writes (P.told page.old) (P.told page.new) result (fields_text (changes_fields (first ∷ rest.now))) }
 {

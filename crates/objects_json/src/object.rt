@@ -23,7 +23,6 @@ fn write_parts<P: Page>(parts: &[ObjId], page: &mut P) -> Result<(), Failed>
 }
 
 /// Writes its number, and its kind.
-#[tactic(auto, using(json_lines::proofs::Lines::fields_steps), unfolding(crate::specs::ObjectFields::head_fields))]
 fn write_head<P: Page>(id: u64, kind: &Kind, page: &mut P) -> Result<(), Failed>
     ensures { Writes (P.told page.old) (P.told page.new) result (fields_text (head_fields id kind.now)) }
 {
@@ -32,7 +31,6 @@ fn write_head<P: Page>(id: u64, kind: &Kind, page: &mut P) -> Result<(), Failed>
 }
 
 /// Writes what it was made of, and what was done to it.
-#[tactic(auto, using(json_lines::proofs::Lines::fields_steps), unfolding(crate::specs::ObjectFields::rest_fields))]
 fn write_rest<P: Page>(parts: &[ObjId], changes: &[Change], page: &mut P) -> Result<(), Failed>
     ensures { Writes (P.told page.old) (P.told page.new) result (fields_text (rest_fields parts.now changes.now)) }
 {
@@ -41,7 +39,6 @@ fn write_rest<P: Page>(parts: &[ObjId], changes: &[Change], page: &mut P) -> Res
 }
 
 /// Writes the fields of an object. `Failed` where the sink fails; a beginning of the fields was written then.
-#[tactic(auto, using(json_lines::proofs::Lines::fields_steps))]
 pub fn write_object_fields<P: Page>(id: u64, object: &Object, page: &mut P) -> Result<(), Failed>
     ensures { Writes (P.told page.old) (P.told page.new) result (fields_text (object_fields id object.now)) }
 {
@@ -51,7 +48,6 @@ pub fn write_object_fields<P: Page>(id: u64, object: &Object, page: &mut P) -> R
 }
 
 /// Writes the line of an object. `Failed` where the sink fails; a beginning of the line was written then.
-#[tactic(auto, using(json_lines::proofs::Lines::line_steps), unfolding(crate::specs::ObjectFields::object_line))]
 pub fn write_object<P: Page>(id: u64, object: &Object, page: &mut P) -> Result<(), Failed>
     ensures { Writes (P.told page.old) (P.told page.new) result (object_line id object.now) }
 {

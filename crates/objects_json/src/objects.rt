@@ -31,7 +31,6 @@ fn write_heap<P: Page>(machine: &Machine, page: &mut P) -> Result<(), Failed>
 }
 
 /// Writes the line of a result.
-#[tactic(auto, using(json_lines::proofs::Lines::line_steps), unfolding(crate::specs::Objects::result_line))]
 fn write_result<P: Page>(id: ObjId, page: &mut P) -> Result<(), Failed>
     ensures { Writes (P.told page.old) (P.told page.new) result (result_line id) }
 {
@@ -52,7 +51,6 @@ fn write_results<P: Page>(ids: &[ObjId], page: &mut P) -> Result<(), Failed>
 }
 
 /// Writes the last line after STOP.
-#[tactic(auto, using(json_lines::proofs::Lines::line_steps), unfolding(crate::specs::Objects::stopped_line))]
 fn write_stopped<P: Page>(page: &mut P) -> Result<(), Failed>
     ensures { Writes (P.told page.old) (P.told page.new) result stopped_line }
 {
@@ -62,7 +60,6 @@ fn write_stopped<P: Page>(page: &mut P) -> Result<(), Failed>
 }
 
 /// Writes why the item at this place is refused.
-#[tactic(auto, using(json_lines::proofs::Lines::fields_steps))]
 fn write_item_refused<P: Page>(place: usize, refusal: Refusal, page: &mut P) -> Result<(), Failed>
     ensures { Writes (P.told page.old) (P.told page.new) result (fields_text (item_refused_fields place refusal)) }
 {
@@ -71,7 +68,6 @@ fn write_item_refused<P: Page>(place: usize, refusal: Refusal, page: &mut P) -> 
 }
 
 /// Writes the last line where an item is refused.
-#[tactic(auto, using(json_lines::proofs::Lines::line_steps), unfolding(crate::specs::Objects::refused_line))]
 fn write_refused<P: Page>(place: usize, refusal: Refusal, page: &mut P) -> Result<(), Failed>
     ensures { Writes (P.told page.old) (P.told page.new) result (refused_line place refusal) }
 {
@@ -81,7 +77,6 @@ fn write_refused<P: Page>(place: usize, refusal: Refusal, page: &mut P) -> Resul
 }
 
 /// Writes the last line where the bytes from this offset on are no further item.
-#[tactic(auto, using(json_lines::proofs::Lines::line_steps), unfolding(crate::specs::Objects::fault_line))]
 fn write_fault<P: Page>(fault: TailFault, offset: u64, page: &mut P) -> Result<(), Failed>
     ensures { Writes (P.told page.old) (P.told page.new) result (fault_line fault offset) }
 {
@@ -103,7 +98,6 @@ fn write_closing<P: Page>(closing: Closing, page: &mut P) -> Result<(), Failed>
 }
 
 /// Writes the lines of all objects of a machine, one for each result, and a last one that says how the run ended.
-#[tactic(auto, using(pickle_io::proofs::Devices::text_steps), unfolding(crate::specs::Objects::objects_text))]
 fn write_all_lines<P: Page>(machine: &Machine, closing: Closing, page: &mut P) -> Result<(), Failed>
     ensures { Writes (P.told page.old) (P.told page.new) result (objects_text machine.now.state.heap machine.now.state.results closing) }
 {

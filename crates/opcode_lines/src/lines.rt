@@ -51,7 +51,6 @@ fn makes_object(opcode: Opcode) -> bool
 }
 
 /// Writes how an opcode is written.
-#[tactic(auto, using(json_lines::proofs::Lines::fields_steps))]
 fn write_spelling<P: Page>(opcode: Opcode, page: &mut P) -> Result<(), Failed>
     ensures { Writes (P.told page.old) (P.told page.new) result (fields_text (spelling_fields opcode)) }
 {
@@ -63,7 +62,6 @@ fn write_spelling<P: Page>(opcode: Opcode, page: &mut P) -> Result<(), Failed>
 }
 
 /// Writes what an opcode does.
-#[tactic(auto, using(json_lines::proofs::Lines::fields_steps))]
 fn write_deed<P: Page>(opcode: Opcode, page: &mut P) -> Result<(), Failed>
     ensures { Writes (P.told page.old) (P.told page.new) result (fields_text (deed_fields opcode)) }
 {
@@ -74,7 +72,6 @@ fn write_deed<P: Page>(opcode: Opcode, page: &mut P) -> Result<(), Failed>
 }
 
 /// Writes the fields of an opcode.
-#[tactic(auto, using(json_lines::proofs::Lines::fields_steps))]
 fn write_fields<P: Page>(opcode: Opcode, page: &mut P) -> Result<(), Failed>
     ensures { Writes (P.told page.old) (P.told page.new) result (fields_text (entry_fields opcode)) }
 {
@@ -83,7 +80,6 @@ fn write_fields<P: Page>(opcode: Opcode, page: &mut P) -> Result<(), Failed>
 }
 
 /// Writes the line of an opcode.
-#[tactic(auto, using(json_lines::proofs::Lines::line_steps), unfolding(crate::specs::EntryFields::entry_line))]
 fn write_entry<P: Page>(opcode: Opcode, page: &mut P) -> Result<(), Failed>
     ensures { Writes (P.told page.old) (P.told page.new) result (entry_line opcode) }
 {

@@ -71,7 +71,6 @@ fn words_of_begins() -> &'static str
 }
 
 /// Writes what the bytes begin like.
-#[tactic(auto, using(pickle_io::proofs::Devices::text_steps), unfolding(crate::specs::Begins::begins_line))]
 fn write_begins_line<S: Page>(name: &str, page: &mut S) -> Result<(), Failed>
     ensures { Writes (S.told page.old) (S.told page.new) result (begins_line name.now) }
 {

@@ -35,7 +35,6 @@ fn write_over<S: Page>(count: usize, page: &mut S) -> Result<(), Failed>
 }
 
 /// Writes the first bytes of a payload in quotes, and how many more there are.
-#[tactic(auto, using(pickle_io::proofs::Devices::text_steps), unfolding(crate::specs::Brief::cut_quoted))]
 fn write_cut<S: Page>(text: &[u8], page: &mut S) -> Result<(), Failed>
     ensures { Writes (S.told page.old) (S.told page.new) result (cut_quoted text.now) }
 {
@@ -44,7 +43,6 @@ fn write_cut<S: Page>(text: &[u8], page: &mut S) -> Result<(), Failed>
 }
 
 /// Writes a keyword, and the first bytes of a payload in quotes with how many more there are.
-#[tactic(auto, using(pickle_io::proofs::Devices::text_steps), unfolding(crate::specs::Brief::cut_after))]
 fn write_cut_after<S: Page>(keyword: &[u8], text: &[u8], page: &mut S) -> Result<(), Failed>
     ensures { Writes (S.told page.old) (S.told page.new) result (cut_after keyword.now text.now) }
 {
@@ -56,7 +54,6 @@ fn write_cut_after<S: Page>(keyword: &[u8], text: &[u8], page: &mut S) -> Result
 const MOST_CHARACTERS: usize = 64;
 
 /// Writes the first characters of a text by their value, and how many more bytes there are.
-#[tactic(auto, using(pickle_io::proofs::Devices::text_steps, crate::proofs::Cutting::left_over))]
 fn write_cut_value<S: Page>(
     reading: Reading,
     coding: Coding,
@@ -83,7 +80,6 @@ fn write_cut_text<S: Page>(coding: Coding, text: &[u8], page: &mut S) -> Result<
 }
 
 /// Writes a long number by its first bytes, and how many more there are.
-#[tactic(auto, using(pickle_io::proofs::Devices::text_steps), unfolding(crate::specs::Brief::cut_long))]
 fn write_cut_long<S: Page>(bytes: &[u8], page: &mut S) -> Result<(), Failed>
     ensures { Writes (S.told page.old) (S.told page.new) result (cut_long bytes.now) }
 {
@@ -103,7 +99,6 @@ fn write_shown<S: Page>(detail: Detail, text: &[u8], page: &mut S) -> Result<(),
 }
 
 /// Writes a keyword, and a payload in quotes, cut or in full.
-#[tactic(auto, using(pickle_io::proofs::Devices::text_steps), unfolding(crate::specs::Brief::payload_after))]
 fn write_payload_after<S: Page>(
     detail: Detail,
     keyword: &[u8],
@@ -133,7 +128,6 @@ fn write_shown_text<S: Page>(
 }
 
 /// Writes a keyword, and a text by its value, cut or in full.
-#[tactic(auto, using(pickle_io::proofs::Devices::text_steps), unfolding(crate::specs::Brief::text_after))]
 fn write_text_after<S: Page>(
     detail: Detail,
     keyword: &[u8],
@@ -159,7 +153,6 @@ fn write_shown_long<S: Page>(detail: Detail, bytes: &[u8], page: &mut S) -> Resu
 }
 
 /// Writes a keyword, and a long number, cut or in full.
-#[tactic(auto, using(pickle_io::proofs::Devices::text_steps), unfolding(crate::specs::Brief::long_after))]
 fn write_long_after<S: Page>(detail: Detail, bytes: &[u8], page: &mut S) -> Result<(), Failed>
     ensures { Writes (S.told page.old) (S.told page.new) result (long_after detail bytes.now) }
 {
@@ -240,7 +233,6 @@ fn write_brief<M: Inspect, S: Page>(
 }
 
 /// Writes one object more in brief, after a comma.
-#[tactic(auto, using(pickle_io::proofs::Devices::text_steps), unfolding(crate::specs::Brief::next_brief))]
 fn write_next<M: Inspect, S: Page>(
     naming: Naming,
     machine: &M,
@@ -270,7 +262,6 @@ fn write_all_next<M: Inspect, S: Page>(
 }
 
 /// Writes an object in brief, and others after it.
-#[tactic(auto, using(pickle_io::proofs::Devices::text_steps))]
 fn write_some<M: Inspect, S: Page>(
     naming: Naming,
     machine: &M,
@@ -313,7 +304,6 @@ fn write_more<S: Page>(count: usize, page: &mut S) -> Result<(), Failed>
 }
 
 /// Writes the first objects, and how many more there are.
-#[tactic(auto, using(pickle_io::proofs::Devices::text_steps), unfolding(crate::specs::Brief::cut_list))]
 fn write_cut_list<M: Inspect, S: Page>(
     naming: Naming,
     machine: &M,

@@ -23,7 +23,6 @@ use pickle_ops::{Filling, KindRef, Look, ObjId};
 use pickle_text::{write_id, write_right, write_with_id, write_with_number, write_with_signed};
 
 /// Writes that a member of a module is imported and called.
-#[tactic(auto, using(pickle_io::proofs::Devices::text_steps), unfolding(crate::specs::CallsLine::inst_text))]
 fn write_inst<M: Inspect, S: Page>(
     naming: Naming,
     machine: &M,
@@ -58,7 +57,6 @@ fn write_call<M: Inspect, S: Page>(
 }
 
 /// Writes a new instance that is given arguments with names.
-#[tactic(auto, using(pickle_io::proofs::Devices::text_steps), unfolding(crate::specs::CallsLine::call_with_text))]
 fn write_call_with<M: Inspect, S: Page>(
     naming: Naming,
     machine: &M,
@@ -83,7 +81,6 @@ fn after_first(parts: &[ObjId]) -> &[ObjId]
 }
 
 /// Writes a call whose arguments are after the class.
-#[tactic(auto, using(pickle_io::proofs::Devices::text_steps), unfolding(crate::specs::CallsLine::obj_text))]
 fn write_obj<M: Inspect, S: Page>(
     naming: Naming,
     machine: &M,
@@ -99,7 +96,6 @@ fn write_obj<M: Inspect, S: Page>(
 }
 
 /// Writes a keyword and an object as a value.
-#[tactic(auto, using(pickle_io::proofs::Devices::text_steps))]
 fn write_value_after<M: Inspect, S: Page>(
     keyword: &[u8],
     naming: Naming,
@@ -114,7 +110,6 @@ fn write_value_after<M: Inspect, S: Page>(
 }
 
 /// Writes a keyword and a text of ASCII.
-#[tactic(auto, using(pickle_io::proofs::Devices::text_steps))]
 fn write_ascii_after<S: Page>(keyword: &[u8], text: &[u8], page: &mut S) -> Result<(), Failed>
     ensures { Writes (S.told page.old) (S.told page.new) result (keyword.now ⧺ whole_text Coding.Ascii text.now) }
 {
@@ -173,7 +168,6 @@ fn write_made_words<M: Inspect, S: Page>(
 }
 
 /// Writes what made an object, and its number.
-#[tactic(auto, using(pickle_io::proofs::Devices::text_steps), unfolding(crate::specs::CallsLine::made_text))]
 fn write_made_object<M: Inspect, S: Page>(
     naming: Naming,
     machine: &M,
@@ -205,7 +199,6 @@ fn write_made<M: Inspect, S: Page>(
 }
 
 /// Writes that an object becomes the state of another.
-#[tactic(auto, using(pickle_io::proofs::Devices::text_steps), unfolding(crate::specs::CallsLine::state_text))]
 fn write_state<M: Inspect, S: Page>(
     naming: Naming,
     machine: &M,
@@ -247,7 +240,6 @@ fn fill_link(filling: Filling) -> &'static str
 }
 
 /// Writes how many go into which object.
-#[tactic(auto, using(pickle_io::proofs::Devices::text_steps), unfolding(crate::specs::CallsLine::filled_text))]
 fn write_filled<S: Page>(
     filling: Filling,
     count: usize,
@@ -279,7 +271,6 @@ fn write_event<M: Inspect, S: Page>(
 }
 
 /// Writes the line of an event whose item is at this offset.
-#[tactic(auto, using(pickle_io::proofs::Devices::text_steps), unfolding(crate::specs::CallsLine::event_line))]
 #[inline(never)]
 fn write_event_line<M: Inspect, S: Page>(
     offset: u64,

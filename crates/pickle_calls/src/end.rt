@@ -23,7 +23,6 @@ pub enum Ending {
 }
 
 /// Writes how many imports and calls the lines are. `Failed` where the sink fails; a beginning of the line was written then.
-#[tactic(auto, using(pickle_io::proofs::Devices::text_steps), unfolding(crate::specs::CallsLine::totals_line))]
 pub fn write_totals<S: Page>(course: Course, page: &mut S) -> Result<(), Failed>
     ensures { Writes (S.told page.old) (S.told page.new) result (totals_line course.imports course.calls) }
 {
@@ -43,7 +42,6 @@ fn words_of_unsure() -> &'static str
 }
 
 /// Writes that a frame goes on behind the STOP at this offset.
-#[tactic(auto, using(pickle_io::proofs::Devices::text_steps), unfolding(crate::specs::CallsLine::unsure_line))]
 fn write_unsure_line<S: Page>(offset: u64, page: &mut S) -> Result<(), Failed>
     ensures { Writes (S.told page.old) (S.told page.new) result (unsure_line offset) }
 {
@@ -53,7 +51,6 @@ fn write_unsure_line<S: Page>(offset: u64, page: &mut S) -> Result<(), Failed>
 }
 
 /// Writes how many bytes STOP left, if any, and how the run ended.
-#[tactic(auto, using(pickle_io::proofs::Devices::text_steps))]
 fn write_closed<S: Page>(kept: u64, closing: Closing, page: &mut S) -> Result<(), Failed>
     ensures { Writes (S.told page.old) (S.told page.new) result (kept_line kept ⧺ closing_line closing) }
 {
@@ -84,7 +81,6 @@ fn ending_status(ending: Ending) -> u8
 }
 
 /// Writes the last lines.
-#[tactic(auto, using(pickle_io::proofs::Devices::text_steps), unfolding(crate::specs::CallsLine::calls_end_text))]
 pub(crate) fn write_last_lines<S: Page>(
     bytes: &[u8],
     course: Course,

@@ -163,7 +163,6 @@ fn write_said<S: Page>(
 }
 
 /// Writes both names as they are said.
-#[tactic(auto, using(pickle_io::proofs::Devices::text_steps), unfolding(crate::specs::Naming::pair_text))]
 fn write_pair<S: Page>(pair: NamePair<'_>, page: &mut S) -> Result<(), Failed>
     ensures { Writes (S.told page.old) (S.told page.new) result (pair_text (pair_view pair.entry)) }
 {
@@ -276,7 +275,6 @@ fn write_member<S: Page>(
 }
 
 /// Writes what is imported.
-#[tactic(auto, using(pickle_io::proofs::Devices::text_steps), unfolding(crate::specs::Naming::import_text))]
 fn write_import<S: Page>(new: Imported<'_>, pair: NamePair<'_>, page: &mut S) -> Result<(), Failed>
     ensures { Writes (S.told page.old) (S.told page.new) result (import_text (new_view new.entry) (pair_view pair.entry)) }
 {
@@ -286,7 +284,6 @@ fn write_import<S: Page>(new: Imported<'_>, pair: NamePair<'_>, page: &mut S) ->
 }
 
 /// Writes what is imported, and for which names.
-#[tactic(auto, using(pickle_io::proofs::Devices::text_steps), unfolding(crate::specs::Naming::import_for))]
 fn write_import_for<S: Page>(
     new: Imported<'_>,
     pair: NamePair<'_>,
@@ -468,7 +465,6 @@ fn write_names<S: Page>(
 }
 
 /// Writes such names after a keyword.
-#[tactic(auto, using(pickle_io::proofs::Devices::text_steps))]
 pub fn write_names_after<S: Page>(
     keyword: &[u8],
     naming: Naming,

@@ -127,7 +127,6 @@ fn deep_words() -> &'static str
 }
 
 /// Writes that this tuple is nested too deep.
-#[tactic(auto, using(pickle_io::proofs::Devices::text_steps), unfolding(crate::specs::Deep::deep_line))]
 fn write_deep_line<S: Page>(id: ObjId, page: &mut S) -> Result<(), Failed>
     ensures { Writes (S.told page.old) (S.told page.new) result (deep_line id) }
 {

@@ -435,7 +435,6 @@ fn leads_words() -> &'static str
 }
 
 /// Writes that this object leads to the unpickler.
-#[tactic(auto, using(pickle_io::proofs::Devices::text_steps), unfolding(crate::specs::Leads::warning_line))]
 pub fn write_warning_line<S: Page>(id: ObjId, page: &mut S) -> Result<(), Failed>
     ensures { Writes (S.told page.old) (S.told page.new) result (warning_line id) }
 {

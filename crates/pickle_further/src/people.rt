@@ -52,7 +52,6 @@ fn header_words(frames: Frames) -> &'static str
 }
 
 /// Writes that a loader may go on.
-#[tactic(auto, using(pickle_io::proofs::Devices::text_steps), unfolding(crate::specs::Parts::header))]
 fn write_header<S: Page>(frames: Frames, page: &mut S) -> Result<(), Failed>
     ensures { Writes (S.told page.old) (S.told page.new) result (header frames) }
 {
@@ -69,7 +68,6 @@ fn stop_words() -> &'static str
 }
 
 /// Writes that it ended at STOP.
-#[tactic(auto, using(pickle_io::proofs::Devices::text_steps), unfolding(crate::specs::Parts::stop_line))]
 fn write_stopped<S: Page>(page: &mut S) -> Result<(), Failed>
     ensures { Writes (S.told page.old) (S.told page.new) result stop_line }
 {
@@ -96,7 +94,6 @@ fn write_ends<S: Page>(closing: Closing, page: &mut S) -> Result<(), Failed>
 }
 
 /// Writes how it ended, and a line where an import leads to the unpickler.
-#[tactic(auto, using(pickle_io::proofs::Devices::text_steps))]
 fn write_ends_warned<S: Page>(
     closing: Closing,
     leads: Option<ObjId>,
@@ -109,7 +106,6 @@ fn write_ends_warned<S: Page>(
 }
 
 /// Writes the last lines.
-#[tactic(auto, using(pickle_io::proofs::Devices::text_steps), unfolding(crate::specs::Parts::part_end))]
 fn write_part_end<S: Page>(
     course: Course,
     closing: Closing,
@@ -131,7 +127,6 @@ fn mixed_words() -> &'static str
 }
 
 /// Writes that frames may be mixed from this offset on.
-#[tactic(auto, using(pickle_io::proofs::Devices::text_steps), unfolding(crate::specs::Parts::mixed_line))]
 fn write_mixed_line<S: Page>(offset: u64, page: &mut S) -> Result<(), Failed>
     ensures { Writes (S.told page.old) (S.told page.new) result (mixed_line offset) }
 {
@@ -149,7 +144,6 @@ fn loss_words() -> &'static str
 }
 
 /// Writes that bytes are lost at this offset.
-#[tactic(auto, using(pickle_io::proofs::Devices::text_steps), unfolding(crate::specs::Parts::loss_line))]
 fn write_loss_line<S: Page>(offset: u64, page: &mut S) -> Result<(), Failed>
     ensures { Writes (S.told page.old) (S.told page.new) result (loss_line offset) }
 {

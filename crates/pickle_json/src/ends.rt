@@ -15,7 +15,6 @@ use pickle_machine::Refusal;
 use pickle_ops::FrontFault;
 
 /// Writes how many objects and marks STOP left on the stack.
-#[tactic(auto, using(json_lines::proofs::Lines::fields_steps))]
 fn write_left_fields<P: Page>(objects: usize, marks: usize, page: &mut P) -> Result<(), Failed>
     ensures { Writes (P.told page.old) (P.told page.new) result (fields_text (left_fields objects marks)) }
 {
@@ -24,7 +23,6 @@ fn write_left_fields<P: Page>(objects: usize, marks: usize, page: &mut P) -> Res
 }
 
 /// Writes the line of what STOP left on the stack.
-#[tactic(auto, using(json_lines::proofs::Lines::line_steps), unfolding(crate::specs::EndFields::left_text))]
 fn write_left_text<P: Page>(objects: usize, marks: usize, page: &mut P) -> Result<(), Failed>
     ensures { Writes (P.told page.old) (P.told page.new) result (left_text objects marks) }
 {
@@ -156,7 +154,6 @@ fn write_fault_fields<P: Page>(fault: TailFault, page: &mut P) -> Result<(), Fai
 }
 
 /// Writes a code and its words.
-#[tactic(auto, using(json_lines::proofs::Lines::fields_steps), unfolding(crate::specs::EndFields::coded_fields))]
 pub fn write_coded<P: Page>(code: &str, words: &str, page: &mut P) -> Result<(), Failed>
     ensures { Writes (P.told page.old) (P.told page.new) result (fields_text (coded_fields code.now words.now)) }
 {
@@ -184,7 +181,6 @@ pub fn write_how<P: Page>(how: &str, page: &mut P) -> Result<(), Failed>
 }
 
 /// Writes how many bytes are behind STOP, and the highest protocol.
-#[tactic(auto, using(json_lines::proofs::Lines::fields_steps))]
 pub fn write_stopped_fields<P: Page>(
     kept: u64,
     highest: Option<u8>,
@@ -198,7 +194,6 @@ pub fn write_stopped_fields<P: Page>(
 }
 
 /// Writes the last line after STOP, behind which there are `kept` bytes.
-#[tactic(auto, using(json_lines::proofs::Lines::line_steps), unfolding(crate::specs::EndFields::stopped_end))]
 pub fn write_stopped_end<P: Page>(
     kept: u64,
     highest: Option<u8>,
@@ -212,7 +207,6 @@ pub fn write_stopped_end<P: Page>(
 }
 
 /// Writes why an item is refused, and the highest protocol.
-#[tactic(auto, using(json_lines::proofs::Lines::fields_steps))]
 pub fn write_refused_fields<P: Page>(
     refusal: Refusal,
     highest: Option<u8>,
@@ -227,7 +221,6 @@ pub fn write_refused_fields<P: Page>(
 }
 
 /// Writes the last line after an item that is refused.
-#[tactic(auto, using(json_lines::proofs::Lines::line_steps), unfolding(crate::specs::EndFields::refused_end))]
 pub fn write_refused_end<P: Page>(
     refusal: Refusal,
     highest: Option<u8>,
@@ -253,7 +246,6 @@ fn is_of_frame(fault: TailFault) -> bool
 }
 
 /// Writes which fault there is.
-#[tactic(auto, using(json_lines::proofs::Lines::fields_steps), unfolding(crate::specs::EndFields::told_fields))]
 fn write_told<P: Page>(fault: TailFault, page: &mut P) -> Result<(), Failed>
     ensures { Writes (P.told page.old) (P.told page.new) result (fields_text (told_fields fault)) }
 {
@@ -263,7 +255,6 @@ fn write_told<P: Page>(fault: TailFault, page: &mut P) -> Result<(), Failed>
 }
 
 /// Writes where a fault is, and whether it is one of a frame.
-#[tactic(auto, using(json_lines::proofs::Lines::fields_steps), unfolding(crate::specs::EndFields::place_fields))]
 fn write_place<P: Page>(fault: TailFault, offset: u64, page: &mut P) -> Result<(), Failed>
     ensures { Writes (P.told page.old) (P.told page.new) result (fields_text (place_fields fault offset)) }
 {
@@ -272,7 +263,6 @@ fn write_place<P: Page>(fault: TailFault, offset: u64, page: &mut P) -> Result<(
 }
 
 /// Writes a fault, where it is, and the highest protocol.
-#[tactic(auto, using(json_lines::proofs::Lines::fields_steps))]
 pub fn write_tail_fields<P: Page>(
     fault: TailFault,
     offset: u64,
@@ -287,7 +277,6 @@ pub fn write_tail_fields<P: Page>(
 }
 
 /// Writes the last line where the bytes from this offset on are no further item.
-#[tactic(auto, using(json_lines::proofs::Lines::line_steps), unfolding(crate::specs::EndFields::fault_end))]
 pub fn write_fault_end<P: Page>(
     fault: TailFault,
     offset: u64,

@@ -55,7 +55,6 @@ fn reason_name(reason: Reason) -> &'static str
 }
 
 /// Writes how many opcodes and bytes are before the first place.
-#[tactic(auto, using(json_lines::proofs::Lines::fields_steps), unfolding(crate::specs::FormFields::place_fields))]
 fn write_place<P: Page>(other: Other, page: &mut P) -> Result<(), Failed>
     ensures { Writes (P.told page.old) (P.told page.new) result (fields_text (place_fields other)) }
 {
@@ -64,7 +63,6 @@ fn write_place<P: Page>(other: Other, page: &mut P) -> Result<(), Failed>
 }
 
 /// Writes why no pickler writes so.
-#[tactic(auto, using(json_lines::proofs::Lines::fields_steps), unfolding(crate::specs::FormFields::why_fields))]
 fn write_why<P: Page>(reason: Reason, page: &mut P) -> Result<(), Failed>
     ensures { Writes (P.told page.old) (P.told page.new) result (fields_text (why_fields reason)) }
 {
@@ -73,7 +71,6 @@ fn write_why<P: Page>(reason: Reason, page: &mut P) -> Result<(), Failed>
 }
 
 /// Writes the fields of the first place at which a pickle is in another form, and why.
-#[tactic(auto, using(json_lines::proofs::Lines::fields_steps))]
 pub fn write_other_fields<P: Page>(other: Other, page: &mut P) -> Result<(), Failed>
     ensures { Writes (P.told page.old) (P.told page.new) result (fields_text (other_fields other)) }
 {
@@ -83,7 +80,6 @@ pub fn write_other_fields<P: Page>(other: Other, page: &mut P) -> Result<(), Fai
 }
 
 /// Writes the first place at which a pickle is in another form, and why.
-#[tactic(auto, using(json_lines::proofs::Lines::line_steps), unfolding(crate::specs::FormFields::other_line))]
 pub fn write_other_form<P: Page>(other: Other, page: &mut P) -> Result<(), Failed>
     ensures { Writes (P.told page.old) (P.told page.new) result (other_line other) }
 {
@@ -100,7 +96,6 @@ fn write_in_form_fields<P: Page>(page: &mut P) -> Result<(), Failed>
 }
 
 /// Writes that a pickle is in the form.
-#[tactic(auto, using(json_lines::proofs::Lines::line_steps), unfolding(crate::specs::FormFields::in_form_line))]
 pub fn write_in_form<P: Page>(page: &mut P) -> Result<(), Failed>
     ensures { Writes (P.told page.old) (P.told page.new) result in_form_line }
 {

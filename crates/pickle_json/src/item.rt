@@ -157,7 +157,6 @@ fn push_plain<P: Page>(bytes: &[u8], page: &mut P)
 }
 
 /// Writes the bytes of an argument: as text where they are UTF-8, else in hexadecimal.
-#[tactic(auto, using(crate::proofs::Pieces::roomy_steps), unfolding(crate::specs::ItemFields::payload_fields))]
 pub fn write_any_payload<P: Page>(bytes: &[u8], page: &mut P) -> Result<(), Failed>
     ensures text { Writes (P.told page.old) (P.told page.new) result (fields_text (payload_fields bytes.now)) }
     ensures room { OnOk result (256 ≤ P.room page.new) }
@@ -190,7 +189,6 @@ fn write_eight<P: Page>(bytes: &[u8], page: &mut P) -> Result<(), Failed>
 }
 
 /// Writes the bytes of a double.
-#[tactic(auto, using(crate::proofs::Pieces::roomy_steps))]
 pub fn write_double<P: Page>(bytes: &[u8], page: &mut P) -> Result<(), Failed>
     ensures text { Writes (P.told page.old) (P.told page.new) result (fields_text (double_fields bytes.now)) }
     ensures room { OnOk result (256 ≤ P.room page.new) }
@@ -200,7 +198,6 @@ pub fn write_double<P: Page>(bytes: &[u8], page: &mut P) -> Result<(), Failed>
 }
 
 /// Writes the bytes of a number in two's complement.
-#[tactic(auto, using(crate::proofs::Pieces::roomy_steps), unfolding(crate::specs::ItemFields::lowest_first_fields))]
 fn write_lowest_first<P: Page>(bytes: &[u8], page: &mut P) -> Result<(), Failed>
     ensures text { Writes (P.told page.old) (P.told page.new) result (fields_text (lowest_first_fields bytes.now)) }
     ensures room { OnOk result (256 ≤ P.room page.new) }
@@ -210,7 +207,6 @@ fn write_lowest_first<P: Page>(bytes: &[u8], page: &mut P) -> Result<(), Failed>
 }
 
 /// Writes a module and a name.
-#[tactic(auto, using(json_lines::proofs::Lines::fields_steps), unfolding(crate::specs::ItemFields::names_fields))]
 pub fn write_names<P: Page>(first: &[u8], second: &[u8], page: &mut P) -> Result<(), Failed>
     ensures { Writes (P.told page.old) (P.told page.new) result (fields_text (names_fields first.now second.now)) }
 {

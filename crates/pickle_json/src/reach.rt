@@ -43,7 +43,6 @@ fn frames_name(frames: Frames) -> &'static str
 }
 
 /// Writes what is reached, and by which loader.
-#[tactic(auto, using(json_lines::proofs::Lines::fields_steps), unfolding(crate::specs::ReachFields::loader_fields))]
 fn write_loader<P: Page>(
     spot: Spot,
     frames: Frames,
@@ -58,7 +57,6 @@ fn write_loader<P: Page>(
 }
 
 /// Writes where an opcode is, and its name.
-#[tactic(auto, using(json_lines::proofs::Lines::fields_steps), unfolding(crate::specs::ItemFields::head_fields))]
 fn write_head<P: Page>(op: &OpRef<'_>, offset: u64, page: &mut P) -> Result<(), Failed>
     ensures { Writes (P.told page.old) (P.told page.new) result (fields_text (head_fields op.now offset)) }
 {
@@ -67,7 +65,6 @@ fn write_head<P: Page>(op: &OpRef<'_>, offset: u64, page: &mut P) -> Result<(), 
 }
 
 /// Writes by which opcode something is reached.
-#[tactic(auto, using(json_lines::proofs::Lines::fields_steps), unfolding(crate::specs::ReachFields::by_fields))]
 fn write_by<P: Page>(op: &OpRef<'_>, offset: u64, page: &mut P) -> Result<(), Failed>
     ensures { Writes (P.told page.old) (P.told page.new) result (fields_text (by_fields offset op.now)) }
 {
@@ -77,7 +74,6 @@ fn write_by<P: Page>(op: &OpRef<'_>, offset: u64, page: &mut P) -> Result<(), Fa
 }
 
 /// Writes the fields of what is reached.
-#[tactic(auto, using(json_lines::proofs::Lines::fields_steps))]
 fn write_reached_fields<P: Page>(
     spot: Spot,
     frames: Frames,
@@ -91,7 +87,6 @@ fn write_reached_fields<P: Page>(
 }
 
 /// Writes by which opcode a loader reaches something that stands here and does this with frames.
-#[tactic(auto, using(json_lines::proofs::Lines::line_steps), unfolding(crate::specs::ReachFields::reached_line))]
 pub fn write_reached<P: Page>(
     spot: Spot,
     frames: Frames,
@@ -114,7 +109,6 @@ fn write_follows<P: Page>(settled: bool, page: &mut P) -> Result<(), Failed>
 }
 
 /// Writes the fields of that nothing is.
-#[tactic(auto, using(json_lines::proofs::Lines::fields_steps))]
 fn write_nothing_fields<P: Page>(offset: usize, settled: bool, page: &mut P) -> Result<(), Failed>
     ensures { Writes (P.told page.old) (P.told page.new) result (fields_text (nothing_fields offset settled)) }
 {
@@ -124,7 +118,6 @@ fn write_nothing_fields<P: Page>(offset: usize, settled: bool, page: &mut P) -> 
 }
 
 /// Writes that nothing is reached, the greatest offset at which a loader may stand, and whether this is so whatever bytes follow.
-#[tactic(auto, using(json_lines::proofs::Lines::line_steps), unfolding(crate::specs::ReachFields::nothing_line))]
 pub fn write_nothing_reached<P: Page>(
     offset: usize,
     settled: bool,
@@ -145,7 +138,6 @@ fn write_ways_fields<P: Page>(page: &mut P) -> Result<(), Failed>
 }
 
 /// Writes that there are too many ways to read the bytes.
-#[tactic(auto, using(json_lines::proofs::Lines::line_steps), unfolding(crate::specs::ReachFields::ways_line))]
 pub fn write_too_many_ways<P: Page>(page: &mut P) -> Result<(), Failed>
     ensures { Writes (P.told page.old) (P.told page.new) result ways_line }
 {

@@ -48,7 +48,6 @@ fn follow_marks(row: Row, lean: &Lean, opened: &mut Vec<u64>, offset: u64) -> Re
 }
 
 /// Moves the outline by an item that is not refused, and follows its marks.
-#[tactic(auto, using(pickle_list::proofs::Marks::followed_is))]
 pub fn perform(
     lean: &mut Lean,
     opened: &mut Vec<u64>,
@@ -93,7 +92,6 @@ pub fn end_pickle<P: Page>(
 }
 
 /// Writes the line of an item that is refused, and the last line. An item that is refused has no note.
-#[tactic(auto, using(pickle_io::proofs::Devices::text_steps))]
 pub fn write_refused_item<P: Page>(
     op: &OpRef<'_>,
     offset: u64,

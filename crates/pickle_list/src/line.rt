@@ -9,7 +9,6 @@ use pickle_machine::Refusal;
 use pickle_text::write_refusal;
 
 /// Writes the line of a refused step.
-#[tactic(auto, using(pickle_io::proofs::Devices::text_steps), unfolding(crate::specs::Line::refused_line))]
 pub fn write_refused<S: Page>(refusal: Refusal, page: &mut S) -> Result<(), Failed>
     ensures { Writes (S.told page.old) (S.told page.new) result (refused_line refusal) }
 {
@@ -19,7 +18,6 @@ pub fn write_refused<S: Page>(refusal: Refusal, page: &mut S) -> Result<(), Fail
 }
 
 /// Writes how many objects and marks STOP left on the stack.
-#[tactic(auto, using(pickle_io::proofs::Devices::text_steps), unfolding(crate::specs::Line::left_text))]
 fn write_left_text<S: Page>(objects: usize, marks: usize, page: &mut S) -> Result<(), Failed>
     ensures { Writes (S.told page.old) (S.told page.new) result (left_text objects marks) }
 {
@@ -52,7 +50,6 @@ fn words_of_protocol() -> &'static str
 }
 
 /// Writes the line of a protocol.
-#[tactic(auto, using(pickle_io::proofs::Devices::text_steps), unfolding(crate::specs::Line::protocol_text))]
 fn write_protocol_text<S: Page>(protocol: u32, page: &mut S) -> Result<(), Failed>
     ensures { Writes (S.told page.old) (S.told page.new) result (protocol_text protocol) }
 {

@@ -42,7 +42,6 @@ struct SoFar<I> {
 }
 
 /// Writes the lines after all items where bytes are left that are no further item.
-#[tactic(auto, using(pickle_io::proofs::Devices::text_steps))]
 fn write_fault_end<P: Page>(
     fault: TailFault,
     offset: u64,
@@ -56,7 +55,6 @@ fn write_fault_end<P: Page>(
 }
 
 /// Writes the lines after the last STOP, behind which there are `kept` bytes.
-#[tactic(auto, using(pickle_io::proofs::Devices::text_steps))]
 fn write_last_end<P: Page>(kept: u64, highest: Option<u32>, page: &mut P) -> Result<(), Failed>
     ensures { Writes (P.told page.old) (P.told page.new) result (kept_line kept ⧺ protocol_line highest) }
 {
@@ -72,7 +70,6 @@ fn is_last(many: bool, kept: u64) -> bool
 }
 
 /// Writes the lines after the line of an item that is refused.
-#[tactic(auto, using(pickle_io::proofs::Devices::text_steps))]
 fn write_refused_end<P: Page>(
     refusal: Refusal,
     highest: Option<u32>,
@@ -85,7 +82,6 @@ fn write_refused_end<P: Page>(
 }
 
 /// Writes the line of an item that is refused, and the lines after it. An item that is refused has no note.
-#[tactic(auto, using(pickle_io::proofs::Devices::text_steps))]
 #[inline(never)]
 fn write_refused_item<A: ArgWriter, P: Page>(
     op: &OpRef<'_>,
@@ -130,7 +126,6 @@ fn follow_marks(
 }
 
 /// Moves the outline by an item that is not refused, and follows its marks.
-#[tactic(auto, using(crate::proofs::Marks::followed_is))]
 #[inline(always)]
 fn perform(
     lean: &mut Lean,

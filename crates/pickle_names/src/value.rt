@@ -263,7 +263,6 @@ fn write_characters<P: Page>(
 }
 
 /// Writes the first characters of a text in quotes, one by one.
-#[tactic(auto, using(pickle_io::proofs::Devices::text_steps), unfolding(pickle_io::specs::Text::quoted))]
 fn write_slowly<P: Page>(
     coding: Coding,
     most: usize,
@@ -297,7 +296,6 @@ pub fn write_value<P: Page>(
 }
 
 /// Writes a text that cannot be read, by its bytes.
-#[tactic(auto, using(pickle_io::proofs::Devices::text_steps), unfolding(crate::specs::Value::raw_text))]
 fn write_raw<P: Page>(bytes: &[u8], page: &mut P) -> Result<(), Failed>
     ensures { Writes (P.told page.old) (P.told page.new) result (raw_text bytes.now) }
 {

@@ -21,7 +21,6 @@ pub enum Closing {
 }
 
 /// Writes how many bytes are after STOP.
-#[tactic(auto, using(pickle_io::proofs::Devices::text_steps), unfolding(crate::specs::Closing::kept_text, crate::specs::Closing::kept_words))]
 fn write_kept_text<S: Page>(count: u64, page: &mut S) -> Result<(), Failed>
     ensures { Writes (S.told page.old) (S.told page.new) result (kept_text count) }
 {
@@ -52,7 +51,6 @@ pub fn write_kept_line<S: Page>(count: u64, page: &mut S) -> Result<(), Failed>
 }
 
 /// Writes the line of an item that is refused. Where the sink fails, a beginning of the line was written.
-#[tactic(auto, using(pickle_io::proofs::Devices::text_steps), unfolding(crate::specs::Closing::refused_item_line))]
 fn write_refused<S: Page>(place: usize, refusal: Refusal, page: &mut S) -> Result<(), Failed>
     ensures { Writes (S.told page.old) (S.told page.new) result (refused_item_line place refusal) }
 {

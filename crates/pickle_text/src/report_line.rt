@@ -52,7 +52,6 @@ fn write_refusal_number<S: Page>(refusal: Refusal, page: &mut S) -> Result<(), F
 }
 
 /// Writes why an item is refused: S1 to S11, or M. Where the sink fails, a beginning of the text was written.
-#[tactic(auto, using(pickle_io::proofs::Devices::text_steps), unfolding(crate::specs::ReportLine::refusal_text))]
 pub fn write_refusal<S: Page>(refusal: Refusal, page: &mut S) -> Result<(), Failed>
     ensures { Writes (S.told page.old) (S.told page.new) result (refusal_text refusal) }
 {
@@ -61,7 +60,6 @@ pub fn write_refusal<S: Page>(refusal: Refusal, page: &mut S) -> Result<(), Fail
 }
 
 /// Writes the place of an item that is refused, and why. Where the sink fails, a beginning of the text was written.
-#[tactic(auto, using(pickle_io::proofs::Devices::text_steps), unfolding(crate::specs::ReportLine::item_text))]
 pub fn write_item_refusal<S: Page>(
     place: usize,
     refusal: Refusal,
@@ -75,7 +73,6 @@ pub fn write_item_refusal<S: Page>(
 }
 
 /// Writes which item is refused, by its place, and why. Where the sink fails, a beginning of the text was written.
-#[tactic(auto, using(pickle_io::proofs::Devices::text_steps), unfolding(crate::specs::ReportLine::item_refused))]
 pub(crate) fn write_item_refused<S: Page>(
     place: usize,
     refusal: Refusal,
@@ -116,7 +113,6 @@ fn write_fault_byte<S: Page>(fault: TailFault, page: &mut S) -> Result<(), Faile
 }
 
 /// Writes the fault of a tail, F1 to F8. Where the sink fails, a beginning of the text was written.
-#[tactic(auto, using(pickle_io::proofs::Devices::text_steps), unfolding(crate::specs::ReportLine::fault_text))]
 pub fn write_fault_text<S: Page>(fault: TailFault, page: &mut S) -> Result<(), Failed>
     ensures { Writes (S.told page.old) (S.told page.new) result (fault_text fault) }
 {
@@ -125,7 +121,6 @@ pub fn write_fault_text<S: Page>(fault: TailFault, page: &mut S) -> Result<(), F
 }
 
 /// Writes the fault of a tail, and the offset in bytes where the tail begins. Where the sink fails, a beginning of the text was written.
-#[tactic(auto, using(pickle_io::proofs::Devices::text_steps), unfolding(crate::specs::ReportLine::fault_at))]
 pub fn write_fault_at<S: Page>(fault: TailFault, offset: u64, page: &mut S) -> Result<(), Failed>
     ensures { Writes (S.told page.old) (S.told page.new) result (fault_at fault offset) }
 {
@@ -136,7 +131,6 @@ pub fn write_fault_at<S: Page>(fault: TailFault, offset: u64, page: &mut S) -> R
 
 /// Writes the line of the fault of a tail that begins at this offset, in bytes. Where the sink fails, a beginning of the line was
 /// written.
-#[tactic(auto, using(pickle_io::proofs::Devices::text_steps), unfolding(crate::specs::ReportLine::fault_line))]
 pub fn write_fault<S: Page>(fault: TailFault, offset: u64, page: &mut S) -> Result<(), Failed>
     ensures { Writes (S.told page.old) (S.told page.new) result (fault_line fault offset) }
 {

@@ -13,7 +13,6 @@ use pickle_ops::{Filling, ObjId};
 use std::alloc::{AllocError, Global};
 
 /// Writes two numbers behind a word.
-#[tactic(auto, using(pickle_io::proofs::Devices::text_steps), unfolding(crate::specs::Acts::pair_line))]
 fn write_pair<S: Page>(word: &str, first: u64, second: u64, page: &mut S) -> Result<(), Failed>
     ensures { Writes (S.told page.old) (S.told page.new) result (pair_line word.now first second) }
 {
@@ -38,7 +37,6 @@ fn filling_word(filling: Filling) -> &'static str
 }
 
 /// Writes that an object comes from elsewhere or from a call.
-#[tactic(auto, using(pickle_io::proofs::Devices::text_steps), unfolding(crate::specs::Acts::made_line))]
 fn write_made<S: Page>(id: ObjId, page: &mut S) -> Result<(), Failed>
     ensures { Writes (S.told page.old) (S.told page.new) result (made_line id) }
 {

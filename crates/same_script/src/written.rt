@@ -68,7 +68,6 @@ fn results_words() -> &'static str
 }
 
 /// Writes how the run of one of them ends.
-#[tactic(auto, using(pickle_io::proofs::Devices::text_steps), unfolding(crate::specs::SameText::ends_line))]
 fn write_ends<S: Page>(which: &str, closing: Closing, page: &mut S) -> Result<(), Failed>
     ensures { Writes (S.told page.old) (S.told page.new) result (ends_line which.now closing) }
 {
@@ -78,7 +77,6 @@ fn write_ends<S: Page>(which: &str, closing: Closing, page: &mut S) -> Result<()
 }
 
 /// Writes that bytes follow behind one of them.
-#[tactic(auto, using(pickle_io::proofs::Devices::text_steps), unfolding(crate::specs::SameText::goes_on_line))]
 fn write_goes_on<S: Page>(which: &str, page: &mut S) -> Result<(), Failed>
     ensures { Writes (S.told page.old) (S.told page.new) result (goes_on_line which.now) }
 {
@@ -88,7 +86,6 @@ fn write_goes_on<S: Page>(which: &str, page: &mut S) -> Result<(), Failed>
 }
 
 /// Writes the first object that is another one.
-#[tactic(auto, using(pickle_io::proofs::Devices::text_steps), unfolding(crate::specs::SameText::object_line))]
 fn write_object<S: Page>(number: usize, page: &mut S) -> Result<(), Failed>
     ensures { Writes (S.told page.old) (S.told page.new) result (object_line number) }
 {

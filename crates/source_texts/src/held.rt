@@ -136,7 +136,6 @@ fn write_next_changes<P: Say, S: Page>(
 }
 
 /// Writes what a change put into a container, and what others did after it.
-#[tactic(auto, using(pickle_io::proofs::Devices::text_steps), unfolding(crate::specs::Held::some_changes))]
 fn write_some_changes<P: Say, S: Page>(
     inner: &P,
     first: Change,
@@ -304,7 +303,6 @@ fn words_of_frozen() -> &'static str
 }
 
 /// Writes a frozen set with members.
-#[tactic(auto, using(pickle_io::proofs::Devices::text_steps), unfolding(crate::specs::Held::some_frozen))]
 fn write_some_frozen<P: Say, S: Page>(
     inner: &P,
     parts: &[ObjId],

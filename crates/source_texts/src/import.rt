@@ -117,7 +117,6 @@ fn write_found_call<L: Literals, S: Page>(
 }
 
 /// Writes that a class is found by two texts.
-#[tactic(auto, using(pickle_io::proofs::Devices::text_steps), unfolding(crate::specs::Import::found_text))]
 fn write_found<L: Literals, S: Page>(
     literals: &L,
     names: Names<'_>,

@@ -55,7 +55,6 @@ fn member_of<'a>(machine: &'a Machine, kind: &'a Kind, parts: &[ObjId]) -> Optio
 }
 
 /// Writes the name of a member that is a name in Python, and the number of the object.
-#[tactic(auto, using(pickle_io::proofs::Devices::text_steps))]
 fn write_numbered<S: Page>(member: &[u8], id: ObjId, page: &mut S) -> Result<(), Failed>
     ensures { Writes (S.told page.old) (S.told page.new) result (member.now ⧺ own_name id) }
 {

@@ -127,7 +127,6 @@ fn write_arguments<P: Say, S: Page>(
 }
 
 /// Writes arguments after a comma.
-#[tactic(auto, using(pickle_io::proofs::Devices::text_steps))]
 fn write_starred_after<P: Say, S: Page>(
     machine: &Machine,
     say: &P,
@@ -311,7 +310,6 @@ fn write_instantiated<L: Literals, S: Page>(
 }
 
 /// Writes what a class that is imported gives with arguments.
-#[tactic(auto, using(pickle_io::proofs::Devices::text_steps))]
 fn write_member_called<L: Literals, P: Say, S: Page>(
     literals: &L,
     say: &P,
@@ -514,7 +512,6 @@ fn behind_first(parts: &[ObjId]) -> &[ObjId]
 }
 
 /// Writes the name of an object, and what it is.
-#[tactic(auto, using(pickle_io::proofs::Devices::text_steps), unfolding(crate::specs::Reach::assigned_words))]
 fn write_assigned<L: Literals, P: Say, S: Page>(
     literals: &L,
     machine: &Machine,

@@ -74,7 +74,6 @@ fn write_set<P: Say, S: Page>(
 }
 
 /// Writes the statement of that.
-#[tactic(auto, using(pickle_io::proofs::Devices::text_steps))]
 fn write_set_statement<P: Say, S: Page>(
     say: &P,
     offset: Option<u64>,

@@ -26,7 +26,6 @@ fn signs(at_cursor: bool, breaks: bool) -> [u8; 2]
 }
 
 /// Writes a place and an offset, each at the right of a column.
-#[tactic(auto, using(pickle_io::proofs::Devices::text_steps), unfolding(crate::specs::PlaceText::place_columns))]
 fn write_columns<S: Page>(place: usize, offset: u64, page: &mut S) -> Result<(), Failed>
     ensures { Writes (S.told page.old) (S.told page.new) result (place_columns place offset) }
 {

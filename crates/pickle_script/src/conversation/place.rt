@@ -13,7 +13,6 @@ use pickle_session::{Past, Session};
 use pickle_text::write_id;
 
 /// Writes a place, and how many items there are.
-#[tactic(auto, using(pickle_io::proofs::Devices::text_steps), unfolding(crate::specs::PlaceText::cursor_text))]
 fn write_cursor<S: Page>(place: usize, len: usize, page: &mut S) -> Result<(), Failed>
     ensures { Writes (S.told page.old) (S.told page.new) result (cursor_text place len) }
 {
@@ -24,7 +23,6 @@ fn write_cursor<S: Page>(place: usize, len: usize, page: &mut S) -> Result<(), F
 }
 
 /// Writes an offset.
-#[tactic(auto, using(pickle_io::proofs::Devices::text_steps), unfolding(crate::specs::PlaceText::offset_text))]
 fn write_offset<S: Page>(offset: u64, page: &mut S) -> Result<(), Failed>
     ensures { Writes (S.told page.old) (S.told page.new) result (offset_text offset) }
 {
@@ -33,7 +31,6 @@ fn write_offset<S: Page>(offset: u64, page: &mut S) -> Result<(), Failed>
 }
 
 /// Writes results, of which there is one at least.
-#[tactic(auto, using(pickle_io::proofs::Devices::text_steps), unfolding(crate::specs::PlaceText::some_results))]
 fn write_some_results<S: Page>(first: ObjId, rest: &[ObjId], page: &mut S) -> Result<(), Failed>
     ensures { Writes (S.told page.old) (S.told page.new) result (some_results first rest.now) }
 {
@@ -53,7 +50,6 @@ fn write_results<S: Page>(ids: &[ObjId], page: &mut S) -> Result<(), Failed>
 }
 
 /// Writes the count of buffers and the results of a machine.
-#[tactic(auto, using(pickle_io::proofs::Devices::text_steps), unfolding(crate::specs::PlaceText::reached_text))]
 fn write_reached<S: Page>(machine: &Machine, page: &mut S) -> Result<(), Failed>
     ensures { Writes (S.told page.old) (S.told page.new) result (reached_text machine.now.state) }
 {
@@ -64,7 +60,6 @@ fn write_reached<S: Page>(machine: &Machine, page: &mut S) -> Result<(), Failed>
 }
 
 /// Writes why a document ends, and ends the line.
-#[tactic(auto, using(pickle_io::proofs::Devices::text_steps), unfolding(crate::specs::PlaceText::ending_text))]
 fn write_ending<S: Page>(end: End, page: &mut S) -> Result<(), Failed>
     ensures { Writes (S.told page.old) (S.told page.new) result (ending_text end) }
 {
@@ -76,7 +71,6 @@ fn write_ending<S: Page>(end: End, page: &mut S) -> Result<(), Failed>
 /// Writes where a session is: the cursor, how many items there are, the offset of the cursor, the count of buffers, the
 /// results of the machine, and why the document ends. It takes no memory. Where the sink fails, a beginning of the line was
 /// written.
-#[tactic(auto, using(pickle_io::proofs::Devices::text_steps), unfolding(crate::specs::PlaceText::where_text))]
 pub fn write_where<P: Past, S: Page>(session: &Session<P>, page: &mut S) -> Result<(), Failed>
     ensures { Writes (S.told page.old) (S.told page.new) result (where_text session.now.session session.now.machine.state) }
 {

@@ -78,7 +78,6 @@ fn write_fault_rest<S: Page>(fault: Fault, page: &mut S) -> Result<(), Failed>
 }
 
 /// Writes the line of a command that is refused.
-#[tactic(auto, using(pickle_io::proofs::Devices::text_steps), unfolding(crate::specs::ReplyText::refused_command))]
 fn write_refused_command<S: Page>(fault: Fault, page: &mut S) -> Result<(), Failed>
     ensures { Writes (S.told page.old) (S.told page.new) result (refused_command fault) }
 {
@@ -107,7 +106,6 @@ fn write_why<S: Page>(end: End, why: Why, page: &mut S) -> Result<(), Failed>
 }
 
 /// Writes where a run stopped, and why.
-#[tactic(auto, using(pickle_io::proofs::Devices::text_steps), unfolding(crate::specs::ReplyText::ran_text))]
 fn write_ran<S: Page>(end: End, place: usize, why: Why, page: &mut S) -> Result<(), Failed>
     ensures { Writes (S.told page.old) (S.told page.new) result (ran_text end place why) }
 {
@@ -118,7 +116,6 @@ fn write_ran<S: Page>(end: End, place: usize, why: Why, page: &mut S) -> Result<
 }
 
 /// Writes a word and the place that it is about.
-#[tactic(auto, using(pickle_io::proofs::Devices::text_steps), unfolding(crate::specs::ReplyText::placed_text))]
 fn write_placed<S: Page>(word: &str, place: usize, page: &mut S) -> Result<(), Failed>
     ensures { Writes (S.told page.old) (S.told page.new) result (placed_text word.now place) }
 {

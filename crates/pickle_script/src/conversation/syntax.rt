@@ -40,7 +40,6 @@ fn write_syntax_rest<S: Page>(syntax: Syntax, page: &mut S) -> Result<(), Failed
 
 /// Writes the line that a line is answered with which says nothing. It takes no memory. Where the sink fails, a beginning of the
 /// line was written.
-#[tactic(auto, using(pickle_io::proofs::Devices::text_steps), unfolding(crate::specs::ReplyText::syntax_line))]
 pub fn write_syntax<S: Page>(syntax: Syntax, page: &mut S) -> Result<(), Failed>
     ensures { Writes (S.told page.old) (S.told page.new) result (syntax_line syntax) }
 {
@@ -76,7 +75,6 @@ fn no_item_words() -> &'static str
 
 /// Writes the line that a command is answered with whose place is named by an offset that no place has. It takes no memory. Where
 /// the sink fails, a beginning of the line was written.
-#[tactic(auto, using(pickle_io::proofs::Devices::text_steps), unfolding(crate::specs::ReplyText::no_item_line))]
 pub fn write_no_item_at<S: Page>(offset: u64, page: &mut S) -> Result<(), Failed>
     ensures { Writes (S.told page.old) (S.told page.new) result (no_item_line offset) }
 {

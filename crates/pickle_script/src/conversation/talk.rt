@@ -24,7 +24,6 @@ use std::alloc::Global;
 const BLOCK: usize = 65_536;
 
 /// Writes why a line says nothing.
-#[tactic(auto, using(crate::proofs::Refusals::refusal_steps))]
 fn refuse<P: Past, K: Page>(
     session: &Session<P>,
     syntax: Syntax,

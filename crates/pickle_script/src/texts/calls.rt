@@ -15,7 +15,6 @@ use pickle_io::{Failed, Hole, Holes, Page, write_all, write_decimal};
 use std::alloc::Global;
 
 /// Writes a hole.
-#[tactic(auto, using(pickle_io::proofs::Devices::text_steps), unfolding(crate::specs::Output::hole_text))]
 fn write_hole<S: Page>(hole: Hole, page: &mut S) -> Result<(), Failed>
     ensures { Writes (S.told page.old) (S.told page.new) result (hole_text hole) }
 {
@@ -34,7 +33,6 @@ fn outside_words() -> &'static str
 }
 
 /// Writes the line of a hole that does not lie within so many bytes.
-#[tactic(auto, using(pickle_io::proofs::Devices::text_steps), unfolding(crate::specs::Output::outside_line))]
 fn write_outside<S: Page>(hole: Hole, size: usize, page: &mut S) -> Result<(), Failed>
     ensures { Writes (S.told page.old) (S.told page.new) result (outside_line hole size) }
 {

@@ -13,7 +13,6 @@ use pickle_text::TextStop;
 use std::alloc::Global;
 
 /// Writes the place of an opcode.
-#[tactic(auto, using(pickle_io::proofs::Devices::text_steps), unfolding(crate::specs::FormText::place_text))]
 fn write_place<S: Page>(place: usize, offset: u64, page: &mut S) -> Result<(), Failed>
     ensures { Writes (S.told page.old) (S.told page.new) result (place_text place offset) }
 {
@@ -33,7 +32,6 @@ fn other_words() -> &'static str
 }
 
 /// Writes the line of the first place.
-#[tactic(auto, using(pickle_io::proofs::Devices::text_steps), unfolding(crate::specs::FormText::other_line))]
 pub(crate) fn write_other<S: Page>(other: Other, page: &mut S) -> Result<(), Failed>
     ensures { Writes (S.told page.old) (S.told page.new) result (other_line other) }
 {

@@ -30,7 +30,6 @@ fn forbidden_words() -> &'static str
 }
 
 /// Writes where an item is that is not allowed, and its words.
-#[tactic(auto, using(pickle_io::proofs::Devices::text_steps), unfolding(crate::specs::GateText::forbidden_line))]
 fn write_forbidden<S: Page>(offset: u64, words: &[u8], page: &mut S) -> Result<(), Failed>
     ensures { Writes (S.told page.old) (S.told page.new) result (forbidden_line offset words.now) }
 {

@@ -42,7 +42,6 @@ fn write_whatever<S: Page>(settled: bool, page: &mut S) -> Result<(), Failed>
 }
 
 /// Writes that nothing is reached, and the greatest offset at which a loader may stand.
-#[tactic(auto, using(pickle_io::proofs::Devices::text_steps), unfolding(crate::specs::ReachText::nothing_line))]
 fn write_nothing<S: Page>(offset: usize, settled: bool, page: &mut S) -> Result<(), Failed>
     ensures { Writes (S.told page.old) (S.told page.new) result (nothing_line offset settled) }
 {
@@ -61,7 +60,6 @@ fn reached_words() -> &'static str
 }
 
 /// Writes where the opcode is by which something is reached, and this opcode.
-#[tactic(auto, using(pickle_io::proofs::Devices::text_steps), unfolding(crate::specs::ReachText::reached_line))]
 fn write_reached<S: Page>(offset: usize, op: &Op, page: &mut S) -> Result<(), Failed>
     ensures { Writes (S.told page.old) (S.told page.new) result (reached_line offset op.now) }
 {

@@ -1,0 +1,16 @@
+use Rattle.std.proofs.Common.{arith}
+use Rattle.json_lines.proofs.Lines.{line_steps}
+use Rattle.calls_json.specs.LastFields.{fault_line}
+use Rattle.calls_json.proofs.last.write_fault.Goals as goal
+
+pub returns-in_err-begin_line : goal.returns-in_err-begin_line
+unfolding fault_line
+returns-in_err-begin_line g c = grind (arith, line_steps)
+
+pub returns-in_err-write_fault_shown : goal.returns-in_err-write_fault_shown
+unfolding fault_line
+returns-in_err-write_fault_shown g c = grind (arith, line_steps)
+
+pub returns : goal.returns
+unfolding fault_line
+returns g c = grind (arith, line_steps)

@@ -1,0 +1,16 @@
+use Rattle.std.proofs.Common.{arith}
+use Rattle.json_lines.proofs.Lines.{line_steps}
+use Rattle.calls_json.specs.LastFields.{heading_line}
+use Rattle.calls_json.proofs.last.write_heading.Goals as goal
+
+pub returns-in_err-begin_line : goal.returns-in_err-begin_line
+unfolding heading_line
+returns-in_err-begin_line g c = grind (arith, line_steps)
+
+pub returns-in_err-write_heading_fields : goal.returns-in_err-write_heading_fields
+unfolding heading_line
+returns-in_err-write_heading_fields g c = grind (arith, line_steps)
+
+pub returns : goal.returns
+unfolding heading_line
+returns g c = grind (arith, line_steps)

@@ -1,0 +1,16 @@
+use Rattle.std.proofs.Common.{arith}
+use Rattle.json_lines.proofs.Lines.{line_steps}
+use Rattle.calls_json.specs.LastFields.{leads_line}
+use Rattle.calls_json.proofs.last.write_leads_line.Goals as goal
+
+pub returns-in_err-begin_line : goal.returns-in_err-begin_line
+unfolding leads_line
+returns-in_err-begin_line g c = grind (arith, line_steps)
+
+pub returns-in_err-write_leads_fields : goal.returns-in_err-write_leads_fields
+unfolding leads_line
+returns-in_err-write_leads_fields g c = grind (arith, line_steps)
+
+pub returns : goal.returns
+unfolding leads_line
+returns g c = grind (arith, line_steps)

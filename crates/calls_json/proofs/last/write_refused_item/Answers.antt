@@ -1,0 +1,9 @@
+use Rattle.std.proofs.Common.{arith}
+use Rattle.json_lines.proofs.Lines.{fields_steps}
+use Rattle.calls_json.proofs.last.write_refused_item.Goals as goal
+
+pub returns-in_err-write_refused_fields : goal.returns-in_err-write_refused_fields
+returns-in_err-write_refused_fields g c = grind (arith, fields_steps)
+
+pub returns : goal.returns
+returns g c = grind (arith, fields_steps)

@@ -1,0 +1,12 @@
+use Rattle.std.proofs.Common.{arith}
+use Rattle.json_lines.proofs.Lines.{field_steps}
+use Rattle.debug_json.specs.ItemsFields.{items_fields}
+use Rattle.debug_json.proofs.items.write_field.Goals as goal
+
+pub returns-in_err-write_name : goal.returns-in_err-write_name
+unfolding items_fields
+returns-in_err-write_name g c = grind (arith, field_steps)
+
+pub returns : goal.returns
+unfolding items_fields
+returns g c = grind (arith, field_steps)

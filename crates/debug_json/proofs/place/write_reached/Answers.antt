@@ -1,0 +1,12 @@
+use Rattle.std.proofs.Common.{arith}
+use Rattle.json_lines.proofs.Lines.{fields_steps}
+use Rattle.debug_json.specs.WhereFields.{reached_fields}
+use Rattle.debug_json.proofs.place.write_reached.Goals as goal
+
+pub returns-in_err-write_number_field : goal.returns-in_err-write_number_field
+unfolding reached_fields
+returns-in_err-write_number_field g c = grind (arith, fields_steps)
+
+pub returns : goal.returns
+unfolding reached_fields
+returns g c = grind (arith, fields_steps)

@@ -1,0 +1,16 @@
+use Rattle.std.proofs.Common.{arith}
+use Rattle.json_lines.proofs.Lines.{line_steps}
+use Rattle.debug_json.specs.RefusedFields.{no_object_line}
+use Rattle.debug_json.proofs.refused.write_no_object.Goals as goal
+
+pub returns-in_err-begin_line : goal.returns-in_err-begin_line
+unfolding no_object_line
+returns-in_err-begin_line g c = grind (arith, line_steps)
+
+pub returns-in_err-write_no_object_fields : goal.returns-in_err-write_no_object_fields
+unfolding no_object_line
+returns-in_err-write_no_object_fields g c = grind (arith, line_steps)
+
+pub returns : goal.returns
+unfolding no_object_line
+returns g c = grind (arith, line_steps)

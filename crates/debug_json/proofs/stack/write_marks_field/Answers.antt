@@ -1,0 +1,12 @@
+use Rattle.std.proofs.Common.{arith}
+use Rattle.json_lines.proofs.Lines.{field_steps}
+use Rattle.debug_json.specs.ShownFields.{marks_field}
+use Rattle.debug_json.proofs.stack.write_marks_field.Goals as goal
+
+pub returns-in_err-write_name : goal.returns-in_err-write_name
+unfolding marks_field
+returns-in_err-write_name g c = grind (arith, field_steps)
+
+pub returns : goal.returns
+unfolding marks_field
+returns g c = grind (arith, field_steps)

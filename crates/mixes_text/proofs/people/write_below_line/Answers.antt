@@ -1,0 +1,16 @@
+use Rattle.std.proofs.Common.{arith}
+use Rattle.pickle_io.proofs.Devices.{text_steps}
+use Rattle.mixes_text.specs.MixText.{below_line}
+use Rattle.mixes_text.proofs.people.write_below_line.Goals as goal
+
+pub returns-in_err-write_decimal : goal.returns-in_err-write_decimal
+unfolding below_line
+returns-in_err-write_decimal g c = grind (arith, text_steps)
+
+pub returns-in_err-write_all : goal.returns-in_err-write_all
+unfolding below_line
+returns-in_err-write_all g c = grind (arith, text_steps)
+
+pub returns : goal.returns
+unfolding below_line
+returns g c = grind (arith, text_steps)

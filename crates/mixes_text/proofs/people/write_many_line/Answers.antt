@@ -1,0 +1,12 @@
+use Rattle.std.proofs.Common.{arith}
+use Rattle.pickle_io.proofs.Devices.{text_steps}
+use Rattle.mixes_text.specs.MixText.{many_line}
+use Rattle.mixes_text.proofs.people.write_many_line.Goals as goal
+
+pub returns-in_err-write_all : goal.returns-in_err-write_all
+unfolding many_line
+returns-in_err-write_all g c = grind (arith, text_steps)
+
+pub returns : goal.returns
+unfolding many_line
+returns g c = grind (arith, text_steps)

@@ -1,0 +1,9 @@
+use Rattle.std.proofs.Common.{arith}
+use Rattle.json_lines.proofs.Lines.{fields_steps}
+use Rattle.pickle_json.proofs.ends.write_left_fields.Goals as goal
+
+pub returns-in_err-write_number_field : goal.returns-in_err-write_number_field
+returns-in_err-write_number_field g c = grind (arith, fields_steps)
+
+pub returns : goal.returns
+returns g c = grind (arith, fields_steps)

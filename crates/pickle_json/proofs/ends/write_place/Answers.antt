@@ -1,0 +1,12 @@
+use Rattle.std.proofs.Common.{arith}
+use Rattle.json_lines.proofs.Lines.{fields_steps}
+use Rattle.pickle_json.specs.EndFields.{place_fields}
+use Rattle.pickle_json.proofs.ends.write_place.Goals as goal
+
+pub returns-in_err-write_number_field : goal.returns-in_err-write_number_field
+unfolding place_fields
+returns-in_err-write_number_field g c = grind (arith, fields_steps)
+
+pub returns : goal.returns
+unfolding place_fields
+returns g c = grind (arith, fields_steps)

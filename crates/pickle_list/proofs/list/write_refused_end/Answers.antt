@@ -1,0 +1,9 @@
+use Rattle.std.proofs.Common.{arith}
+use Rattle.pickle_io.proofs.Devices.{text_steps}
+use Rattle.pickle_list.proofs.list.write_refused_end.Goals as goal
+
+pub returns-in_err-write_refused : goal.returns-in_err-write_refused
+returns-in_err-write_refused g c = grind (arith, text_steps)
+
+pub returns : goal.returns
+returns g c = grind (arith, text_steps)

@@ -1,0 +1,20 @@
+use Rattle.std.proofs.Common.{arith}
+use Rattle.pickle_io.proofs.Devices.{text_steps}
+use Rattle.pickle_script.specs.PlaceText.{reached_text}
+use Rattle.pickle_script.proofs.conversation.place.write_reached.Goals as goal
+
+pub returns-in_err-write_all : goal.returns-in_err-write_all
+unfolding reached_text
+returns-in_err-write_all g c = grind (arith, text_steps)
+
+pub returns-in_err-write_decimal : goal.returns-in_err-write_decimal
+unfolding reached_text
+returns-in_err-write_decimal g c = grind (arith, text_steps)
+
+pub returns-in_err-write_all-2 : goal.returns-in_err-write_all-2
+unfolding reached_text
+returns-in_err-write_all-2 g c = grind (arith, text_steps)
+
+pub returns : goal.returns
+unfolding reached_text
+returns g c = grind (arith, text_steps)

@@ -1,0 +1,16 @@
+use Rattle.std.proofs.Common.{arith}
+use Rattle.pickle_io.proofs.Devices.{text_steps}
+use Rattle.pickle_script.specs.ReplyText.{placed_text}
+use Rattle.pickle_script.proofs.conversation.reply.write_placed.Goals as goal
+
+pub returns-in_err-write_all : goal.returns-in_err-write_all
+unfolding placed_text
+returns-in_err-write_all g c = grind (arith, text_steps)
+
+pub returns-in_err-write_decimal : goal.returns-in_err-write_decimal
+unfolding placed_text
+returns-in_err-write_decimal g c = grind (arith, text_steps)
+
+pub returns : goal.returns
+unfolding placed_text
+returns g c = grind (arith, text_steps)

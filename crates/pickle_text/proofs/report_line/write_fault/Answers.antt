@@ -1,0 +1,16 @@
+use Rattle.std.proofs.Common.{arith}
+use Rattle.pickle_io.proofs.Devices.{text_steps}
+use Rattle.pickle_text.specs.ReportLine.{fault_line}
+use Rattle.pickle_text.proofs.report_line.write_fault.Goals as goal
+
+pub returns-in_err-write_all : goal.returns-in_err-write_all
+unfolding fault_line
+returns-in_err-write_all g c = grind (arith, text_steps)
+
+pub returns-in_err-write_fault_at : goal.returns-in_err-write_fault_at
+unfolding fault_line
+returns-in_err-write_fault_at g c = grind (arith, text_steps)
+
+pub returns : goal.returns
+unfolding fault_line
+returns g c = grind (arith, text_steps)

@@ -1,0 +1,12 @@
+use Rattle.std.proofs.Common.{arith}
+use Rattle.pickle_io.proofs.Devices.{text_steps}
+use Rattle.pickle_text.specs.ReportLine.{item_refused}
+use Rattle.pickle_text.proofs.report_line.write_item_refused.Goals as goal
+
+pub returns-in_err-write_all : goal.returns-in_err-write_all
+unfolding item_refused
+returns-in_err-write_all g c = grind (arith, text_steps)
+
+pub returns : goal.returns
+unfolding item_refused
+returns g c = grind (arith, text_steps)

@@ -1,0 +1,12 @@
+use Rattle.std.proofs.Common.{arith}
+use Rattle.pickle_io.proofs.Devices.{text_steps}
+use Rattle.pickle_text.specs.Words.{id_text}
+use Rattle.pickle_text.proofs.words.write_id.Goals as goal
+
+pub returns-in_err-write_all : goal.returns-in_err-write_all
+unfolding id_text
+returns-in_err-write_all g c = grind (arith, text_steps)
+
+pub returns : goal.returns
+unfolding id_text
+returns g c = grind (arith, text_steps)

@@ -1,0 +1,16 @@
+use Rattle.std.proofs.Common.{arith}
+use Rattle.pickle_io.proofs.Devices.{text_steps}
+use Rattle.same_script.specs.SameText.{goes_on_line}
+use Rattle.same_script.proofs.written.write_goes_on.Goals as goal
+
+pub returns-in_err-write_all : goal.returns-in_err-write_all
+unfolding goes_on_line
+returns-in_err-write_all g c = grind (arith, text_steps)
+
+pub returns-in_err-write_all-2 : goal.returns-in_err-write_all-2
+unfolding goes_on_line
+returns-in_err-write_all-2 g c = grind (arith, text_steps)
+
+pub returns : goal.returns
+unfolding goes_on_line
+returns g c = grind (arith, text_steps)
