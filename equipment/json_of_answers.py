@@ -105,6 +105,19 @@ def trace(before: Mapping[str, str], after: Mapping[str, str]) -> Nested:
             **{name: value for name, value in where(after["where"].partition("\n")[0], after).items() if name in ("buffers", "results")}}
 
 
+def made(number: int, shown: Sequence[str], items: str) -> Nested:
+    """The answer to `made N`, by what `objects` shows at each place up to the cursor, and by what `items` shows."""
+    heaps = [[of_object(line) for line in text.splitlines()] for text in shown]
+    if number >= len(heaps[-1]):
+        return {"kind": "refused", "code": "V1", "words": "no such object", "object": number}
+    offsets = [item(line)["offset"] for line in items.splitlines()]
+    counts = [len(heap[number].get("changes", ())) if number < len(heap) else -1 for heap in heaps]
+    maker = counts.count(-1) - 1
+    got = [(place, counts[place + 1] - counts[place]) for place in range(maker + 1, len(counts) - 1)]
+    return {"kind": "made", "object": number, "item": maker, "offset": offsets[maker],
+            "changed": [{"kind": "changer", "item": place, "offset": offsets[place], "changes": count} for place, count in got if count > 0]}
+
+
 def of_answer(line: str, text: str, looks: Mapping[str, str]) -> Nested:
     """The object of the answer to a line; `looks` has what `stack`, `memo` and `objects` show after it."""
     words: Sequence[str] = line.split() or [""]

@@ -16,7 +16,6 @@ import conversations
 import json_of_answers
 import json_of_texts
 
-from .listings import start_of
 from .room import Room, beginning, lines_of, run
 from .row import CLOSED, FULL, Row, fails, trials_of
 from .samples import PAIR_JSON, PAIR_OBJECTS_JSON
@@ -57,7 +56,7 @@ def fault_of(room: Room, pickles: Iterable[Path]) -> str:
     """Of pickles, in each mode. Node is started once for all of them."""
     printed = b""
     for pickle, word, mode in itertools.product(pickles, WORDS, MODES):
-        text, lines = (room.observe(start_of(room, pickle), word, *mode, *options, pickle) for options in ((), ("--json",)))
+        text, lines = (room.observe(room.program, word, *mode, *options, pickle) for options in ((), ("--json",)))
         why = lines.fault_of_status(text.status) or fault_of_lines(lines.output, list(WORDS[word](text.output.decode())))
         if why or lines.errors:
             return f"{pickle.stem}: {word} {' '.join(mode)}: {why or beginning(lines.errors)}"
@@ -129,6 +128,15 @@ LOOKS = ("stack", "memo", "objects", "items", "where")
 GROUP = 1 + len(LOOKS)
 AROUND = ("back", "step")  # by what is shown after each of them, it is known what the step did
 OWN = ("breaks", "items 1 3", "items 3 1", "objects 1 9", "trace")  # what JSON alone answers
+MADE = (0, 1, 5)  # the objects whose makers are asked for
+
+
+def shown_before(room: Room, file: Path, block: conversations.Block, at: dict[str, str]) -> Sequence[str]:
+    """What `objects` shows at each place up to the one where a conversation ends."""
+    place = int(at["where"].split()[1])
+    script = [*block.script, *AROUND, *("back", "objects") * place]
+    text = run([room.program, "debug", *block.options, file], file.parent, "".join(f"{line}\n{MARK}\n" for line in script).encode())
+    return [*text.output.decode().split(MARKED)[: len(script)][: -2 * place - 1 : -2], at["objects"]]
 
 
 def fault_of_answers(room: Room, page: Path) -> str:
@@ -143,12 +151,13 @@ def fault_of_answers(room: Room, page: Path) -> str:
         ends = "quit" in block.script
         lines = [each for line in (*block.script, *(() if ends else AROUND)) for each in (line, *LOOKS)]
         text = run([room.program, "debug", *block.options, file], folder, "".join(f"{line}\n{MARK}\n" for line in lines).encode())
-        own = () if ends else OWN
+        own = () if ends else (*OWN, *(f"made {number}" for number in MADE))
         found = run([room.program, "debug", "--json", *block.options, file], folder, "".join(f"{line}\n" for line in (*lines, *own)).encode())
         texts = text.output.decode().split(MARKED)[: len(lines)]
         looks = [dict(zip(LOOKS, texts[at - at % GROUP + 1 :])) for at in range(len(texts))]
         wanted = [*(json_of_answers.of_answer(*each) for each in zip(lines, texts, looks)), *(json_of_answers.own(looks[-1]) if own else ())]
         wanted += ([json_of_answers.NO_STEP if texts[-GROUP].startswith("refused: ") else json_of_answers.trace(looks[-GROUP - 1], looks[-1])] if own else [])
+        wanted += [json_of_answers.made(number, shown, looks[-1]["items"]) for shown in ([shown_before(room, file, block, looks[-1])] if own else []) for number in MADE]
         why = found.fault_of_status(int(any(each["kind"] == "refused" for each in wanted))) or fault_of_lines(found.output, wanted)
         if why or found.errors:
             return f"{block.name}: {why or beginning(found.errors)}"

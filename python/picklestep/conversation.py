@@ -11,9 +11,9 @@ from typing import Any, Callable, Dict, Iterable, Iterator, List, Optional, Sequ
 from . import made
 from .listed import Fields, argument_of, shown_argument, words_of
 from .records import End, Ref
-from .session_records import Changed, Item, Mark, Ran, Step, Stored, Where
+from .session_records import Changed, Changer, Item, Made, Mark, Ran, Step, Stored, Where
 
-__all__ = ['EDITS', 'ITEM', 'Entry', 'Memo', 'REFUSED', 'Stack', 'element_at', 'elements_in', 'item_of', 'ran_of', 'read', 'refusal_in',
+__all__ = ['EDITS', 'ITEM', 'Entry', 'Memo', 'REFUSED', 'Stack', 'element_at', 'elements_in', 'item_of', 'made_of', 'ran_of', 'read', 'refusal_in',
            'refusal_of', 'shown_text', 'starts_of', 'step_of', 'text_of', 'where_of']
 
 # An entry of the stack.
@@ -174,8 +174,8 @@ class Memo:
     """The memo, by the answer to `memo`, of which no more is read than is asked for.
 
     >>> memo = Memo(b'{"kind":"memo","entries":[{"kind":"entry","memo":0,"object":0},{"kind":"entry","memo":5,"object":3}]}\\n')
-    >>> memo.all(), memo.last(1), memo.get(5), memo.get(6), len(memo)
-    ({0: 0, 5: 3}, [(5, 3)], 3, None, 2)
+    >>> memo.all(), memo.last(1), memo.get(5), memo.get(6), memo.keys_of(3), len(memo)
+    ({0: 0, 5: 3}, [(5, 3)], 3, None, [5], 2)
     """
 
     def __init__(self, line: bytes) -> None:
@@ -196,6 +196,11 @@ class Memo:
         """The number of the object under a key, if there is one."""
         at = max(self._line.find(form % key) for form in _KEYS)
         return None if at < 0 else read(self._line[at - len(_ENTRY):self._line.index(b'}', at) + 1])['object']
+
+    def keys_of(self, number: int) -> List[int]:
+        """The keys under which an object is."""
+        ends = [each.rpartition(b':')[2] for each in self._line.split(b',"object":%d}' % number)[:-1]]
+        return [int(end.strip(b'"')) for end in ends]
 
     def last(self, most: int) -> List[Tuple[int, int]]:
         """The highest keys, the lowest of them first, each with the number of the object under it."""
@@ -261,6 +266,17 @@ def step_of(fields: Fields) -> Step:
                 fields.get('pushed'), tuple(fields['took']), fields.get('cut_mark'), fields.get('set_mark', False),
                 None if changed is None else Changed(changed['object'], changed['changes']),
                 None if entry is None else Stored(int(entry['memo']), entry['object'], entry.get('before')), fields['buffers'], tuple(fields['results']))
+
+
+def made_of(fields: Fields) -> Made:
+    """What the answer to `made` says.
+
+    >>> made_of({'object': 3, 'since': 2, 'changed': [{'kind': 'changer', 'item': 5, 'offset': 9, 'changes': 2}]})
+    Made(number=3, place=None, offset=None, changed=(Changer(place=5, offset=9, changes=2),), since=2)
+    """
+    offset = fields.get('offset')
+    return Made(int(fields['object']), fields.get('item'), None if offset is None else int(offset),
+                tuple(Changer(each['item'], int(each['offset']), each['changes']) for each in fields['changed']), fields.get('since', 0))
 
 
 # --- The same as `debug` prints it ---

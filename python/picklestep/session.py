@@ -25,7 +25,7 @@ from .made import object_of
 from .program import Process, check_timeout, run_program
 from .saving import written_whole
 from .session_answers import Heap, Items, ShownObjects
-from .session_records import Ran, Step, Where
+from .session_records import Made, Ran, Step, Where
 from .sources import Input, OwnFile, Source, is_opened, is_word, small_content
 from .tasks import AskedOfSession, calls_of, frames_of, listing_of, modes
 
@@ -468,6 +468,16 @@ class Session(ContextManager['Session']):
         (3, 'APPEND', Changed(number=0, changes=1))
         """
         return conversation.step_of(self._talk.fields(b'trace'))
+
+    def made(self, number: int) -> Made:
+        """Which opcode made an object, and which opcodes changed it, of those before the cursor; with `window`, of those whose record is kept.
+        Raises Refused if no object has this number yet.
+
+        >>> with Session(b']K\\x01a.') as session:
+        ...     session.goto(3), session.made(0).place, session.made(0).changed
+        (3, 0, (Changer(place=2, offset=3, changes=1),))
+        """
+        return conversation.made_of(self._talk.fields(b'made %d' % index(number)))
 
     def show(self, number: int) -> ShownObjects:
         """An object and all that it holds.

@@ -8,7 +8,7 @@ from typing import Optional, Tuple
 from .listing_records import Object
 from .records import SLOTS, Argument, End
 
-__all__ = ['Changed', 'Item', 'Mark', 'Ran', 'Shown', 'Step', 'Stored', 'Where']
+__all__ = ['Changed', 'Changer', 'Item', 'Made', 'Mark', 'Ran', 'Shown', 'Step', 'Stored', 'Where']
 
 
 @dataclass(frozen=True, **SLOTS)
@@ -155,3 +155,36 @@ class Step:
     stored: Optional[Stored]
     buffers: int
     results: Tuple[int, ...]
+
+
+@dataclass(frozen=True, **SLOTS)
+class Changer:
+    """An opcode that changed an object: its place and its offset, and how many changes the object got.
+
+    >>> import picklestep
+    >>> with picklestep.Session(b']Na.') as session:
+    ...     session.goto(3), session.made(0).changed
+    (3, (Changer(place=2, offset=2, changes=1),))
+    """
+
+    place: int
+    offset: int
+    changes: int
+
+
+@dataclass(frozen=True, **SLOTS)
+class Made:
+    """Which opcode made an object, by its place and its offset, and the opcodes that changed it, the earliest first. All of these are before the cursor.
+    `since` is the first place whose record is kept: with a `window` nothing is known of what is before it, and `place` and `offset` may be None.
+
+    >>> import picklestep
+    >>> with picklestep.Session(b'NK\\x01\\x86.') as session:
+    ...     session.goto(3), session.made(1)
+    (3, Made(number=1, place=1, offset=1, changed=(), since=0))
+    """
+
+    number: int
+    place: Optional[int]
+    offset: Optional[int]
+    changed: Tuple[Changer, ...]
+    since: int

@@ -49,6 +49,7 @@ def values_in(given: Any) -> Iterator[Dict[str, Any]]:
 
 def may_lack(name: str, given: Dict[str, Any]) -> bool:
     return (name in ('mark', 'more', 'keywords', 'text', 'changes', 'file', 'member', 'behind_header') or (name, given.get('how')) == ('offset', 'broken') or name == 'parts' and given['is'] in ('tuple', 'list', 'frozenset', 'dict', 'inst') or name.endswith('_more') or (name, given['kind']) == ('memo', 'opcode')
+            or given['kind'] == 'made' and name == 'since' and 'item' in given
             or given['kind'] == 'step' and name in ('begins', 'made', 'pushed', 'cut_mark', 'set_mark', 'changed', 'memo')
             or name == 'protocol' and given['how'] == 'fault')
 
@@ -85,7 +86,7 @@ def conversations() -> Iterator[str]:
         path = Path(folder, 'a.pickle')
         for data, text in re.findall(r'^pickle (.*)\n((?:.*\n)*?)(?=\n[A-Z]|\Z)', rows, re.MULTILINE):
             path.write_bytes(bytes.fromhex(data))
-            script = ''.join(f'{line}\nwhere\nstack\nmemo\nitems\nobjects\nbreaks\nitems 1 3\nobjects 1 3\ntrace\nshow 0\nshow 99\n'
+            script = ''.join(f'{line}\nwhere\nstack\nmemo\nitems\nobjects\nbreaks\nitems 1 3\nobjects 1 3\ntrace\nmade 0\nmade 1\nshow 0\nshow 99\n'
                              for line in re.findall(r'^debug> (.*)$', text, re.MULTILINE))
             yield from run_program(['debug', '--json', str(path)], script=f'{script}\ngoto @999\nquit\n'.encode()).decode('ascii').splitlines()
 
@@ -150,7 +151,7 @@ class Lines(unittest.TestCase):
         """Without --json such a line is refused; with it if a number is missing or none, or if a word is one too many."""
         asked = {'breaks': ('X1', ''), 'items 1 2': ('X6', ''), 'objects 1 2': ('X6', ''), 'breaks 1': ('X1', 'X6'), 'items 1': ('X6', 'X2'), 'items x': ('X6', 'X3'), 'items 1 x': ('X6', 'X3'),
                  'items 1 2 3': ('X6', 'X6'), 'objects 1': ('X6', 'X2'), 'objects @1 2': ('X6', 'X3'), f'items 1 {2 ** 64}': ('X6', 'X3'), f'objects 0 {2 ** 64 - 1}': ('X6', ''),
-                 'trace': ('X1', 'V3'), 'trace 1': ('X1', 'X6')}
+                 'trace': ('X1', 'V3'), 'trace 1': ('X1', 'X6'), 'made': ('X1', 'X2'), 'made x': ('X1', 'X3'), 'made 1 2': ('X1', 'X6'), 'made 0': ('X1', 'V1')}
         with tempfile.TemporaryDirectory() as folder:
             path, script = Path(folder, 'a.pickle'), ''.join(f'{line}\n' for line in asked).encode()
             path.write_bytes(b'N.')

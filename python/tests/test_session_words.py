@@ -7,7 +7,7 @@ import unittest
 from dataclasses import dataclass
 from typing import Dict, List, Sequence, Tuple
 
-from picklestep import Mark, Ref, Refused, Session, Step
+from picklestep import Changer, Mark, Ref, Refused, Session, Step
 from picklestep.conversation import Entry
 from pickles import real_pickles
 
@@ -40,17 +40,17 @@ def marks_in(entries: Sequence[Entry]) -> List[int]:
     return [each.place for each in entries if isinstance(each, Mark)]
 
 
-def has_words() -> bool:
-    """Whether the program has them."""
+def has_words(word: str) -> bool:
+    """Whether the program has this one."""
     try:
         with Session(b'N.') as session:
             session.step()
-            return session.breaks() == () and session.trace().made == 0
+            return (session.made(0) if word == 'made' else session.trace()).place == 0
     except Refused:
         return False
 
 
-@unittest.skipUnless(has_words(), 'the program has no such words')
+@unittest.skipUnless(has_words('trace'), 'the program has no such words')
 class SessionWords(unittest.TestCase):
     def test_ranges(self) -> None:
         for name, data in real_pickles().items():
@@ -127,6 +127,54 @@ class SessionWords(unittest.TestCase):
             self.assertRaises(Refused, session.trace)
             session.step()
             self.assertEqual(session.trace().place, 4)
+
+
+@unittest.skipUnless(has_words('made'), 'the program has no such word')
+class Makers(unittest.TestCase):
+    def test_made(self) -> None:
+        """Who made an object and who changed it is what each step did."""
+        for name, data in {**real_pickles(), 'several': b'(NK\x01l.]Na(NNe(e.N}.q'}.items():
+            with self.subTest(name), Session(data, many=name == 'several') as session:
+                makers: List[Tuple[int, int]] = []
+                changed: Dict[int, List[Changer]] = {}
+                for item in session.items(0, 200):
+                    try:
+                        session.step()
+                    except Refused:
+                        break
+                    step = session.trace()
+                    if step.made is not None:
+                        self.assertEqual(step.made, len(makers))
+                        makers.append((item.place, item.offset))
+                    if step.changed is not None:
+                        changed.setdefault(step.changed.number, []).append(Changer(item.place, item.offset, step.changed.changes))
+                for number, maker in enumerate(makers):
+                    made = session.made(number)
+                    self.assertEqual((made.number, made.place, made.offset, made.since), (number, *maker, 0))
+                    self.assertEqual(made.changed, tuple(changed.get(number, ())))
+                for number in (len(makers), 2 ** 64 - 1):
+                    with self.assertRaises(Refused) as caught:
+                        session.made(number)
+                    self.assertEqual(caught.exception.code, 'V1')
+
+    def test_made_in_a_window(self) -> None:
+        """Of what is before the first record that is kept nothing is known."""
+        with Session(b']NaNaNa.', window=3) as session:
+            session.goto(7)
+            made = session.made(0)
+            self.assertEqual((made.place, made.offset, made.since), (None, None, 4))
+            self.assertEqual(made.changed, (Changer(4, 4, 1), Changer(6, 6, 1)))
+            self.assertEqual([session.made(number).place for number in (1, 2, 3)], [None, None, 5])
+            self.assertEqual(session.ask('made 3'), '{"kind":"made","object":3,"item":5,"offset":5,"since":4,"changed":[]}\n')
+
+    def test_after_an_edit(self) -> None:
+        with Session(b']Na.') as session:
+            session.goto(1)
+            session.insert(1, 'BININT1', 7)
+            session.insert(2, 'APPEND')
+            session.goto(5)
+            self.assertEqual(session.made(0).changed, (Changer(2, 3, 1), Changer(4, 5, 1)))
+            self.assertEqual((session.made(1).offset, session.made(2).offset), (1, 4))
 
 
 if __name__ == '__main__':

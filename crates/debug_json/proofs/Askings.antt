@@ -15,7 +15,7 @@ use Rattle.pickle_script.specs.Transcript.{quits}
 use Rattle.debug_json.specs.declared.asked.Own.{Own}
 use Rattle.debug_json.specs.declared.asked.Own.TheVariants as own
 use Rattle.debug_json.specs.declared.asked.Asked.{Asked}
-use Rattle.debug_json.specs.Asked.{at_end, items_says, objects_says, items_asked, objects_asked, word_asks, words_ask, line_asks, as_own, as_line, IsAsked}
+use Rattle.debug_json.specs.Asked.{at_end, items_says, objects_says, made_says, items_asked, objects_asked, word_asks, words_ask, line_asks, as_own, as_line, IsAsked}
 
 -- ---- a range
 
@@ -56,18 +56,25 @@ alone_stays (w ∷ words) l h = refl
 word_stays : (w : List ℕ) (words : List (List ℕ)) (asks : Result Own Syntax) → word_asks w words ≡ Some asks → quits (word_says w words) ≡ false
 word_stays w words asks e = by_breaks (bytes_eq w (codes "breaks")) refl
   where
-    by_trace : (b : Bool) → bytes_eq w (codes "trace") ≡ b → (if b then Some (at_end own.Trace words) else None) ≡ Some asks → quits (word_says w words) ≡ false
+    by_made : (b : Bool) → bytes_eq w (codes "made") ≡ b → (if b then Some (made_says words) else None) ≡ Some asks → quits (word_says w words) ≡ false
+    by_made true h k = rw (same_bytes w (codes "made") h) refl
+    by_made false h k = absurd cc
+
+    by_trace : (b : Bool) → bytes_eq w (codes "trace") ≡ b
+        → (if b then Some (at_end own.Trace words) else if bytes_eq w (codes "made") then Some (made_says words) else None) ≡ Some asks → quits (word_says w words) ≡ false
     by_trace true h k = rw (same_bytes w (codes "trace") h) refl
-    by_trace false h k = absurd cc
+    by_trace false h k = by_made (bytes_eq w (codes "made")) refl k
 
     by_objects : (b : Bool) → bytes_eq w (codes "objects") ≡ b
-        → (if b then objects_asked words else if bytes_eq w (codes "trace") then Some (at_end own.Trace words) else None) ≡ Some asks → quits (word_says w words) ≡ false
+        → (if b then objects_asked words else if bytes_eq w (codes "trace") then Some (at_end own.Trace words)
+        else if bytes_eq w (codes "made") then Some (made_says words) else None) ≡ Some asks → quits (word_says w words) ≡ false
     by_objects true h k = rw (same_bytes w (codes "objects") h) (alone_stays words (line.Query query.Objects) refl)
     by_objects false h k = by_trace (bytes_eq w (codes "trace")) refl k
 
     by_items : (b : Bool) → bytes_eq w (codes "items") ≡ b
         → (if b then items_asked words else if bytes_eq w (codes "objects") then objects_asked words
-        else if bytes_eq w (codes "trace") then Some (at_end own.Trace words) else None) ≡ Some asks → quits (word_says w words) ≡ false
+        else if bytes_eq w (codes "trace") then Some (at_end own.Trace words)
+        else if bytes_eq w (codes "made") then Some (made_says words) else None) ≡ Some asks → quits (word_says w words) ≡ false
     by_items true h k = rw (same_bytes w (codes "items") h) (alone_stays words (line.Query query.Items) refl)
     by_items false h k = by_objects (bytes_eq w (codes "objects")) refl k
 

@@ -9,6 +9,7 @@ pub mod Itemized
 pub mod Obeyed
 pub mod Answering
 pub mod Stepping
+pub mod Making
 mod Printed
 mod Agreeing
 mod Readable

@@ -2,6 +2,7 @@
 use Rattle.std.proofs.Common.{◌≡◌, ◌∙◌, ℕ, ◌+◌, ◌<◌, ◌≤◌, ◌^◌, length, None, Some, refl, ap, arith}
 use Rattle.std.specs.Prelude.{min}
 use Rattle.std.proofs.lemmas.List.{take_min, length-map}
+use Rattle.std.proofs.lemmas.Option.{slice_get_past}
 use Rattle.pickle_doc.specs.declared.item.Item.{Item}
 use Rattle.pickle_ops.specs.Spelling.{Operation, size_of}
 use Rattle.pickle_doc.specs.DocUnit.{sizes}
@@ -18,6 +19,12 @@ pub size_none : (d : Contents) (k : ℕ) → item_at d k ≡ None → offset_of 
 size_none d k e = omega (arith, offset_stays d k (offset_of d k) e refl)
 
 pub ruleset size_steps = (size_some, size_none)
+
+-- behind the last item none begins
+pub offset_past : (d : Contents) (k offset : ℕ) → length (items_of d) ≤ k → offset ≡ offset_of d k → offset ≡ offset_of d (k + 1)
+offset_past d k offset h e =
+    let none : item_at d k ≡ None = slice_get_past (ops_of d) k (omega (arith, h, length-map (items_of d) (λ (i : Item). i.op))) in
+    omega (arith, e, size_none d k none)
 
 -- ---- many
 

@@ -10,6 +10,7 @@ use Rattle.json_lines.specs.Json.{is_plain}
 use Rattle.json_lines.specs.Line.{Field, field, ◌⊕◌, members_of, whole, numbers_json, line}
 use Rattle.json_lines.specs.Readable.{HasTexts, ItemsHaveTexts, MembersHaveTexts, ArePlain, LinesReadBack}
 use Rattle.json_lines.proofs.Fields.{fields_are_plain, plain_texts, plain_depth}
+use Rattle.pickle_doc.specs.Document.{Contents}
 use Rattle.pickle_doc.specs.declared.edit.EditFault.{EditFault}
 use Rattle.pickle_doc.specs.declared.edit.EditFault.TheVariants as edit
 use Rattle.pickle_doc.specs.declared.fault.End.{End}
@@ -63,8 +64,10 @@ use Rattle.debug_json.specs.ItemsFields.{sign_fields, item_fields, item_json, it
 use Rattle.debug_json.specs.OwnFields.{break_at, breaks_fields, breaks_line, some_items_fields, some_items_line, some_heap_fields, some_heap_line}
 use Rattle.debug_json.specs.StepFields as step
 use Rattle.debug_json.specs.StepFields.{optional_field, flag_field, marking_fields, change_fields, one_change, changed_field, stored_fields, one_entry, stored_field, doing_fields, stepped_fields, step_over, step_fields, step_line, no_step_words, no_step_fields, no_step_line}
+use Rattle.debug_json.specs.declared.made.Changer.{Changer}
+use Rattle.debug_json.specs.MadeFields.{changer_from, changer_fields, changer_json, place_fields, maker_fields, since_field, changers_field, made_fields, made_line}
 use Rattle.debug_json.specs.Lines.{nothing_line, quit_line, said_line}
-use Rattle.debug_json.specs.Says.{SaysOnly, SaysReply, SaysLine, SaysOwn, SaysBy, shown, traced}
+use Rattle.debug_json.specs.Says.{SaysOnly, SaysReply, SaysLine, SaysOwn, SaysBy, shown, traced, made_of}
 use Rattle.debug_json.specs.Readable.{ReadsBack, AnswersReadBack}
 use Rattle.debug_json.proofs.Printed.{same_state}
 
@@ -479,6 +482,41 @@ no_step : LinesReadBack → ReadsBack no_step_line
 unfolding no_step_line no_step_fields no_step_words
 no_step law = reads law (codes "refused") _ refl (of_plain 8 _ (coded (codes "V3") _ refl refl))
 
+-- ---- who made an object
+
+changer_fits : (c : Changer) → Fits 1 (changer_json c)
+unfolding changer_json changer_fields
+changer_fits c =
+    value 0 (codes "changer") _ refl
+    (of_plain 0 _ (both _ _ (both _ _ (number (codes "item") c.item refl) (number (codes "offset") c.offset refl)) (number (codes "changes") c.changes refl)))
+
+maker_told : (d : Contents) (found : Option ℕ) → ArePlain (maker_fields d found)
+unfolding maker_fields place_fields
+maker_told d None = tt
+maker_told d (Some k) = both _ _ (number (codes "item") k refl) (number (codes "offset") (offset_of d k) refl)
+
+since_when : (b : Bool) (first : ℕ) → ArePlain (if b then field (codes "since") (whole first) else [])
+since_when true first = number (codes "since") first refl
+since_when false first = tt
+
+since_told : (first : ℕ) → ArePlain (since_field first)
+unfolding since_field
+since_told first = since_when (nat_lt 0 first) first
+
+changers_told : (d : Contents) (first n cursor : ℕ) → Deep 8 (changers_field d first n cursor)
+unfolding changers_field
+changers_told d first n cursor =
+    wide 2 _ (omega arith) (alone 2 (codes "changed") _ refl (found_values 1 changer_json (changer_from d first n) (cursor - first) changer_fits))
+
+made_told : (s : Session) (n first : ℕ) → Deep 8 (made_fields s n first)
+unfolding made_fields
+made_told s n first =
+    joined 8 _ _ (of_plain 8 _ (both _ _ (both _ _ (number (codes "object") n refl) (maker_told s.document _)) (since_told first))) (changers_told s.document first n s.cursor)
+
+made_is : LinesReadBack → (s : Session) (n first : ℕ) → ReadsBack (made_line s n first)
+unfolding made_line
+made_is law s n first = reads law (codes "made") _ refl (made_told s n first)
+
 -- ---- answers
 
 -- an object that is shown is there
@@ -508,6 +546,7 @@ said_reads law (said.SomeItems a b) s t h = some_items_is law s a b
 said_reads law (said.SomeObjects a b) s t h = some_heap_is law t.heap a b
 said_reads law said.Step s t h = step_is law s t
 said_reads law said.NoStep s t h = no_step law
+said_reads law (said.Made n first) s t h = made_is law s n first
 
 by_number : (b : Bool) (n : ℕ) (t : State) → nat_lt n (length t.heap) ≡ b → IsThere (if b then said.Shown (query.Show n) else said.NoObject n) t
 by_number true n t e = ltb-true n (length t.heap) e
@@ -543,11 +582,17 @@ trace_there : (b : Bool) (t : State) → IsThere (if b then said.Step else said.
 trace_there true t = tt
 trace_there false t = tt
 
+made_there : (b : Bool) (n first : ℕ) (t : State) → IsThere (if b then said.Made n first else said.NoObject n) t
+made_there true n first t = tt
+made_there false n first t = tt
+
 there_own : (o : Own) (p q : SessionState) (t : State) (what : Said) → SaysOwn o p what q → IsThere what t
 there_own own.Breaks p q t what w = is_there said.Breaks what t w.said_is tt
 there_own (own.Items a b) p q t what w = is_there (said.SomeItems a b) what t w.said_is tt
 there_own (own.Objects a b) p q t what w = is_there (said.SomeObjects a b) what t w.said_is tt
 there_own own.Trace p q t what w = is_there (traced p) what t w.said_is (trace_there (nat_lt 0 (kept_of p)) t)
+there_own (own.Made n) p q t what w =
+    is_there (made_of n p w.state) what t w.is_made (made_there (nat_lt n (length w.state.heap)) n (p.session.cursor - kept_of p) t)
 
 there_by : (says : Result Asked Syntax) (p q : SessionState) (t : State) (what : Said) → state_at q.session.document q.session.cursor ≡ Some t
     → SaysBy says p what q → IsThere what t

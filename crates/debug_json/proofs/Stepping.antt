@@ -35,7 +35,7 @@ use Rattle.debug_json.specs.declared.asked.Asked.TheVariants as asking
 use Rattle.debug_json.specs.declared.said.Said.{Said}
 use Rattle.debug_json.specs.declared.said.Said.TheVariants as said
 use Rattle.debug_json.specs.StepFields.{step_over, stepped_fields, step_fields}
-use Rattle.debug_json.specs.Says.{SaysOnly, SaysReply, SaysLine, SaysOwn, SaysBy, shown, traced, IsTold}
+use Rattle.debug_json.specs.Says.{SaysOnly, SaysReply, SaysLine, SaysOwn, SaysBy, shown, traced, made_of, IsTold}
 
 -- ---- the record of the step before the cursor
 
@@ -124,6 +124,11 @@ is_told is what q e h = rw e h
 pub told_step : (what : Said) (p : SessionState) → what ≡ said.Step → IsTold what p → 0 < kept_of p
 told_step what p e h = rw e at h
 
+pub told_made : (what : Said) (p : SessionState) (n first : ℕ) → what ≡ said.Made n first → IsTold what p → first ≡ p.session.cursor - kept_of p
+told_made what p n first e h = rw e at h
+
+pub ruleset told_steps = (told_step, told_made)
+
 shown_when : (b : Bool) (n : ℕ) (q : SessionState) → IsTold (if b then said.Shown (query.Show n) else said.NoObject n) q
 shown_when true n q = tt
 shown_when false n q = tt
@@ -152,11 +157,17 @@ told_when : (b : Bool) (p : SessionState) → nat_lt 0 (kept_of p) ≡ b → IsT
 told_when true p e = ltb-true 0 (kept_of p) e
 told_when false p e = tt
 
+made_when : (b : Bool) (n : ℕ) (p : SessionState) → IsTold (if b then said.Made n (p.session.cursor - kept_of p) else said.NoObject n) p
+made_when true n p = refl
+made_when false n p = tt
+
 told_own : (o : Own) (p q : SessionState) (what : Said) → SaysOwn o p what q → IsTold what q
 told_own own.Breaks p q what w = is_told said.Breaks what q w.said_is tt
 told_own (own.Items a b) p q what w = is_told (said.SomeItems a b) what q w.said_is tt
 told_own (own.Objects a b) p q what w = is_told (said.SomeObjects a b) what q w.said_is tt
 told_own own.Trace p q what w = is_told (traced p) what q w.said_is (subst (λ (x : SessionState). IsTold (traced p) x) (sym w.unchanged) (told_when (nat_lt 0 (kept_of p)) p refl))
+told_own (own.Made n) p q what w =
+    is_told (made_of n p w.state) what q w.is_made (subst (λ (x : SessionState). IsTold (made_of n p w.state) x) (sym w.unchanged) (made_when (nat_lt n (length w.state.heap)) n p))
 
 -- what is said of a step has a record
 pub said_told : (says : Result Asked Syntax) (p q : SessionState) (what : Said) → SaysBy says p what q → IsTold what q

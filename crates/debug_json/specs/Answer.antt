@@ -30,6 +30,7 @@ said_text (said.SomeItems a b) s t = []
 said_text (said.SomeObjects a b) s t = []
 said_text said.Step s t = []
 said_text said.NoStep s t = []
+said_text (said.Made n first) s t = []
 
 abbrev pub answer_text : Answer → List ℕ
 answer_text a = said_text a.said a.session a.state
@@ -48,3 +49,4 @@ refuses (said.SomeItems a b) = false
 refuses (said.SomeObjects a b) = false
 refuses said.Step = false
 refuses said.NoStep = true
+refuses (said.Made n first) = false

@@ -29,6 +29,10 @@ objects_says words =
     and_then (number_first words) (λ (p : ℕ × List (List ℕ)).
     and_then (number_first p.1) (λ (q : ℕ × List (List ℕ)). at_end (own.Objects p.0 q.0) q.1))
 
+-- one number
+abbrev pub made_says : List (List ℕ) → Result Own Syntax
+made_says words = and_then (number_first words) (λ (p : ℕ × List (List ℕ)). at_end (own.Made p.0) p.1)
+
 -- without a further word the line is one of the texts
 abbrev pub items_asked : List (List ℕ) → Option (Result Own Syntax)
 items_asked [] = None
@@ -47,6 +51,7 @@ word_asks w words =
     else if bytes_eq w (codes "items") then items_asked words
     else if bytes_eq w (codes "objects") then objects_asked words
     else if bytes_eq w (codes "trace") then Some (at_end own.Trace words)
+    else if bytes_eq w (codes "made") then Some (made_says words)
     else None
 
 abbrev pub words_ask : List (List ℕ) → Option (Result Own Syntax)

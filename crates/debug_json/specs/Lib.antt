@@ -7,6 +7,7 @@ pub mod RefusedFields
 pub mod ReplyFields
 pub mod WhereFields
 pub mod StepFields
+pub mod MadeFields
 pub mod ShownFields
 pub mod ItemsFields
 pub mod OwnFields

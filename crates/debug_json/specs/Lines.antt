@@ -17,6 +17,7 @@ use Rattle.debug_json.specs.ShownFields.{stack_line, memo_line, heap_line, show_
 use Rattle.debug_json.specs.ItemsFields.{items_line}
 use Rattle.debug_json.specs.OwnFields.{breaks_line, some_items_line, some_heap_line}
 use Rattle.debug_json.specs.StepFields.{step_line, no_step_line}
+use Rattle.debug_json.specs.MadeFields.{made_line}
 
 unfoldable pub nothing_line : List ℕ
 nothing_line = line (codes "nothing") []
@@ -46,6 +47,7 @@ said_line (said.SomeItems a b) s t = some_items_line s a b
 said_line (said.SomeObjects a b) s t = some_heap_line t.heap a b
 said_line said.Step s t = step_line s t
 said_line said.NoStep s t = no_step_line
+said_line (said.Made n first) s t = made_line s n first
 
 abbrev pub answer_line : Answer → List ℕ
 answer_line a = said_line a.said a.session a.state

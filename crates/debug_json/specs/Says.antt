@@ -1,6 +1,6 @@
 -- What the lines of a script may be answered: as in a transcript for people, but for what is said in the place of its text.
 -- Source: own. It is a relation, since a line may also be answered by running out of memory.
-use Rattle.std.specs.Prelude.{◌≡◌, ◌≢◌, ℕ, ◌<◌, ⊤, List, length, nat_lt, true, false, if◌then◌else◌, MatchOption, Option, Some, Result, Ok, Err}
+use Rattle.std.specs.Prelude.{◌≡◌, ◌≢◌, ℕ, ◌-◌, ◌<◌, ⊤, List, length, nat_lt, true, false, if◌then◌else◌, MatchOption, Option, Some, Result, Ok, Err}
 use Rattle.pickle_doc.specs.Place.{IsPlaceAt}
 use Rattle.pickle_machine.specs.State.{State}
 use Rattle.pickle_session.specs.declared.command.Command.{Command}
@@ -83,20 +83,33 @@ SaysLine line.Quit p what q = SaysOnly p said.Quit what q
 abbrev pub traced : SessionState → Said
 traced p = if nat_lt 0 (kept_of p) then said.Step else said.NoStep
 
+-- who made an object and who changed it, of the items whose records are kept; a number may be no object's
+abbrev pub made_of : ℕ → SessionState → State → Said
+made_of n p t = if nat_lt n (length t.heap) then said.Made n (p.session.cursor - kept_of p) else said.NoObject n
+
+-- the same by the state that running the items before the cursor on an empty machine gives
+pub record SaysMade (n : ℕ) (p : SessionState) (what : Said) (q : SessionState) : Type 0 where
+  pub state : State
+  pub reached : state_at p.session.document p.session.cursor ≡ Some state
+  pub is_made : what ≡ made_of n p state
+  pub unchanged : q ≡ p
+
 abbrev pub SaysOwn : Own → SessionState → Said → SessionState → Type 0
 SaysOwn own.Breaks p what q = SaysOnly p said.Breaks what q
 SaysOwn (own.Items a b) p what q = SaysOnly p (said.SomeItems a b) what q
 SaysOwn (own.Objects a b) p what q = SaysOnly p (said.SomeObjects a b) what q
 SaysOwn own.Trace p what q = SaysOnly p (traced p) what q
+SaysOwn (own.Made n) p what q = SaysMade n p what q
 
 abbrev pub SaysBy : Result Asked Syntax → SessionState → Said → SessionState → Type 0
 SaysBy (Ok (asked.Line l)) p what q = SaysLine l p what q
 SaysBy (Ok (asked.Own o)) p what q = SaysOwn o p what q
 SaysBy (Err f) p what q = SaysOnly p (said.Bad f) what q
 
--- what is told of a step has a record
+-- what is told of a step has a record, and what is told of an object begins with the first record
 abbrev pub IsTold : Said → SessionState → Type 0
 IsTold said.Step p = 0 < kept_of p
+IsTold (said.Made n first) p = first ≡ p.session.cursor - kept_of p
 IsTold _ p = ⊤
 
 -- what a line says is obeyed, and answered of the session after it

@@ -10,6 +10,7 @@ ghost use Rattle.debug_json.specs.Answered.{AnswersSaying, AnswersJsonLine};
 use crate::asked::{Asked, read_asked};
 use crate::breaks::write_breaks;
 use crate::items::{write_items, write_some_items};
+use crate::made::write_made;
 use crate::memo::write_memo;
 use crate::obey::obey;
 use crate::objects::{write_objects, write_show, write_some_objects};
@@ -63,7 +64,7 @@ fn write_shown<A: Past, P: Page>(
 }
 
 /// Writes what is said of a session. Its machine is at its cursor. What is told of a step has a record.
-#[tactic(auto, using(crate::proofs::Stepping::told_step))]
+#[tactic(auto, using(crate::proofs::Stepping::told_steps))]
 fn write_said<A: Past, P: Page>(
     session: &Session<A>,
     said: Said,
@@ -87,6 +88,7 @@ fn write_said<A: Past, P: Page>(
         Said::SomeObjects(from, to) => write_some_objects(machine.heap(), from, to, page),
         Said::Step => write_step(session, page),
         Said::NoStep => write_no_step(page),
+        Said::Made(number, first) => write_made(session, number, first, page),
     }
 }
 

@@ -2,7 +2,7 @@
 
 ghost use Rattle.std.specs.Prelude.{◌≡◌};
 ghost use Rattle.pickle_script.specs.Grammar.{words_of};
-ghost use Rattle.debug_json.specs.Asked.{at_end, items_says, objects_says, items_asked, objects_asked, word_asks, line_asks, as_own, as_line, IsAsked};
+ghost use Rattle.debug_json.specs.Asked.{at_end, items_says, objects_says, made_says, items_asked, objects_asked, word_asks, line_asks, as_own, as_line, IsAsked};
 
 use crate::words::{first_word, number_first};
 use pickle_script::{LONGEST_LINE, Line, Syntax, read_command};
@@ -19,6 +19,8 @@ pub enum Own {
     Objects(usize, usize),
     /// `trace`: what the step over the item before the cursor did.
     Trace,
+    /// `made N`: the item that made object N, and the items that changed it.
+    Made(u64),
 }
 
 /// What a line asks for.
@@ -58,6 +60,14 @@ fn read_objects(rest: &[u8]) -> Result<Own, Syntax>
     at_end(Own::Objects(from as usize, to as usize), rest)
 }
 
+/// What a line asks for by the number of an object.
+fn read_made(rest: &[u8]) -> Result<Own, Syntax>
+    ensures { result ≡ made_says (words_of rest.now) }
+{
+    let (number, rest) = number_first(rest)?;
+    at_end(Own::Made(number), rest)
+}
+
 /// The same where a word comes after the first. Without one the line is of the texts.
 #[tactic(auto, using(crate::proofs::Askings::range_steps))]
 fn items_asked(rest: &[u8]) -> Option<Result<Own, Syntax>>
@@ -95,6 +105,9 @@ fn read_own(word: &[u8], rest: &[u8]) -> Option<Result<Own, Syntax>>
     }
     if word == b"trace".as_slice() {
         return Some(at_end(Own::Trace, rest));
+    }
+    if word == b"made".as_slice() {
+        return Some(read_made(rest));
     }
     None
 }

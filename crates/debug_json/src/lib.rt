@@ -6,6 +6,7 @@ mod asked;
 mod breaks;
 mod items;
 mod laws;
+mod made;
 mod memo;
 mod obey;
 mod objects;

@@ -1,6 +1,7 @@
 //! A line is obeyed, and what is said of it.
 
-ghost use Rattle.std.specs.Prelude.{◌≡◌};
+ghost use Rattle.std.specs.Prelude.{◌≡◌, ◌-◌};
+ghost use Rattle.pickle_session.specs.Allowed.{kept_of};
 ghost use Rattle.debug_json.specs.Says.{SaysLine, SaysOwn, SaysBy};
 
 use crate::asked::{Asked, Own};
@@ -66,6 +67,26 @@ fn obey_line<P: Past>(alloc: Global, session: &mut Session<P>, line: Line) -> Sa
     }
 }
 
+/// The place of the first item whose record is kept, as those of all items after it before the cursor are.
+fn first_kept<P: Past>(session: &Session<P>) -> usize
+    ensures { result ≡ session.now.session.cursor - kept_of session.now }
+{
+    session.cursor().saturating_sub(session.kept())
+}
+
+/// Who made an object and who changed it, if there is one of this number.
+#[tactic(auto, using(crate::proofs::Making::telling_steps))]
+fn tell_made<P: Past>(session: &Session<P>, number: u64) -> Said
+    ensures { SaysOwn (Own.Made number) session.now result session.now }
+{
+    let objects = session.machine().objects() as u64;
+    if number < objects {
+        Said::Made(number, first_kept(session))
+    } else {
+        Said::NoObject(number)
+    }
+}
+
 /// What is told in JSON alone.
 #[tactic(auto, using(crate::proofs::Stepping::tracing_steps))]
 fn tell<P: Past>(session: &Session<P>, own: Own) -> Said
@@ -82,6 +103,7 @@ fn tell<P: Past>(session: &Session<P>, own: Own) -> Said
                 Said::NoStep
             }
         }
+        Own::Made(number) => tell_made(session, number),
     }
 }
 

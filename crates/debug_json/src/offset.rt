@@ -18,6 +18,20 @@ fn size_at(document: &Document, place: usize) -> u64
     }
 }
 
+/// Where the place after one begins, which begins there.
+#[tactic(auto, using(crate::proofs::Offsets::offset_past))]
+pub(crate) fn next_offset<A: Past>(session: &Session<A>, place: usize, offset: u64) -> u64
+    requires { offset ≡ offset_of session.now.session.document place }
+    ensures { result ≡ offset_of session.now.session.document (place + 1) }
+{
+    let document = session.document();
+    if place < document.len() {
+        offset + size_at(document, place)
+    } else {
+        offset
+    }
+}
+
 /// How many bytes the items from one place on and before another have.
 fn size_between(document: &Document, from: usize, to: usize) -> u64
     requires small { length (document_bytes document.now.contents) ≤ size_limit }

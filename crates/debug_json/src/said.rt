@@ -34,6 +34,8 @@ pub enum Said {
     Step,
     /// No record of the step over the item before the cursor is kept.
     NoStep,
+    /// The item that made the object of a number, and the items that changed it, are shown, of those from one on.
+    Made(u64, usize),
 }
 
 /// Whether a reply is a refusal.
@@ -69,5 +71,6 @@ pub(crate) fn refuses(said: Said) -> bool
         Said::SomeObjects(_, _) => false,
         Said::Step => false,
         Said::NoStep => true,
+        Said::Made(_, _) => false,
     }
 }
