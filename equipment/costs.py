@@ -3,6 +3,8 @@
     python3 -B equipment/costs.py COMMAND..        runs the command, say ./test, and prints the table when it has ended
     python3 -B equipment/costs.py --of PID         the same of a command that runs already, from now on
     python3 -B equipment/costs.py --functions NAME checks a crate anew, with its tests, and prints its ten dearest functions and what a check without a change takes
+    python3 -B equipment/costs.py --page LOG       prints the tables of docs/why/measured.md. LOG has what the first of these commands printed, and below it what
+                                                   --functions printed of some crates
 
 `rt ci` prints no times, so this looks twice a second at what the system says of each process. What a process used after the last look at it,
 and a process that began and ended between two looks, stand in the line `between two looks`: the system adds them to the parent of the process.
@@ -19,8 +21,9 @@ import resource
 import shutil
 import subprocess
 import sys
+import textwrap
 import time
-from collections.abc import Iterator
+from collections.abc import Iterable, Iterator, Sequence
 from dataclasses import dataclass, field
 from pathlib import Path
 
@@ -32,6 +35,7 @@ ROOM_OF_EDIT = re.compile(r"/rt-edit-")  # (the copy of the crate that an edit i
 CHECKED = re.compile(r"checked (.*), \d+ of \d+")  # (a line of `rattle check --progress`)
 BETWEEN = "between two looks"
 MOST_LETTERS = 80  # (of the words of a process that is no check)
+MOST_FUNCTIONS = 10
 
 
 @dataclass(frozen=True)
@@ -175,15 +179,129 @@ def functions_of(crate: str) -> Iterator[str]:
     check(crate)
     shutil.rmtree(ROOT / "crates" / crate / "out" / "incremental", ignore_errors=True)
     seconds, functions = check(crate)
-    for name, each in sorted(functions.items(), key=lambda pair: -pair[1])[:10]:
+    for name, each in sorted(functions.items(), key=lambda pair: -pair[1])[:MOST_FUNCTIONS]:
         yield f"{each:9.1f}  {name}"
     yield f"{seconds:9.1f}  {crate}, {len(functions)} functions"
     yield f"{check(crate)[0]:9.1f}  {crate}, without a change"
 
 
+# --- The tables of the page ---
+
+ROW = re.compile(r" *(\d+\.\d)  (.+)")
+TASK = re.compile(r"(proof|tests|base|edits?) of (?:the edits of )?(\w+)")
+CHECK = re.compile(r"(\w+), (?:\d+ functions|(without a change))")
+
+
+@dataclass
+class Log:
+    """What a log says in processor seconds: of each crate by the kind of the task, of each group of trials, and of all. `functions` are the dearest
+    ones of the crates that were checked by --functions, in seconds of the wall, and `unchanged` is what a check of these takes without a change."""
+
+    crates: dict[str, dict[str, float]] = field(default_factory=lambda: collections.defaultdict(lambda: collections.defaultdict(float)))
+    dearest: dict[str, float] = field(default_factory=lambda: collections.defaultdict(float))  # (of each crate the dearest wrong body)
+    groups: dict[str, float] = field(default_factory=dict)
+    functions: list[tuple[float, str]] = field(default_factory=list)
+    unchanged: dict[str, float] = field(default_factory=dict)
+    took: tuple[int, int] | None = None  # (seconds of the wall: of rt ci, and of the trials)
+    total: float | None = None
+
+    @staticmethod
+    def of(lines: Iterable[str]) -> Log:
+        log, functions = Log(), list[tuple[float, str]]()
+        for line in lines:
+            row, took = ROW.fullmatch(line), re.fullmatch(r"time: rt ci (\d+) s, trials (\d+) s", line)
+            if took is not None:
+                log.took = int(took[1]), int(took[2])
+            if line.startswith("processor seconds: "):
+                log.groups = {name: float(seconds) for name, seconds in re.findall(r"([\w-]+) (\d+)", line.partition(": ")[2])}
+            if row is not None and log._take(float(row[1]), row[2], functions):
+                functions = []
+            elif row is not None:
+                functions.append((float(row[1]), row[2]))
+        if log.total is None:
+            raise ValueError("it has no table that `costs.py COMMAND` printed")
+        return log
+
+    def _take(self, seconds: float, words: str, functions: Sequence[tuple[float, str]]) -> bool:
+        """Takes a row, and returns whether it is of a task or closes a table. The others may be functions, which stand above the row of their crate."""
+        task, check = TASK.match(words), CHECK.fullmatch(words)
+        if words == "in all":
+            if self.total is not None:
+                raise ValueError("it has two tables that `costs.py COMMAND` printed")
+            self.total = seconds
+        elif task is not None:
+            self.crates[task[2]][task[1]] += seconds
+            self.dearest[task[2]] = max(self.dearest[task[2]], seconds if task[1] == "edit" else 0)
+        elif check is not None and check[2]:
+            self.unchanged[check[1]] = seconds
+        elif check is not None:
+            self.functions += functions
+        return words == "in all" or task is not None or check is not None
+
+    def spent(self, *kinds: str) -> float:
+        return sum(of_crate[kind] for of_crate in self.crates.values() for kind in kinds)
+
+
+def markdown(heads: Sequence[str], rows: Iterable[Sequence[object]]) -> str:
+    """A table, of numbers but for the first column."""
+    first, *others = (f"| {' | '.join(map(str, row))} |" for row in (heads, *rows))
+    return "\n".join([first, f"|---{'|---:' * (len(heads) - 1)}|", *others])
+
+
+def seconds_of(value: float) -> str:
+    return f"{value:.0f}" if value >= 0.5 else ""
+
+
+def parts_of(log: Log) -> str:
+    """What the parts of ./test took."""
+    proofs, tests, bodies = log.spent("proof"), log.spent("tests"), log.spent("base", "edit", "edits")
+    trials, total = sum(log.groups.values()), log.total or 0
+    rows = [
+        ("the proofs of the crates", proofs),
+        ("the proofs of their tests", tests),
+        ("the wrong bodies, with the proofs before them", bodies),
+        ("the trials", trials),
+        ("all else: installers, builds, and what was too short to be seen", max(0, total - proofs - tests - bodies - trials)),
+        ("**all together**", total),
+    ]
+    return markdown(["Part of `./test`", "Minutes of processors"], [(name, f"{seconds / 60:.0f}") for name, seconds in rows])
+
+
+def crates_of(log: Log) -> str:
+    """What each crate took, the dearest first."""
+    rows = []
+    for name, of in sorted(log.crates.items(), key=lambda each: -sum(each[1].values())):
+        bodies = of["edit"] + of["edits"]  # (in kit 13b the proof before them is in this sum)
+        rows.append((f"`{name}`", *map(seconds_of, (of["proof"], of["tests"], of["base"], bodies, log.dearest[name])), len(edits_of(name)) or ""))
+    return markdown(["Crate", "Proof", "Tests", "Proof before the wrong bodies", "Wrong bodies", "The dearest of them", "Their number"], rows)
+
+
+def page_of(log: Log, date: str) -> Iterator[str]:
+    """The paragraphs and tables that stand in the page."""
+    took = f" `rt ci` took {log.took[0] / 60:.0f} minutes of the wall, and the trials after it {log.took[1] / 60:.0f}." if log.took else ""
+    yield textwrap.fill(f"Measured on {date}, with {os.cpu_count()} processors.{took}", 100)
+    yield parts_of(log)
+    yield "Seconds of processors for each crate:"
+    yield crates_of(log)
+    yield "And for each group of trials:"
+    yield markdown(["Group", "Seconds"], [(f"`{name}`", f"{seconds:.0f}") for name, seconds in sorted(log.groups.items(), key=lambda each: -each[1])])
+    if log.functions:
+        crates = ", ".join(f"`{name}` {seconds:.1f}" for name, seconds in log.unchanged.items())
+        yield textwrap.fill(f"A check without a change takes, in seconds of processors: {crates}. The dearest functions of these crates are:", 100)
+        yield markdown(["Function", "Seconds of the wall"], [(f"`{name}`", f"{seconds:.0f}") for seconds, name in sorted(log.functions, reverse=True)[:MOST_FUNCTIONS]])
+
+
 def main(words: list[str]) -> int:
     if words[:1] == ["--functions"] and len(words) == 2:
         print("\n".join(functions_of(words[1])))
+        return 0
+    if words[:1] == ["--page"] and len(words) == 2:
+        try:
+            log, written = Log.of(Path(words[1]).read_text("utf-8", "replace").splitlines()), os.path.getmtime(words[1])
+        except (OSError, ValueError) as error:
+            print(f"costs.py: {words[1]}: {error}", file=sys.stderr)
+            return 2
+        print("\n\n".join(page_of(log, time.strftime("%Y-%m-%d", time.gmtime(written)))))
         return 0
     if words[:1] == ["--of"] and len(words) == 2 and words[1].isdigit():
         costs, status = Costs(int(words[1])), 0
@@ -196,7 +314,7 @@ def main(words: list[str]) -> int:
             time.sleep(0.5)
         status = started.returncode
     else:
-        print("usage: costs.py COMMAND.., costs.py --of PID, or costs.py --functions NAME", file=sys.stderr)
+        print("usage: costs.py COMMAND.., costs.py --of PID, costs.py --functions NAME, or costs.py --page LOG", file=sys.stderr)
         return 2
     print("\n".join(costs.table()))
     return status

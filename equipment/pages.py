@@ -13,6 +13,7 @@ from collections.abc import Iterator
 from dataclasses import dataclass, field
 from pathlib import Path
 
+import costs
 import reference
 from reference import text_of
 from trials.trial import Lack, Trial
@@ -106,6 +107,7 @@ CHECKLISTS = [
             "python/picklestep/shell/words.py": "the shell has words of its own",
             "python/picklestep/view/alone/document.js": "the page shows it",
             "python/picklestep/view/export.py": "the page shows it",
+            "python/picklestep/view/opcodes.py": "a table for the page has that name",
             "python/picklestep/pickle_lines.py": "a document asks it",
             "python/tests/test_other_systems.py": "asks it of files on other drives",
             "python/tests/test_shell.py": "the shell has words of its own",
@@ -499,6 +501,16 @@ def fault_of_script(root: Path, *words: str) -> str:
     return "" if done.returncode == 0 else done.stderr.strip()[:200]
 
 
+def fault_of_costs() -> str:
+    """A row of the page Measured, of what costs.py prints of processes that are made up."""
+    names = {1: "proof of gap_list", 2: "tests of gap_list", 3: "base of the edits of gap_list", 4: "edit of gap_list: a", 5: "edit of gap_list: b", 6: "python3 -B -m"}
+    printed = costs.Costs(0, names, {1: 61.2, 2: 20.0, 3: 40.0, 4: 5.0, 5: 7.0, 6: 300.0}).table()
+    log = costs.Log.of(["processor seconds: python 240, listings 4", *printed, "     52.6  gap_list::grow", "     61.2  gap_list, 9 functions"])
+    page = "\n".join(costs.page_of(log, "2026-12-01"))
+    rows = "| the trials | 4 |", "| **all together** | 7 |", "| `gap_list` | 61 | 20 | 40 | 12 | 7 | ", "| `python` | 240 |", "| `gap_list::grow` | 53 |"
+    return ", ".join(f"there is no row {row}" for row in rows if f"\n{row}" not in page)
+
+
 def trials(root: Path, program: str, folder: Path) -> list[Trial]:
     """What is checked. FOLDER gets the pickles of docs/reference/codes.md and docs/why/loaders.md."""
     pages = [root / "README.md", *sorted((root / "docs").rglob("*.md"))]
@@ -523,6 +535,7 @@ def trials(root: Path, program: str, folder: Path) -> list[Trial]:
     found.append(Trial("the bodies of commits", functools.partial(fault_of_bodies, root)))
     found.append(Trial("the index of definitions", functools.partial(fault_of_script, root, "tools/definitions.py")))
     found.append(Trial("the numbers of the page Measured", functools.partial(fault_of_script, root, "bench/measured_page.py", "--check")))
+    found.append(Trial("the tables of costs", fault_of_costs))
     found.append(Trial("the laws of PROVED", functools.partial(fault_of_laws, root)))
     found.append(Trial("the picture of PROVED", functools.partial(fault_of_picture, root)))
     return found

@@ -6,8 +6,8 @@ A line of `list` is one of `pickletools.dis` (crates/pickle_list/specs/Line.antt
   of an argument is left out of both. It ends in a quote, a digit, a letter or a bracket behind a quote, so that none looks like a note.
 - `dis` ends at STOP. `list` counts the bytes behind it in a line `kept:` of its own, which stands before the last line.
 
-Where pickletools refuses a pickle, and where one of the rules in real_pickles/README.md makes another listing of it, no function here makes
-the listing. It is kept in equipment/listings.
+Where pickletools refuses a pickle, and where one of the rules in real_pickles/README.md makes another listing of it, `expected` of
+real_pickles/answers.py says what the listing is.
 """
 
 from __future__ import annotations
@@ -17,7 +17,6 @@ import pickletools
 import re
 from collections.abc import Sequence
 from dataclasses import dataclass
-from pathlib import Path
 from typing import Any, Optional
 
 # (an offset, the opcode's code in four places and a blank, the indented name, the argument with its note)
@@ -85,18 +84,3 @@ def refusal_of(data: bytes) -> Optional[tuple[int, str]]:
 def kept_lines(data: bytes, end: int) -> list[bytes]:
     """What a listing says of the bytes behind STOP."""
     return [b"kept: %d bytes after STOP" % (len(data) - end)] if end < len(data) else []
-
-
-def made(data: bytes) -> bytes:
-    """The listing of a pickle, without the texts of arguments."""
-    lines, error = dis(data)
-    if error is not None:
-        raise ValueError(f"pickletools makes no listing: {error}")
-    *items, last = lines
-    return b"".join(line + b"\n" for line in [*items, *kept_lines(data, genops(data)[1]), last])
-
-
-def expected(pickle: Path, kept: Path) -> bytes:
-    """The listing that is kept of a pickle in this folder, or else the one that pickletools makes."""
-    file = kept / f"{pickle.stem}.txt"
-    return file.read_bytes() if file.exists() else made(pickle.read_bytes())

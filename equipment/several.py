@@ -1,7 +1,7 @@
 """Gives the program real pickles one after another in one input, with --many.
 
 Every pickle comes twice in a row, or behind a whole one if further bytes would change what is listed of it, and three at random come in a row. What
-is listed follows from their listings, which come from Python's pickletools (python_listing.py): each up to its STOP with its offsets moved, up to
+is listed follows from their listings, which come from Python's pickletools (real_pickles/answers.py): each up to its STOP with its offsets moved, up to
 the first refusal or fault. (What a conversation shows on the way there and back, and what is saved, have laws of fuzz.py.)
 """
 
@@ -15,7 +15,7 @@ import re
 import subprocess
 from collections.abc import Sequence
 
-from python_listing import expected
+from real_pickles.answers import expected
 from trials.listings import listing_difference
 from trials.trial import Trial
 
@@ -54,8 +54,8 @@ def first_pickle(data: bytes, items: Sequence[str]) -> bytes | None:
     return data[:end]
 
 
-def read_pickle(path: pathlib.Path, kept: pathlib.Path) -> Pickle | None:
-    lines = expected(path, kept).decode().splitlines()
+def read_pickle(path: pathlib.Path) -> Pickle | None:
+    lines = expected(path).decode().splitlines()
     items = [line for line in lines if ITEM.match(line)]
     broken = [line for line in lines if line.startswith(("refused: ", "fault: "))]
     highest = [int(line.rsplit(" ", 1)[1]) for line in lines if line.startswith("highest ")]
@@ -166,6 +166,6 @@ def inputs_of(pickles: Sequence[Pickle]) -> list[tuple[str, list[Pickle]]]:
     return inputs
 
 
-def trials(inputs: Inputs, data: pathlib.Path, kept: pathlib.Path) -> list[Trial]:
-    found = [read_pickle(path, kept) for path in sorted(data.glob("*.pickle"))]
+def trials(inputs: Inputs, data: pathlib.Path) -> list[Trial]:
+    found = [read_pickle(path) for path in sorted(data.glob("*.pickle"))]
     return [Trial(name, functools.partial(inputs.fault, pickles)) for name, pickles in inputs_of([pickle for pickle in found if pickle is not None])]

@@ -27,13 +27,13 @@ from typing import Any
 
 sys.dont_write_bytecode = True
 ROOT = Path(__file__).resolve().parent.parent
-sys.path.insert(0, str(ROOT / 'equipment' / 'real_pickles'))
+sys.path[:0] = [str(ROOT / 'equipment' / 'real_pickles'), str(ROOT / 'equipment')]
 
 import from_cpython_tests
 import hostile
 import written_by_libraries
 import written_by_python
-from answers import document_of
+from answers import OWN, document_of
 
 KINDS: tuple[Any, ...] = (written_by_python, written_by_libraries, from_cpython_tests, hostile)
 
@@ -51,6 +51,7 @@ def main() -> None:
         old.unlink()
     pickles = [(name + '.pickle', content) for module in KINDS for name, content, _ in module.pickles()]
     assert len(dict(pickles)) == len(pickles), 'two pickles of one name'
+    assert {name + '.pickle' for name in OWN} <= dict(pickles).keys(), 'a refusal of our own, and no pickle'
     for name, content in pickles:
         (program / 'data' / name).write_bytes(content)
     printed = [line for name, content in pickles for line in (name, *printed_of(content), 'same')]

@@ -9,9 +9,10 @@ import contextlib
 import pickletools
 import re
 from collections.abc import Callable, Iterator, Sequence
+from pathlib import Path
 from typing import Any, Optional
 
-from python_listing import Read, dis, genops
+from python_listing import ITEM, NOTE, Read, behind, dis, genops, kept_lines
 
 # our words for Python's errors, by how these begin or what they have inside
 READING_ERRORS = [
@@ -151,3 +152,52 @@ def document_of(data: bytes) -> tuple[list[Read], Optional[tuple[int, str]]]:
     found = (frame_fault(reads, len(data)), argument_fault(reads, data), reading_fault(data, behind, error))
     fault = min((fault for fault in found if fault is not None), key=lambda fault: fault[0], default=None)
     return [read for read in reads if fault is None or read.start < fault[0]], fault
+
+
+# --- what is listed ---
+
+# The pickles that this project refuses by a rule of README.md, where Python goes on: how many opcodes are listed, and why the last one is refused.
+OWN = {
+    'append_to_a_tuple': (3, b'S5 wrong kind #0'),
+    'arguments_that_are_a_text': (3, b'S10 not arguments #1'),
+    'call_of_a_text': (5, b'S9 not callable #0'),
+    'double_of_a_mark': (3, b'S2 stack underflow'),
+    'extension_code_below_zero': (2, b'S7 bad extension -1'),
+    'extension_code_of_zero': (2, b'S7 bad extension 0'),
+    'items_of_a_set': (5, b'S5 wrong kind #0'),
+    'keywords_that_are_a_list': (5, b'S11 not keywords #2'),
+    'name_that_is_a_number': (4, b'S8 not a text #1'),
+    'obj_of_nothing': (2, b'S2 stack underflow'),
+    'objects_under_a_mark': (5, b'S2 stack underflow'),
+    'odd_dictionary': (5, b'S4 odd number of items'),
+    'odd_items': (6, b'S4 odd number of items'),
+    'protocol_of_the_future': (1, b'S6 bad protocol 9'),
+}
+
+
+def stop_of(pickle: Path, reads: Sequence[Read], lines: Sequence[bytes], error: Optional[Exception], most: int) -> tuple[int, Optional[bytes]]:
+    """How many opcodes of a pickle are listed, and what stands below them, if they are refused or something is left. At most so many can be read."""
+    if pickle.stem in OWN:
+        count, why = OWN[pickle.stem]
+        return count, b'refused: ' + why
+    count = sum(ITEM.fullmatch(line) is not None for line in lines)  # (dis has a line after the items where something is left)
+    closing = closing_of(reads[count - 1], error) if error is not None and 0 < count <= most else None
+    return (most, None) if closing is None else (count, closing)
+
+
+def expected(pickle: Path) -> bytes:
+    """The listing of a real pickle, without the texts of arguments. A refused opcode has no note."""
+    data = pickle.read_bytes()
+    reads, lines, error = lenient(data)
+    items, fault = document_of(data)
+    count, closing = stop_of(pickle, reads, lines, error, len(items))
+    listing, end = lines[:count], [] if closing is None else [closing]
+    if closing is not None and closing.startswith(b'refused: '):
+        listing[-1] = NOTE.sub(b'', listing[-1])
+    elif fault is not None:
+        end = [f'fault: {fault[1]} at {fault[0]}'.encode()]
+    else:
+        end += kept_lines(data, behind(reads))
+    if count:
+        end.append(b'highest protocol among opcodes = %d' % max(read.protocol for read in reads[:count]))
+    return b''.join(line + b'\n' for line in [*listing, *end])

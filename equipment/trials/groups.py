@@ -118,7 +118,7 @@ def of_pickles(room: Room) -> list[AnyGroup]:
         group("lines", line_trials, room),
         group("there-and-back", listings.there_and_back, room),
         group("assembled", listings.assembled, room),
-        Group("several", functools.partial(several.trials, inputs, room.pickles, room.listings), inputs.closing),
+        Group("several", functools.partial(several.trials, inputs, room.pickles), inputs.closing),
         group("large", large.trials, room),
     ]
 

@@ -1,4 +1,4 @@
-"""What the program lists of the real pickles, against what Python's pickletools makes of them, or else the listings that are kept."""
+"""What the program lists of the real pickles, against what Python's pickletools makes of them."""
 
 from __future__ import annotations
 
@@ -9,8 +9,8 @@ from pathlib import Path
 from pickle import decode_long, encode_long
 from struct import pack
 
-from python_listing import ITEM, NOTE, Read, behind, expected, kept_lines, outline, refusal_of
-from real_pickles.answers import closing_of, document_of, lenient
+from python_listing import Read, outline, refusal_of
+from real_pickles.answers import expected, lenient
 
 from .room import Room, beginning, first_difference, lines_of
 from .row import MISSING, Row, fails, trials_of
@@ -18,7 +18,7 @@ from .trial import Trial
 
 # What a rule of real_pickles/README.md lets a listing end before, where Python goes on and refuses the pickle later.
 EARLIER = {"frame_in_a_frame", "lines_with_carriage_returns", "objects_under_a_mark", "double_of_a_mark"}
-# What begins like a zip archive, which the entrance looks into.
+# What begins like a zip archive, in which the entrance would look for a pickle. It lists all others here; elsewhere the program itself is asked.
 OPENED = {"archive"}
 
 
@@ -47,61 +47,17 @@ def refusal_fault(pickle: Path, listing: bytes) -> str:
     return f"it goes to {reach_of(listing)}, and Python to {refusal[0]}"
 
 
-def start_of(room: Room, pickle: Path) -> Path:
-    """What answers for a pickle: the entrance, or the program itself where the entrance would look for a pickle inside."""
-    return room.program if pickle.stem in OPENED else room.start
-
-
 def fault_of(room: Room, pickle: Path) -> str:
-    answer = expected(pickle, room.listings)
-    found = room.observe(start_of(room, pickle), "list", pickle)
+    answer = expected(pickle)
+    found = room.observe(room.program if pickle.stem in OPENED else room.start, "list", pickle)
     why = found.fault_of_status(int(is_broken(answer)))
     if not why and found.errors:
         why = f"errors, which begin: {beginning(found.errors)}"
     return why or listing_difference(found.output, answer) or refusal_fault(pickle, found.output)
 
 
-def own_refusals(listing: bytes) -> list[bytes]:
-    """Why a listing ends at an opcode that Python goes on after."""
-    return [line for line in lines_of(listing) if line.startswith(b"refused: ")]
-
-
-def closing_lines(data: bytes, listing: bytes, items: int) -> list[bytes]:
-    """The lines of a kept listing after those of its items: what Python says of them, and only where Python goes on, the listing's own refusal."""
-    reads, lines, error = lenient(data)
-    is_all = 0 < items == sum(ITEM.fullmatch(line) is not None for line in lines)  # (dis has a line after the items where something is left)
-    said = closing_of(reads[items - 1], error) if error is not None and is_all else None
-    if b"refused: " in listing:
-        return [said] if said is not None and said.startswith(b"refused: ") else own_refusals(listing)
-    fault = document_of(data)[1]
-    if fault is not None:
-        return [f"fault: {fault[1]} at {fault[0]}".encode()]
-    return [*([said] if said is not None else []), *kept_lines(data, behind(reads))]
-
-
-def kept_difference(data: bytes, listing: bytes) -> str:
-    """A kept listing has the lines that pickletools makes, as far as it goes. A refused item has no note."""
-    reads, lines, _ = lenient(data)
-    items = len(re.findall(rb"^ *\d+: ", listing, re.MULTILINE))
-    meant = lines[:items]
-    if b"\nrefused: " in listing:
-        meant[-1] = NOTE.sub(b"", meant[-1])
-    protocols = [b"highest protocol among opcodes = %d" % max(read.protocol for read in reads[:items])] if items else []
-    return first_difference(lines_of(listing), [*meant, *closing_lines(data, listing, items), *protocols])
-
-
-def fault_of_kept(room: Room) -> str:
-    for file in sorted(room.listings.glob("*.txt")):
-        pickle = room.pickles / f"{file.stem}.pickle"
-        why = kept_difference(pickle.read_bytes(), file.read_bytes()) if pickle.exists() else "there is no pickle of this name"
-        if why:
-            return f"{file.name}: {why}"
-    return ""
-
-
 def trials(room: Room) -> list[Trial]:
     return [
-        Trial("the listings that are kept, against pickletools", functools.partial(fault_of_kept, room)),
         *(Trial(f"the listing of {pickle.stem}", functools.partial(fault_of, room, pickle)) for pickle in sorted(room.pickles.glob("*.pickle"))),
     ]
 
@@ -131,8 +87,8 @@ def reply_of(answer: bytes) -> str:
 
 def fault_there_and_back(room: Room, pickle: Path, window: Sequence[str]) -> str:
     """Runs a pickle to its end, goes back and runs it again. The stack is the same both times, and empty at the start."""
-    reply = reply_of(expected(pickle, room.listings))
-    found = room.observe(start_of(room, pickle), "debug", pickle, *window, given=THERE_AND_BACK.encode())
+    reply = reply_of(expected(pickle))
+    found = room.observe(room.program, "debug", pickle, *window, given=THERE_AND_BACK.encode())
     second = found.output.split(b"\n")[1:2]
     stack = second[0].decode() if second and second[0].startswith(b"stack") else ""
     wanted = f"{reply}\n{stack}\nat 0\nstack\n{reply}\n{stack}\n"
@@ -171,18 +127,18 @@ def spelled(data: bytes, read: Read) -> bytes:
 
 def fault_assembled(room: Room, file: Path) -> str:
     """The listing of a pickle, assembled, is the bytes of the opcodes that are listed: the whole one as they are, and the other as it spells them. With a line that bytes are not shown it is refused."""
-    listing, data = room.observe(start_of(room, file), "list", file).output, file.read_bytes()
-    whole = room.observe(start_of(room, file), "list", "--whole", file).output
+    listing, data = room.observe(room.program, "list", file).output, file.read_bytes()
+    whole = room.observe(room.program, "list", "--whole", file).output
     listed = lenient(data)[0][: len(re.findall(rb"^ *\d+: ", listing, re.MULTILINE))]
     for text, wanted in (listing, b"".join(spelled(data, read) for read in listed)), (whole, b"".join(data[read.start : read.end] for read in listed)):
-        found = room.observe(room.start, "assemble", "/dev/stdin", given=GAP.sub(b"", text))
+        found = room.observe(room.program, "assemble", "/dev/stdin", given=GAP.sub(b"", text))
         if found.output != wanted or found.status or found.errors:
             return f"status {found.status}, {len(found.output)} bytes: {beginning(found.output)}"
     gap = GAP.search(listing)
     if gap is None:
         return ""
     line = listing.count(b"\n", 0, gap.start()) + 1
-    return room.observe(room.start, "assemble", "/dev/stdin", given=listing).difference(1, f"refused: line {line}: {LEFT_OUT}\n", "")
+    return room.observe(room.program, "assemble", "/dev/stdin", given=listing).difference(1, f"refused: line {line}: {LEFT_OUT}\n", "")
 
 
 REFUSED = (

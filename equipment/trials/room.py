@@ -123,11 +123,6 @@ class Room:
     def pickles(self) -> Path:
         return self.root / "crates" / "real_pickles" / "data"
 
-    @property
-    def listings(self) -> Path:
-        """The listings of these that are kept, since pickletools does not make them."""
-        return self.equipment / "listings"
-
     @functools.cached_property
     def files(self) -> Path:
         """The folder of the sample files, which are made when they are first needed."""
