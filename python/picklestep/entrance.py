@@ -235,16 +235,6 @@ def _do_apart(words: 'list[str]') -> int:
     return status
 
 
-def _further_places() -> 'list[str]':
-    """Where packages are that an isolated interpreter leaves out: those of PYTHONPATH and of the user. Optional ones may be there."""
-    import site
-    named = [path for path in os.environ.get('PYTHONPATH', '').split(os.pathsep) if os.path.isabs(path)]
-    if sys.prefix == sys.base_prefix:
-        named.append(site.getusersitepackages())
-    here = os.stat('.')
-    return [path for path in named if os.path.isdir(path) and not os.path.samestat(os.stat(path), here)]
-
-
 # --- Its standard streams ---
 
 class _Unwritten(Exception):
@@ -324,9 +314,9 @@ def run_scan() -> None:
 
 
 if __name__ == '__main__':
-    # Another copy of the package may be among those of the interpreter: the one of this file comes first. What the environment names
-    # comes behind the standard library, so it hides nothing of it.
+    # Another copy of the package may be among those of the interpreter: the one of this file comes first.
     sys.path.insert(0, os.path.dirname(_HERE))
-    sys.path.extend(path for path in _further_places() if path not in sys.path)
     from picklestep.entrance import run as run_in_package
+    from picklestep.further import search_when_asked
+    search_when_asked(sys.argv[1:])
     run_in_package()

@@ -23,6 +23,8 @@ from multiprocessing.connection import Connection, Pipe, wait
 from pathlib import Path
 from typing import Any, Deque, Dict, Generator, Iterable, List, Optional, Protocol, Tuple, Union
 
+from .further import search
+
 __all__ = ['Work', 'do_all', 'work']
 
 # A path, or something else that is worked at, and how often that was begun.
@@ -115,6 +117,7 @@ def _start(command: List[str], link: int) -> 'subprocess.Popen[bytes]':
 
 def _new_process(link: int) -> 'subprocess.Popen[bytes]':
     """A worker that finds modules where this process does."""
+    search()
     places = [path for path in sys.path if path]
     flags = ['-I', '-B'] if sys.dont_write_bytecode else ['-I']
     return _start([sys.executable, *flags, str(_WORKER), str(link), *places], link)

@@ -13,6 +13,7 @@ import sys
 import tempfile
 import unittest
 import unittest.mock
+import venv
 from pathlib import Path
 from typing import Dict, List, Set
 
@@ -312,6 +313,76 @@ class HostileFolders(EntranceCase):
                 if way in ('clone', '-I -m'):
                     run = subprocess.run([*entrance, 'model.pkl'], cwd=self.folder, env=settings, capture_output=True, text=True, timeout=300)
                     self.assertEqual((run.returncode, run.stderr, self.seen()), (0, '', ''), way)
+
+
+@unittest.skipIf(os.name == 'nt', 'a shell of POSIX is wanted')
+class Packages(EntranceCase):
+    """Python begins without `site` in a clone and where ./install has put the entrance: packages are found once one is asked for."""
+
+    def setUp(self) -> None:
+        super().setUp()
+        self.file('a.h5', b'\x89HDF\r\n\x1a\n'.ljust(600, b'\0'))
+        self.file('a.pkl', HARMLESS)
+        self.package = self.folder / 'packages'
+        self.file('packages/h5py.py', b"raise ImportError('it is found')\n")
+
+    def in_place(self, python: str, named: str = '') -> str:
+        """What a process that begins so finds, which prints the places of its modules at its end."""
+        code = ("import runpy, sys; sys.argv = sys.argv[1:]\ntry: runpy.run_path(sys.argv[0], run_name='__main__')\n"
+                "except SystemExit: print('site' in sys.modules, *sys.path, sep='\\n')")
+        settings = {**os.environ, 'PYTHONPATH': named, 'PICKLESTEP_PROGRAM': find_program()}
+        words = [python, '-I', '-S', '-B', '-c', code, str(PACKAGE / 'entrance.py'), 'a.h5']
+        run = subprocess.run(words, cwd=self.folder, env=settings, capture_output=True, text=True, timeout=600)
+        self.assertEqual((run.returncode, run.stderr), (0, ''))
+        self.assertIn('h5py is not installed', run.stdout)
+        return run.stdout
+
+    def test_it_begins_without_site(self) -> None:
+        script = f'package={PACKAGE}; choose_program() {{ chosen=/bin/true; }}; . "$package/help/start.sh"; enter scan a.pkl'
+        self.file('bin/python3', b'#!/bin/sh\necho "$@"\n')
+        (self.folder / 'bin/python3').chmod(0o755)
+        run = subprocess.run(['/bin/sh', '-c', script], env={**os.environ, 'PATH': f'{self.folder}/bin:{os.environ["PATH"]}'}, capture_output=True, text=True, timeout=600)
+        self.assertEqual(run.stdout.split()[:2], ['-I', '-S'], run.stderr)
+
+    def test_places_that_the_environment_names(self) -> None:
+        self.assertIn(f'\n{self.package}\n', self.in_place(sys.executable, f'{self.package}{os.pathsep}{self.folder}'))
+        self.assertNotIn(f'\n{self.folder}\n', self.in_place(sys.executable, str(self.folder)))  # (it is the current one)
+
+    def test_places_of_an_environment(self) -> None:
+        """What pip installs so that it can be edited is named by a file there."""
+        venv.create(self.folder / 'venv', symlinks=True)
+        (places,) = self.folder.glob('venv/lib/python*/site-packages')
+        (places / 'named.pth').write_text(f'{self.package}\n')
+        self.assertEqual({str(places), str(self.package)} - set(self.in_place(str(self.folder / 'venv/bin/python3')).split('\n')), set())
+
+    def test_words_that_need_none(self) -> None:
+        """The standard library asks for modules that are not there, and none of these is taken for a package."""
+        code = ("import sys; sys.argv = sys.argv[1:]; sys.path.insert(0, sys.argv.pop(0)); from picklestep import entrance, further\n"
+                "further.search_when_asked(sys.argv)\nif sys.argv: entrance.main(sys.argv)\nelse: further.search()\n"
+                "print('site' in sys.modules, file=sys.stderr)")
+        self.file('b.pkl', HOSTILE)
+        self.file('script', b'quit\n')
+        told = (['a.pkl'], ['scan', '--json', '--jobs', '2', 'a.pkl', 'b.pkl'], ['calls', 'a.pkl'], ['diff', 'a.pkl', 'b.pkl'], ['mend', 'a.pkl'], ['size', 'a.pkl'],
+                ['source', 'a.pkl'], ['rename', 'a', 'b', 'a.pkl', '--dry-run'], ['optimize', 'a.pkl', '--save', 'out'], ['view', '--export', 'out.html', '--force', 'a.pkl'],
+                ['shell', '--batch', 'script', 'a.pkl'])
+        for words, found in (*((words, 'False') for words in told), (['scan', 'redis+no://a'], 'True'), ([], 'True')):
+            run = subprocess.run([sys.executable, '-I', '-S', '-B', '-c', code, str(PACKAGE.parent), *words], cwd=self.folder,
+                                 env={**os.environ, 'PICKLESTEP_PROGRAM': find_program()}, capture_output=True, text=True, timeout=600)
+            self.assertEqual(run.stderr.split()[-1:], [found], (words, run.stderr))
+
+    def test_a_package_that_site_imports(self) -> None:
+        """It is loaded once, also where it is the first one that is asked for, and one without a spec is no error."""
+        made = self.folder / 'early'
+        made.mkdir()
+        (made / 'loaded_early.py').write_text("print('runs')\n")
+        code = ("import sys, site, types; sys.path.insert(0, sys.argv[1]); from picklestep import further\n"
+                "def main():\n    sys.path.append(sys.argv[2]); import loaded_early; sys.modules['bare_early'] = types.ModuleType('bare_early')\n"
+                "site.main = main; further.search_when_asked([])\n"
+                "import {}\nprint(getattr({}.__spec__, 'origin', None))")
+        for name, said in (('loaded_early', ['runs', str(made / 'loaded_early.py')]), ('bare_early', ['runs', 'None'])):
+            run = subprocess.run([sys.executable, '-I', '-S', '-B', '-c', code.format(name, name), str(PACKAGE.parent), str(made)],
+                                 cwd=self.folder, capture_output=True, text=True, timeout=600)
+            self.assertEqual((run.stdout.splitlines(), run.stderr), (said, ''))
 
 
 if __name__ == '__main__':

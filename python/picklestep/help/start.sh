@@ -108,7 +108,7 @@ enter() {
         export PICKLESTEP_PROGRAM="$chosen"
     fi
     if command -v python3 >/dev/null; then
-        exec python3 -I ${PYTHONDONTWRITEBYTECODE:+-B} "$package/entrance.py" "$@"
+        exec python3 -I -S ${PYTHONDONTWRITEBYTECODE:+-B} "$package/entrance.py" "$@" # (further.py brings what -S leaves out)
     fi
     echo 'picklestep: python3 (3.8 or later) is not there: only list, objects, calls, form, gate, reach, members, assemble, same and debug work without it' >&2
     exit 2
