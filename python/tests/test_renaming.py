@@ -2,20 +2,25 @@
 
 from __future__ import annotations
 
+import bz2
 import collections
+import dbm.dumb
 import gzip
 import io
 import itertools
+import lzma
 import os
 import pickle
 import pickletools
 import random
 import subprocess
 import sys
+import tarfile
 import tempfile
 import types
 import unittest
 import zipfile
+import zlib
 from pathlib import Path
 from typing import Any, Dict, List, Tuple
 from unittest import mock
@@ -26,6 +31,7 @@ from cut_pickles import shape, whole_pickles
 from pickles import chosen
 from picklestep import NotRenamed
 from picklestep.renaming import files, one, small
+from picklestep.renaming.packed import unpacked
 from picklestep.renaming.pairs import pairs_in, pairs_of
 from scan_support import environment
 
@@ -211,8 +217,70 @@ class Files(unittest.TestCase):
             self.assertEqual([archive.read(name) for name in archive.namelist()], [b'', NEW, NEW, data, b'\x93NUMPY\1\0\4\0|O  ' + NEW])
         self.assertEqual([(member.offset % 64, member.size) for member in picklestep.members(self.folder / 'm.pt')], [(0, len(NEW)), (0, 999)])
 
+    def test_packed_files(self) -> None:
+        """One stream is packed again in the same way, and what says how it was packed stays."""
+        with gzip.GzipFile('old.pkl', 'wb', 1, io.BytesIO(), 7) as file:
+            file.write(OLD)
+            named = file.fileobj
+        with_all = b'\x1f\x8b\x08\x1e\0\0\0\0\x02\x03\x03\0abcname\0said\0'
+        with_all += (zlib.crc32(with_all) & 0xffff).to_bytes(2, 'little') + gzip.compress(OLD)[10:]
+        ways = {'gz': gzip.compress(OLD, mtime=5), 'named': named.getvalue(), 'all': with_all, 'bz2': bz2.compress(OLD, 3), 'xz': lzma.compress(OLD, check=lzma.CHECK_SHA256),
+                **{f'z{level}': zlib.compress(OLD, level) for level in (1, 3, 6, 9)}}
+        self.put(**{f'jobs__{name}': content for name, content in ways.items()})
+        names = sorted(ways)
+        code, lines, errors = self.run_it('oldapp', 'newapp', 'jobs', '--in-place')
+        wanted = [f'jobs/{name}: 2: oldapp.tasks:send -> newapp.tasks:send' for name in names]
+        self.assertEqual((code, lines, errors), (0, [*wanted, f'{len(ways)} imports renamed in {len(ways)} of {len(ways)} files'], ''))
+        unpack = {'bz2': bz2.decompress, 'xz': lzma.decompress, **dict.fromkeys(('gz', 'named', 'all'), gzip.decompress)}
+        for name in names:
+            made = (self.folder / 'jobs' / name).read_bytes()
+            self.assertEqual(unpack.get(name, zlib.decompress)(made), NEW, name)
+            kept = {'gz': 10, 'named': 18, 'all': len(with_all) - len(gzip.compress(OLD)) + 10, 'bz2': 4, 'xz': 12}.get(name, 2)
+            self.assertEqual(made[:kept], ways[name][:kept], name)
+
+    def test_packed_files_that_are_left(self) -> None:
+        tar = io.BytesIO()
+        with tarfile.open(fileobj=tar, mode='w:gz') as file:
+            info = tarfile.TarInfo('a.pkl')
+            info.size = len(OLD)
+            file.addfile(info, io.BytesIO(OLD))
+        one = gzip.compress(OLD)
+        wrong_sum = one[:-8] + b'\0\0\0\0' + one[-4:]
+        left = {'cut': one[:-3], 'more': one + b'more', 'sum': wrong_sum, 'tar': tar.getvalue(), 'two': one + one, 'xz': lzma.compress(OLD)[:-9]}
+        self.put(**{f'jobs__{name}': content for name, content in left.items()}, jobs__early=gzip.compress(OLD[:-1]), jobs__text=bz2.compress(b'some text'))
+        before = self.contents()
+        code, lines, errors = self.run_it('oldapp', 'newapp', 'jobs', '--in-place')
+        why = {**dict.fromkeys(left, 'a container, and nothing is written into one'), 'early': 'reading ends early: F1 ended at 21'}
+        self.assertEqual((code, lines[:-1], errors), (1, [f'jobs/{name}: left as it was: {why[name]}' for name in sorted(why)], ''))
+        self.assertEqual(lines[-1], '0 imports renamed in 0 of 8 files; 7 left as they were; 1 other file without the old names')
+        self.assertEqual(self.contents(), before)
+
+    def test_a_store_of_one_packed_value(self) -> None:
+        """The index of dbm.dumb says how long the value is: a longer one would be cut."""
+        (self.folder / 'jobs').mkdir()
+        with dbm.dumb.open(str(self.folder / 'jobs' / 's'), 'n') as store:
+            store['k'] = zlib.compress(OLD)
+        self.run_it('oldapp', 'a.much.longer.name', 'jobs', '--in-place')
+        with dbm.dumb.open(str(self.folder / 'jobs' / 's'), 'r') as store:
+            self.assertEqual(zlib.decompress(store['k']), OLD)
+
+    def test_an_unknown_check(self) -> None:
+        """Python unpacks an xz stream with a check that it cannot make: the file is left, and the next one is renamed."""
+        made = bytearray(lzma.compress(OLD, check=lzma.CHECK_CRC32))
+        made[7] = made[-3] = 2
+        made[8:12], made[-12:-8] = (zlib.crc32(bytes(flags)).to_bytes(4, 'little') for flags in (made[6:8], made[-8:-2]))
+        self.assertEqual(lzma.decompress(bytes(made)), OLD)
+        self.put(jobs__a=bytes(made), jobs__b=OLD)
+        code, lines, errors = self.run_it('oldapp', 'newapp', 'jobs', '--in-place')
+        self.assertEqual((code, errors, len(lines)), (1, '', 3))
+        self.assertIn('jobs/a: left as it was: it cannot be packed in the same way', lines[0])
+        self.assertEqual(self.contents(), {'jobs/a': bytes(made), 'jobs/b': NEW})
+
+    def test_what_is_no_stream_any_more(self) -> None:
+        self.assertIsNone(unpacked(OLD))
+
     def test_a_folder(self) -> None:
-        self.put(jobs__a=OLD, jobs__b=b'N.', jobs__c=OLD[:-1], jobs__d=b'some text', jobs__e=gzip.compress(OLD), pairs=b'# these\noldapp newapp\n')
+        self.put(jobs__a=OLD, jobs__b=b'N.', jobs__c=OLD[:-1], jobs__d=b'some text', jobs__e=gzip.compress(OLD) + b'more', pairs=b'# these\noldapp newapp\n')
         before = self.contents()
         lines = ['jobs/a: 2: oldapp.tasks:send -> newapp.tasks:send', 'jobs/c: left as it was: reading ends early: F1 ended at 21',
                  'jobs/e: left as it was: a container, and nothing is written into one']

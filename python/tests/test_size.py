@@ -65,6 +65,12 @@ class Sizes(unittest.TestCase):
         plain = [1, 70_000, 'text' * 90, {'a': [0.5, ('b', 'c')]}, ('d',) * 4, [], datetime.date(2026, 1, 2).isoformat(), True]
         for protocol in range(4):
             self.assertEqual(saved(picklestep.size(pickle.dumps(plain, protocol)), 'protocol 5'), len(pickle.dumps(plain, 5)), protocol)
+        for protocol, other in ((0, 2), (1, 2), (0, 3), (1, 3), (0, 4), (2, 4), (3, 4)):
+            answer = picklestep.size(pickle.dumps(plain, protocol), protocol=other)
+            self.assertEqual(saved(answer, f'protocol {other}'), len(pickle.dumps(plain, other)), (protocol, other))
+        self.assertNotIn('protocol 2', [each.how for each in picklestep.size(pickle.dumps(plain, 3), protocol=2).savings])
+        with self.assertRaisesRegex(ValueError, 'one from 2 to 5, and not 1'):
+            picklestep.size(b'N.', protocol=1)
 
     @unittest.skipIf(sys.version_info < (3, 8), 'there are no buffers')
     def test_out_of_band(self) -> None:

@@ -130,20 +130,44 @@ class Renames:
             if _may_hold_others(path, content):
                 if is_archive(path):
                     return self._archive(path)
+                done = self._packed(path, content)
+                if done is not None:
+                    return done
                 if opened(path) is not None:
                     return Done(path, left=_OF_CONTAINER)
                 content, state = _read(path, is_whole=True)
-            made = renamed(content, self.pairs)
-            if made.imports:
-                self._write(path, lambda file: file.write(made.content), state)
-            return Done(path, made.imports)
+            return self._pickle(path, content, state)
         except NotOpened:
             return Done(path, left=_OF_CONTAINER)
         except OSError as error:
             return Done(path, left=error.strerror or str(error))
         except PicklestepError as error:
-            is_other = isinstance(error, NotRenamed) and path not in self.named and not self.pairs.stand_in(content)
+            return Done(path, left=str(error))
+
+    def _pickle(self, path: str, content: bytes, state: os.stat_result, pack: Callable[[bytes], bytes] = bytes) -> Done:
+        """Renames what the pickle of a file imports, and writes the file as it is packed."""
+        try:
+            made = renamed(content, self.pairs)
+            if made.imports:
+                packed = pack(made.content)
+                self._write(path, lambda file: file.write(packed), state)
+            return Done(path, made.imports)
+        except NotRenamed as error:
+            is_other = path not in self.named and not self.pairs.stand_in(content)
             return Done(path, is_other=True) if is_other else Done(path, left=str(error))
+
+    def _packed(self, path: str, head: bytes) -> Optional[Done]:
+        """Renames what the pickle imports that a stream packs. None if the file is no such stream, or another file says where its values end."""
+        from .packed import is_packed, unpacked  # (most files are none)
+        if not is_packed(head) or has_index(path):
+            return None
+        whole, state = _read(path, is_whole=True)
+        stream = unpacked(whole)
+        if stream is None:
+            return None
+        if begins_like_one(stream.content[:ENOUGH]):
+            return Done(path, left=_OF_CONTAINER)
+        return self._pickle(path, stream.content, state, stream.packed)
 
     def _archive(self, path: str) -> Done:
         """Renames what the members of an archive import."""

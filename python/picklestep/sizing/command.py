@@ -17,6 +17,7 @@ from ..waiting import Waiting
 from ..wording import count_of
 from .measure import MOST, Measured, measured, sizes_of
 from .records import PathSize, Saving, Sized, Sizes
+from .savings import NEWEST, OLDEST
 from .treemap import svg
 
 __all__ = ['heading', 'main']
@@ -44,6 +45,8 @@ def _parser() -> argparse.ArgumentParser:
     parser.add_argument('--many', action='store_true', help='FILE has several pickles that follow one another')
     parser.add_argument('--unframed', action='store_true', help='ignore the lengths of frames, so that a pickle that was cut off is read to the cut')
     parser.add_argument('--rows', metavar='N', type=_rows, default=MOST, help=f'print at most N rows of each table ({MOST})')
+    parser.add_argument('--protocol', metavar='N', type=int, choices=range(OLDEST, NEWEST + 1), default=NEWEST,
+                        help=f'say what a pickler of protocol N would save, from {OLDEST} to {NEWEST} ({NEWEST})')
     parser.add_argument('--json', action='store_true', help='print an object of JSON in each line')
     parser.add_argument('--svg', metavar='OUT', help='also write a drawing: each object has an area as large as its bytes')
     return parser
@@ -61,7 +64,7 @@ def main(arguments: List[str]) -> int:
             if options.svg is not None:
                 check_out(options.svg, '' if opened is None else opened.path)
             found = measured(pickle, options.many, options.unframed)
-            answer = sizes_of(found, options.rows)
+            answer = sizes_of(found, options.rows, options.protocol)
         if options.svg is not None:
             _write(found, options.svg)
         lines = _in_json(answer) if options.json else _in_words(answer, options.rows)

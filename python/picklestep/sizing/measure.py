@@ -17,7 +17,7 @@ from ..tasks import Asked, modes
 from .heap import Heap
 from .opcodes import TEXTS, Opcodes
 from .records import Again, MemoSize, PathSize, Sized, Sizes
-from .savings import Memo, memo_of, savings, size_before
+from .savings import NEWEST, OLDEST, Memo, memo_of, savings, size_before
 
 __all__ = ['MOST', 'Measured', 'OVERHEAD', 'measured', 'size']
 
@@ -165,12 +165,13 @@ def measured(pickle: Source, many: bool = False, unframed: bool = False, timeout
     return Measured(pickle, opcodes, heap)
 
 
-def size(pickle: Source, *, many: bool = False, unframed: bool = False, most: int = MOST, timeout: Optional[float] = None,
+def size(pickle: Source, *, many: bool = False, unframed: bool = False, most: int = MOST, protocol: int = NEWEST, timeout: Optional[float] = None,
          memory: Optional[int] = None) -> Sizes:
     r"""Where the bytes of a pickle go: by opcode, by object and path, for the memo and other overhead; and what could be saved.
 
     `many` and `unframed` are as for `listing`. `paths`, `largest` and `again` of the answer have at most so many rows. An object that is shared
-    counts once, at the first path that leads to it.
+    counts once, at the first path that leads to it. `protocol` is one, from 2 to 5, of which `savings` says what it would save; ValueError is raised for
+    another.
 
     >>> answer = size(b'}X\x01\x00\x00\x00a](K\x01K\x02es.')
     >>> for each in answer.paths:
@@ -181,11 +182,13 @@ def size(pickle: Source, *, many: bool = False, unframed: bool = False, most: in
     2 ['a'][0]
     2 ['a'][1]
     """
+    if protocol not in range(OLDEST, NEWEST + 1):
+        raise ValueError(f'the protocol is one from {OLDEST} to {NEWEST}, and not {protocol!r}')
     found = measured(pickle, many, unframed, timeout, memory)
-    return sizes_of(found, most)
+    return sizes_of(found, most, protocol)
 
 
-def sizes_of(found: Measured, most: int) -> Sizes:
+def sizes_of(found: Measured, most: int, protocol: int = NEWEST) -> Sizes:
     """The answer about what was measured."""
     opcodes, heap = found.opcodes, found.heap
     memo = memo_of(opcodes)
@@ -193,4 +196,4 @@ def sizes_of(found: Measured, most: int) -> Sizes:
     elsewhere = sum(found.totals[root] for root in heap.roots if root not in heap.results)
     return Sizes(opcodes.read + opcodes.unread, opcodes.unread, len(opcodes), sum(found.own), heap.count, elsewhere, opcodes.protocol, by_opcode,
                  found.overhead(by_opcode), found.paths(most), found.largest(most), found.memo(memo), found.again(most),
-                 tuple(savings(opcodes, heap, found.sizes, memo)), opcodes.end)
+                 tuple(savings(opcodes, heap, found.sizes, memo, protocol)), opcodes.end)

@@ -1,4 +1,4 @@
-"""What `optimize`, a newer protocol and buffers out of band would save of a pickle, by the sizes of its opcodes."""
+"""What `optimize`, another protocol and buffers out of band would save of a pickle, by the sizes of its opcodes."""
 
 from __future__ import annotations
 
@@ -11,9 +11,10 @@ from .heap import Heap
 from .opcodes import PUTS, Opcodes
 from .records import Saving
 
-__all__ = ['Memo', 'memo_of', 'savings', 'size_before']
+__all__ = ['Memo', 'NEWEST', 'OLDEST', 'memo_of', 'savings', 'size_before']
 
-_NEWEST = 5
+# The protocols whose picklers are asked about: those before have no opcode for a new object.
+OLDEST, NEWEST = 2, 5
 _OF_MEMOIZE = _OF_FRAMES = 4
 _FRAME_SIZE, _PROTO_SIZE = 9, 2
 _FRAME, _BINGET = BY_NAME['FRAME'].code, BY_NAME['BINGET'].code
@@ -83,13 +84,14 @@ def _memo_of_several(opcodes: Opcodes, stores: bytes) -> Memo:
 _STORES, _OTHERS = bytes(code in PUTS for code in range(256)), bytes(not code for code in range(256))
 
 
-def savings(opcodes: Opcodes, heap: Heap, sizes: Sequence[int], memo: Memo) -> Iterator[Saving]:
-    """What could be saved of one pickle that was read to its end; the most comes first."""
+def savings(opcodes: Opcodes, heap: Heap, sizes: Sequence[int], memo: Memo, protocol: int = NEWEST) -> Iterator[Saving]:
+    """What could be saved of one pickle that was read to its end, also by this protocol; the most comes first."""
     if len(opcodes.stops) != 1 or opcodes.unread or not opcodes.end.is_stopped:
         return
     whole = sum(sizes)
     found = [Saving('optimize', whole - _optimized(opcodes, sizes, memo), 0)]
-    found += [Saving(f'protocol {_NEWEST}', whole - _newer(opcodes, heap, sizes, memo), 0, 'about')] if (opcodes.protocol or 0) < _OF_FRAMES else []
+    if (opcodes.protocol or 0) < min(protocol, _OF_FRAMES):
+        found.append(Saving(f'protocol {protocol}', whole - _newer(opcodes, heap, sizes, memo, protocol), 0, 'about'))
     has_long = max(sizes) >= _LEAST_BUFFER
     buffers = [size for code, size in zip(opcodes.codes, sizes) if size >= _LEAST_BUFFER and code in _BUFFERS] if has_long else []
     found.append(Saving('out of band', sum(buffers) - 2 * len(buffers), 0, 'at most'))
@@ -169,24 +171,26 @@ def _size_of_key(name: str, key: int, protocol: int, now: int) -> int:
 
 # --- A newer protocol ---
 
-def _newer(opcodes: Opcodes, heap: Heap, sizes: Sequence[int], memo: Memo) -> int:
-    """How many bytes a pickler of the newest protocol would about write of the same objects."""
-    new = list(sizes)
+def _newer(opcodes: Opcodes, heap: Heap, sizes: Sequence[int], memo: Memo, protocol: int) -> int:
+    """How many bytes a pickler of a newer protocol would about write of the same objects."""
+    new, has_frames = list(sizes), protocol >= _OF_FRAMES
+    changed = _IN_NEWEST if has_frames else _IN_MIDDLE
     for place, size in zip(*opcodes.spelled):
         new[place] = size
     for code in set(opcodes.codes):
         info = BY_CODE[code]
-        shorter = _IN_NEWEST.get(info.name) or _shorter(info, _NEWEST)
+        shorter = changed.get(info.name) or _shorter(info, protocol)
         if shorter is not None:
             new = [shorter(size) if each == code else size for each, size in zip(opcodes.codes, new)]
-    for place in memo.stored:
-        new[place] = 1
+    for key, place in enumerate(memo.stored):
+        new[place] = 1 if has_frames else _size_of_key_in_binary(key)
     keys = {memo.keys[place]: number for number, place in enumerate(memo.stored)}
     for place in memo.taken:
-        new[place] = _size_of_get(keys.get(memo.keys[place], 0))
+        new[place] = _size_of_key_in_binary(keys.get(memo.keys[place], 0))
     rest = list(filter(None, new))
-    filled = sum(_filled(*held) for held in heap.counts()) + _of_imports(heap)
-    return _PROTO_SIZE + sum(rest) + filled + _FRAME_SIZE * sum(1 for _ in frames_around([*rest, *[1] * filled]))
+    filled = sum(_filled(*held) for held in heap.counts()) + (_of_imports(heap) if has_frames else 0)
+    frames = sum(1 for _ in frames_around([*rest, *[1] * filled])) if has_frames else 0
+    return _PROTO_SIZE + sum(rest) + filled + _FRAME_SIZE * frames
 
 
 def _nothing(size: int) -> int:
@@ -205,10 +209,13 @@ def _of_mark(size: int) -> int:
 _IN_NEWEST: Dict[str, Callable[[int], int]] = {
     **dict.fromkeys(('PROTO', 'FRAME', 'MARK', 'APPEND', 'APPENDS', 'SETITEM', 'SETITEMS', 'ADDITEMS', 'GLOBAL'), _nothing),
     **dict.fromkeys(('LIST', 'DICT'), _one), **dict.fromkeys(('POP_MARK', 'OBJ', 'INST', 'FROZENSET'), _of_mark),
-    'UNICODE': _shorter(BY_NAME['BINUNICODE'], _NEWEST) or _one}
+    'UNICODE': _shorter(BY_NAME['BINUNICODE'], NEWEST) or _one}
+# Before protocol 4 imports are lines, and no text is a short one.
+_IN_MIDDLE = {name: size for name, size in _IN_NEWEST.items() if name not in ('GLOBAL', 'UNICODE')}
 
 
-def _size_of_get(key: int) -> int:
+def _size_of_key_in_binary(key: int) -> int:
+    """How many bytes an opcode has that puts or gets an entry of the memo."""
     return 2 if key < 1 << 8 else 5
 
 
@@ -226,7 +233,7 @@ def _of_imports(heap: Heap) -> int:
     for names in heap.names():
         for name in names:
             if name in known:
-                size += _size_of_get(known[name])
+                size += _size_of_key_in_binary(known[name])
             else:
                 known[name] = len(known)
                 size += len(name) + (2 if len(name) < 1 << 8 else 5) + 1
