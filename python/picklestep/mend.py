@@ -60,7 +60,7 @@ def _tried(answer: Mended) -> Iterator[str]:
         adds = f', adds {_lines(len(each.added))} of `calls`' if each.added else ''
         yield f'try {number} keeps {each.opcodes} opcodes{adds}: {_edits(each)}'
     if answer.tries:
-        changes = f' ({answer.changes} changes of a byte were tried)' if answer.changes else ''
+        changes = f' ({answer.changes} changes were tried)' if answer.changes else ''
         yield f'try {answer.taken} is taken; --choose N takes another{changes}'
 
 

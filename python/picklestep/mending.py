@@ -10,17 +10,17 @@ The edits are those of a session, so it is the proved program that makes them an
 
 from __future__ import annotations
 
+import contextlib
 from dataclasses import dataclass
 from itertools import islice
-from typing import Dict, List, Optional, Set, Tuple
+from typing import Dict, List, Optional, Sequence, Set, Tuple
 
 from .addresses import content_in
 from .conversation import REFUSED, ran_of, text_of
 from .errors import PicklestepError, Refused
-from .hints import OF_FRAMES
 from .listed import FRAME_SIZE, fields_of
 from .listing_records import Object
-from .mending_tries import Try, byte_tries, opcodes_of, without_returns
+from .mending_tries import Try, byte_tries, frame_tries, opcodes_of, without_returns
 from .opcodes import BY_NAME
 from .program import run_program
 from .records import End
@@ -35,6 +35,11 @@ __all__ = ['Mended', 'TooCrooked', 'Try', 'mended']
 _MOST_ROUNDS = 200
 # So many objects are dropped one by one; more than these together with all down to the mark.
 _MOST_DROPPED = 1000
+# So many opcodes are gone back over to find the bytes of what is dropped one by one; and so many of the bytes are shown.
+_MOST_GONE_BACK = 100_000
+_MOST_IN_HEX = 16
+# The bytes of a NONE and a STOP that were added.
+_ADDED = 2
 # So many objects are looked at to see whether one can be a key.
 _MOST_LOOKED_AT = 10_000
 
@@ -71,7 +76,7 @@ class Mended:
     its STOP, which stay as they are and were not read.
 
     Where something else than to cut the pickle off keeps a part of it, `tries` has what each way keeps, and `taken` is the number of the one that was
-    taken, from 1. `changes` is how many changes of a byte were made to find them.
+    taken, from 1. `changes` is how many changes of a byte or a length were made to find them.
 
     >>> import picklestep
     >>> picklestep.mended(b']K\\x01a').steps
@@ -98,7 +103,7 @@ def mended(source: Source, many: bool = False, choose: Optional[int] = None) -> 
     >>> for step in made.steps:
     ...     print(step)
     2: FRAME 64 taken away: F7 frame past the end at 2
-    9: 1 byte cut off: F3 truncated at 9
+    9: 1 byte cut off (4d): F3 truncated at 9
     9: STOP added
     9: APPENDS added: 2 objects into list #0
     """
@@ -118,14 +123,16 @@ def mended(source: Source, many: bool = False, choose: Optional[int] = None) -> 
 
 
 def _tries(content: bytes, many: bool, end: End) -> Tuple[List[Try], int]:
-    """Ways to mend what reads to an end, the best one first, and how many changes of a byte were made. None where there is no way but to cut it off."""
+    """Ways to mend what reads to an end, the best one first, and how many changes of bytes were tried. None where there is no way but to cut it off."""
     plain: Optional[Try] = None
     found: List[Try] = []
     changes, less = 0, without_returns(content)
     if less is not None:
         plain, other = _by_cutting(content, many), _by_cutting(less[0], many, less[1])
         found = [other] if other.opcodes > plain.opcodes else []
-    if not (found or _is_no_damage(content, many, end)):
+    if not found and end.code == _PAST_END:
+        found, changes = frame_tries(content, many, end)
+    elif not (found or _is_no_damage(content, many, end)):
         found, changes = byte_tries(content, many, end)
     if not found:
         return [], changes
@@ -138,7 +145,7 @@ def _tries(content: bytes, many: bool, end: End) -> Tuple[List[Try], int]:
 def _is_no_damage(content: bytes, many: bool, end: End) -> bool:
     """Whether a pickle was likely cut off, or is one of several by a pickler that keeps its memo: it is refused where objects of earlier ones come."""
     is_short = end.code == _TRUNCATED and len(content) - (end.offset or 0) <= _MOST_OF_OPCODE
-    return end.code in (_ENDED, _PAST_END) or is_short or many and end.how == 'refused'
+    return end.code == _ENDED or is_short or many and end.how == 'refused'
 
 
 def _by_cutting(content: bytes, many: bool, *before: str) -> Try:
@@ -155,12 +162,12 @@ def _mended_by_cutting(content: bytes, many: bool, *before: str) -> Mended:
         if end.code is None or end.offset is None:
             return Mended(_closed(content, many, steps) if is_cut else content, tuple(steps), len(content) - read)
         code, offset, text = end.code, end.offset, end.text
-        if code in OF_FRAMES:
+        if end.of_frame:
             content = _without_frame(content, many, offset, text, code == 'F8', steps)
         elif code == _OF_PROTOCOL:
             content = _with_protocol(content, many, offset, text, steps)
         elif many and offset < len(content) and _ending(content[:offset], many)[0].is_stopped:
-            steps.append(f'{offset}: {_bytes(len(content) - offset)} cut off: {text}')
+            steps.append(_cut_off(content, offset, text))
             content = content[:offset]
         else:
             content, is_cut = _cut(content, offset, f'refused, {text}' if end.how == 'refused' else text, steps), True
@@ -210,16 +217,26 @@ def _cut(content: bytes, offset: int, text: str, steps: List[str]) -> bytes:
     """The bytes up to an offset, then NONE (since STOP is refused where nothing is built) and STOP."""
     count = len(content) - offset
     if count:
-        steps.append(f'{offset}: {_bytes(count)} cut off: {text}')
+        steps.append(_cut_off(content, offset, text))
     steps.append(f'{offset}: STOP added' + ('' if count else f': {text}'))
     return content[:offset] + b'N.'
 
 
+def _cut_off(content: bytes, offset: int, text: str) -> str:
+    """The step that cuts off what comes from an offset on."""
+    return f'{offset}: {_bytes(len(content) - offset)} cut off ({_in_hex(content[offset:])}): {text}'
+
+
+def _in_hex(piece: bytes) -> str:
+    """How bytes that are dropped begin."""
+    return piece[:_MOST_IN_HEX].hex(' ') + (' ..' if len(piece) > _MOST_IN_HEX else '')
+
+
 def _closed(content: bytes, many: bool, steps: List[str]) -> bytes:
     """A pickle that ends in NONE and STOP which were added, with what was under way closed."""
-    with Session(content, many=many) as session:
+    with Session(content, many=many) as session, _Dropped(content, many) as dropped:
         session.goto(session.where().places - 2)
-        closing = _Closing(session, many, steps)
+        closing = _Closing(session, many, steps, dropped)
         if closing.close():
             closing.script.append(f'delete {closing.place}')
     with Input(content) as given, OwnFile(is_saved_to=True) as made:
@@ -231,12 +248,65 @@ def _closed(content: bytes, many: bool, steps: List[str]) -> bytes:
         return made.content()
 
 
+class _Dropped(contextlib.ExitStack):
+    """Where the bytes are that built what is on the stack before an added NONE and STOP. It goes back through a session of its own: what is asked
+    later lies lower on the stack."""
+
+    def __init__(self, content: bytes, many: bool) -> None:
+        super().__init__()
+        self._content, self._many = content, many
+        self._session: Optional[Session] = None
+        self._left = _MOST_GONE_BACK
+
+    def of_mark(self, place: int) -> str:
+        """Those from a mark on, which is at a place."""
+        session = self._opened()
+        session.goto(place)
+        return self._said(session.where().offset, len(self._content) - _ADDED)
+
+    def of_objects(self, heights: Sequence[int], mark: int) -> List[str]:
+        """Those of the uppermost objects, of which each has so many objects and marks below it; the highest comes first. `mark` is the place of the last
+        mark below them. From there on they are told together where it is too far to go back."""
+        said: List[str] = []
+        end = len(self._content) - _ADDED
+        for height in heights:
+            begin = self._begin(height)
+            if begin is None:
+                return [*said, *[f'among {self.of_mark(mark)}'] * (len(heights) - len(said))]
+            said.append(self._said(begin, end))
+            end = begin
+        return said
+
+    def _begin(self, height: int) -> Optional[int]:
+        """The offset from which the object was built that has so many objects and marks below it: there were no more the last time."""
+        session = self._opened()
+        where = session.where()
+        while where.on_stack + where.marks > height:
+            if not self._left:
+                return None
+            self._left -= 1
+            session.back()
+            where = session.where()
+        return where.offset
+
+    def _opened(self) -> Session:
+        if self._session is None:
+            self._session = self.enter_context(Session(self._content, many=self._many))
+            self._session.goto(self._session.where().places - 2)
+        return self._session
+
+    def _said(self, begin: int, end: int) -> str:
+        where = f'bytes {begin} to {end - 1}' if end - begin > 1 else f'byte {begin}'
+        return f'{where}: {_in_hex(self._content[begin:end])}'
+
+
 class _Closing:
     """Closes what is under way before the NONE at the cursor. `script` has the edits, as lines of a session: there may be as many as open marks."""
 
-    def __init__(self, session: Session, many: bool, steps: List[str]) -> None:
+    def __init__(self, session: Session, many: bool, steps: List[str], dropped: _Dropped) -> None:
         where = session.where()
         self.session = session
+        self._dropped = dropped
         self._many = many
         self.script: List[str] = []
         # The place of the NONE as the session has it, and with the edits.
@@ -244,9 +314,12 @@ class _Closing:
         self.steps = steps
         # What is on the stack, from the bottom: the numbers of objects, cut at the marks.
         self.sections: List[List[int]] = [[]]
-        for entry in session.stack():
+        # The places of the open marks, and how many objects and marks there are up to each.
+        self._marks: List[Tuple[int, int]] = []
+        for height, entry in enumerate(session.stack(), 1):
             if isinstance(entry, Mark):
                 self.sections.append([])
+                self._marks.append((entry.place, height))
             else:
                 self.sections[-1].append(entry.number)
         self.made = where.objects
@@ -258,7 +331,7 @@ class _Closing:
     def close(self) -> bool:
         """Answers whether one object is on the stack then; else there is none."""
         while len(self.sections) > 1:
-            self._close_mark(self.sections.pop())
+            self._close_mark(self.sections.pop(), *self._marks.pop())
         bottom = self.sections[0]
         if len(bottom) > 1:
             self._gather(len(bottom))
@@ -268,7 +341,7 @@ class _Closing:
 
     # --- What stands above a mark ---
 
-    def _close_mark(self, items: List[int]) -> None:
+    def _close_mark(self, items: List[int], mark: int, height: int) -> None:
         below = self.sections[-1]
         filler, target = self._filler(below[-1]) if below else (None, '')
         if not items:
@@ -277,7 +350,7 @@ class _Closing:
             self._add('TUPLE', f'{_objects(len(items))} above the mark')
             below.append(self._new(items))
         else:
-            self._fill(items, filler, target)
+            self._fill(items, filler, target, mark, height)
 
     def _filler(self, number: int) -> Tuple[Optional[str], str]:
         """The opcode by which a pickler fills the object below a mark. None where that is no container."""
@@ -290,17 +363,18 @@ class _Closing:
         way = made.kind if made.kind in ('list', 'set', 'dict') else ways[-1] if ways else ''
         return _FILLERS.get(way), f'{made.kind} #{made.number}'
 
-    def _fill(self, items: List[int], filler: str, target: str) -> None:
+    def _fill(self, items: List[int], filler: str, target: str, mark: int, height: int) -> None:
         kept = len(items)
         if filler == 'SETITEMS':
             kept = next((at for at in range(0, len(items) - 1, 2) if not self._can_be_key(items[at])), len(items) // 2 * 2)
         elif filler == 'ADDITEMS':
             kept = next((at for at, number in enumerate(items) if not self._can_be_key(number)), len(items))
         if not kept or len(items) - kept > _MOST_DROPPED:
-            self._add('POP_MARK', f'{_objects(len(items))} above the mark dropped: no whole item of {target}')
+            self._add('POP_MARK', f'{_objects(len(items))} above the mark dropped ({self._dropped.of_mark(mark)}): no whole item of {target}')
             return
-        for number in reversed(items[kept:]):
-            self._add('POP', f'#{number} dropped: no whole item of {target}')
+        left = range(len(items) - 1, kept - 1, -1)
+        for at, said in zip(left, self._dropped.of_objects([height + at for at in left], mark) if left else ()):
+            self._add('POP', f'#{items[at]} dropped ({said}): no whole item of {target}')
         self._add(filler, f'{_objects(kept)} into {target}')
 
     # --- What is left ---

@@ -1,5 +1,5 @@
 """What `mend` tries where a pickle is damaged and not cut off: the file without the carriage returns of a copy in text mode, and other values of one
-byte near the place where reading ends.
+byte near the place where reading ends, or another length of an opcode there.
 
 The program judges each try. `form` finds the first opcode that is not as usual picklers write it: a change near there, with which all is in the form,
 is the likeliest one, and costs least to ask. Else `list` says which changes let the pickle be read to its STOP. What a try would import or call
@@ -10,18 +10,20 @@ from __future__ import annotations
 
 from collections import Counter
 from dataclasses import dataclass, field
-from typing import Callable, Iterator, List, NamedTuple, Optional, Tuple
+from itertools import islice
+from typing import Callable, Iterable, Iterator, List, NamedTuple, Optional, Tuple
 
 from . import library
 from .errors import Refused
-from .listed import OPCODE, fields_of, left_of
+from .listed import FRAME_SIZE, OPCODE, fields_of, left_of
+from .opcodes import BY_CODE, BY_NAME
 from .records import End
 from .session import Session
 from .short_records import OtherForm
 from .tasks import calls, form, modes
 from .verdicts import other_form
 
-__all__ = ['Found', 'Try', 'byte_tries', 'opcodes_of', 'without_returns']
+__all__ = ['Found', 'Try', 'byte_tries', 'frame_tries', 'opcodes_of', 'without_returns']
 
 # The opcodes before the place where reading ends of which bytes are tried, and how many bytes of each opcode. (No opcode and length has more than 9.)
 _OPCODES_BEFORE = 8
@@ -37,6 +39,7 @@ _ASKING, _STARTING = 1 << 10, 1 << 20
 _MOST_SHOWN = 4
 _MOST_COMPARED = 64
 _STOP = 0x2e
+_FRAME = bytes([BY_NAME['FRAME'].code])
 _RETURN = b'\r\n'
 
 
@@ -49,7 +52,7 @@ class Try:
     >>> for made in picklestep.mended(b'\\x80\\x02]q\\x00\\xffK\\x01K\\x02e.').tries:
     ...     print(made.opcodes, made.steps[0])
     8 5: byte 0xff replaced by 0x28: F2 unknown opcode 0xff at 5
-    4 5: 7 bytes cut off: F2 unknown opcode 0xff at 5
+    4 5: 7 bytes cut off (ff 4b 01 4b 02 65 2e): F2 unknown opcode 0xff at 5
     """
 
     content: bytes = field(repr=False)
@@ -67,15 +70,25 @@ class Found(NamedTuple):
 
 
 class _Change(NamedTuple):
-    """Another value of a byte. `rank` puts the likely ones first: all of the byte at which reading ends and those with one changed bit, then near ones."""
+    """Another value of a byte, or of the length of the opcode `name`. `rank` puts the likely ones first: all of the byte at which reading ends and those
+    with one changed bit, then near ones."""
 
     rank: Tuple[bool, int, int]
     offset: int
-    value: int
+    put: bytes
+    name: str = ''
 
     def made_in(self, content: bytes) -> bytes:
         """The bytes with it."""
-        return b'%b%c%b' % (content[:self.offset], self.value, content[self.offset + 1:])
+        return b'%b%b%b' % (content[:self.offset], self.put, content[self.offset + len(self.put):])
+
+    def step(self, content: bytes) -> str:
+        """What it does to the bytes."""
+        old = content[self.offset:self.offset + len(self.put)]
+        if not self.name:
+            return f'{self.offset}: byte 0x{old.hex()} replaced by 0x{self.put.hex()}'
+        before, after = (int.from_bytes(each, 'little') for each in (old, self.put))
+        return f'{self.offset - 1}: length {before} of {self.name} replaced by {after}'
 
 
 def without_returns(content: bytes) -> Optional[Tuple[bytes, str]]:
@@ -98,9 +111,9 @@ def opcodes_of(content: bytes, many: bool) -> int:
 
 
 def byte_tries(content: bytes, many: bool, end: End) -> Found:
-    """The changes of one byte with which a pickle, whose reading ends early, reads to a STOP at its last byte that leaves nothing on the stack."""
+    """The changes of one byte with which a pickle, whose reading ends early, reads to a STOP at its last byte that leaves nothing on the stack. If there
+    is none, those of one length."""
     assert end.offset is not None
-    reason = f'refused, {end.text}' if end.how == 'refused' else end.text
     found: List[_Change] = []
     made, other = 0, None if many else _other_form(content)
     if other is not None:
@@ -110,23 +123,44 @@ def byte_tries(content: bytes, many: bool, end: End) -> Found:
         positions = _positions(content, many, end.offset, end.item)
         found, more = _found(content, positions, end.offset, _MOST_LISTED, lambda new: _reading(new, many)[1])
         made += more
+    if not found:
+        starts = _starts(content, many, end.offset, end.item)
+        found, more = _good(content, _lengths(content, starts), end.offset, _MOST_LISTED, lambda new: _reading(new, many)[1])
+        made += more
+    return Found(_best(content, found, many, end), made)
+
+
+def frame_tries(content: bytes, many: bool, end: End) -> Found:
+    """The lengths of a frame, which ends behind the last byte, with which a pickle reads to a STOP at its last byte. (One that was cut off has none.)"""
+    assert end.offset is not None
+    found, made = _good(content, _lengths_of_frame(content, end.offset), len(content), _MOST_LISTED, lambda new: _reading(new, many)[1])
+    return Found(_best(content, found, many, end), made)
+
+
+def _best(content: bytes, found: List[_Change], many: bool, end: End) -> List[Try]:
+    """The tries that are shown, the one that keeps most first."""
+    reason = f'refused, {end.text}' if end.how == 'refused' else end.text
     # (of changes that keep as many opcodes the value is likely that is frequent in the pickle, as MEMOIZE is)
-    compared = sorted((-opcodes_of(change.made_in(content), many), change.rank[0], -content.count(change.value), change)
+    compared = sorted((-opcodes_of(change.made_in(content), many), change.rank[0], -content.count(change.put), change)
                       for change in found[:_MOST_COMPARED])
-    return Found([_try(content, change, many, -opcodes, reason) for opcodes, *_, change in compared[:_MOST_SHOWN]], made)
+    return [_try(content, change, many, -opcodes, reason) for opcodes, *_, change in compared[:_MOST_SHOWN]]
 
 
 def _found(content: bytes, positions: List[int], offset: int, most: int, is_good: Callable[[bytes], bool]) -> Tuple[List[_Change], int]:
     """The good ones of the changes of these bytes, and how many were made. Each reads about as many bytes as the offset says, and all of them `most`."""
+    return _good(content, _changes(content, positions), offset, most, is_good)
+
+
+def _good(content: bytes, changes: Iterable[_Change], offset: int, most: int, is_good: Callable[[bytes], bool]) -> Tuple[List[_Change], int]:
+    """The good ones of as many of these changes as are read in time, and how many these are."""
     cost = offset + (_ASKING if library.form(b'N.') is not None else _STARTING)
-    changes = _changes(content, positions)[:max(most // cost, 1)]
-    return [change for change in changes if is_good(change.made_in(content))], len(changes)
+    made = list(islice(changes, max(most // cost, 1)))
+    return [change for change in made if is_good(change.made_in(content))], len(made)
 
 
 def _try(content: bytes, change: _Change, many: bool, opcodes: int, reason: str) -> Try:
     changed = change.made_in(content)
-    step = f'{change.offset}: byte 0x{content[change.offset]:02x} replaced by 0x{change.value:02x}: {reason}'
-    return Try(changed, (step,), opcodes, tuple(_added(content, changed, many)))
+    return Try(changed, (f'{change.step(content)}: {reason}',), opcodes, tuple(_added(content, changed, many)))
 
 
 def _added(old: bytes, new: bytes, many: bool) -> Iterator[str]:
@@ -138,17 +172,42 @@ def _added(old: bytes, new: bytes, many: bool) -> Iterator[str]:
 def _positions(content: bytes, many: bool, offset: int, place: Optional[int]) -> List[int]:
     """The bytes that are tried, the nearest first: of the opcode at an offset and a place, and of those before it. Without a place it is behind all
     that are read."""
-    with Session(content, many=many) as session:
-        place = session.where().places if place is None else place
-        starts = [item.offset for item in session.items(max(place - _OPCODES_BEFORE, 0), place)]
-    bounds = [*starts, offset, len(content)]
+    bounds = [*_starts(content, many, offset, place), len(content)]
     opcodes = [range(start, min(end, start + _BYTES_OF_OPCODE)) for start, end in zip(bounds, bounds[1:])]
     return [position for opcode in reversed(opcodes) for position in opcode]
 
 
+def _starts(content: bytes, many: bool, offset: int, place: Optional[int]) -> List[int]:
+    """The offsets of the opcodes before one at an offset and a place, and this offset."""
+    with Session(content, many=many) as session:
+        place = session.where().places if place is None else place
+        return [*(item.offset for item in session.items(max(place - _OPCODES_BEFORE, 0), place)), offset]
+
+
+def _lengths(content: bytes, starts: List[int]) -> Iterator[_Change]:
+    """All other lengths of these opcodes behind which an opcode begins, the short ones first. (Of a length of one byte all are tried as bytes are.)"""
+    counted = [(start, BY_CODE[content[start]]) for start in reversed(starts) if start < len(content) and content[start] in BY_CODE]
+    widths = [(start, info.name, int(info.form[5])) for start, info in counted if info.form.startswith(('bytes4', 'bytes8'))]
+    for length in range(len(content)):
+        for nearest, (start, name, width) in enumerate(widths):
+            behind = start + 1 + width + length
+            if behind < len(content) and content[behind] in BY_CODE:
+                yield _Change((True, length, nearest), start + 1, length.to_bytes(width, 'little'), name)
+
+
+def _lengths_of_frame(content: bytes, start: int) -> Iterator[_Change]:
+    """The lengths of a frame behind which the pickle ends or another frame begins, which has less than 4 GB."""
+    begin = start + FRAME_SIZE
+    behind = len(content)
+    while behind >= begin:
+        if behind == len(content) or content.startswith(bytes(4), behind + 5):
+            yield _Change((True, behind - begin, 0), start + 1, (behind - begin).to_bytes(FRAME_SIZE - 1, 'little'), 'FRAME')
+        behind = content.find(_FRAME, begin if behind == len(content) else behind + 1, len(content))
+
+
 def _changes(content: bytes, positions: List[int]) -> List[_Change]:
     """All other values of these bytes, the likely ones first. (A STOP in place of another opcode would only leave out what follows.)"""
-    return sorted(_Change(_rank(content[position] ^ value, nearest), position, value)
+    return sorted(_Change(_rank(content[position] ^ value, nearest), position, bytes([value]))
                   for nearest, position in enumerate(positions) for value in range(_OTHERS + 1) if value not in (content[position], _STOP))
 
 

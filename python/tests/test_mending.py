@@ -8,8 +8,10 @@ import decimal
 import io
 import os
 import pickle
+import pickletools
 import random
 import re
+import struct
 import subprocess
 import sys
 import tempfile
@@ -207,7 +209,25 @@ class Crooked(unittest.TestCase):
 
     def test_a_first_opcode_that_is_refused(self) -> None:
         answer = mended(b'0N.')
-        self.assertEqual((answer.content, answer.steps[0]), (b'N.', '0: 3 bytes cut off: refused, S2 stack underflow'))
+        self.assertEqual((answer.content, answer.steps[0]), (b'N.', '0: 3 bytes cut off (30 4e 2e): refused, S2 stack underflow'))
+
+    def test_what_is_dropped_is_said(self) -> None:
+        """With its bytes: from an opcode of pickletools that builds it, or from its mark, up to the next object that is dropped or the end."""
+        long = b'\xff' + bytes(range(20))
+        for data, builders in ((b'}(K\x01K\x02]K\x03', [5, 4]), (b'}(](K\x01K\x02eK\x03', [1]), (b'](}(](K\x01K\x02', [3]), (b'}(X\x01\0\0\0a', [1]),
+                               (b'\x8f(K\x01(K\x02tK\x05]\x94K\x03', [9, 7]), (b'}(K\x01N]\x94\x85K\x01K\x02\x86h\0', [10, 7, 4])):
+            offsets = [place for _, _, place in pickletools.genops(data + b'.')]
+            said = [step for step in mended(data).steps if 'dropped' in step]
+            begins = [offsets[builder] for builder in builders]
+            self.assertEqual(len(said), len(begins), said)
+            for step, begin, end in zip(said, begins, [len(data), *begins]):
+                where = f'bytes {begin} to {end - 1}' if end - begin > 1 else f'byte {begin}'
+                self.assertIn(f'dropped ({where}: {data[begin:end].hex(" ")}): ', step)
+        self.assertIn(f'2: 21 bytes cut off ({long[:16].hex(" ")} ..): F2', mended(b'K\x01' + long).steps[0])
+        with mock.patch.object(mending, '_MOST_GONE_BACK', 1):
+            steps = mended(b'}(K\x01K\x02]K\x03').steps
+        self.assertIn('(bytes 7 to 8: 4b 03)', steps[1])
+        self.assertIn('(among bytes 1 to 8: 28 4b 01 4b 02 5d 4b 03)', steps[2])
 
     def test_too_crooked(self) -> None:
         most = len(chosen(range(mending._MOST_ROUNDS), 20))
@@ -304,6 +324,21 @@ class Damaged(unittest.TestCase):
             chosen_one = mended(damaged, choose=number)
             self.assertEqual((chosen_one.content, chosen_one.steps, chosen_one.tries), (each.content, each.steps, answer.tries))
 
+    def test_a_length_that_fits_again(self) -> None:
+        """Two bytes of a length are wrong: that of a text, of bytes or of a frame, too great or too small."""
+        whole = pickle.dumps({'user': 'ana', 'text': 'z' * 300, 'jobs': [b'z' * 301, 2]}, 4)
+        lengths = {info.name: (place, argument if info.name == 'FRAME' else len(argument)) for info, argument, place in pickletools.genops(whole)
+                   if info.name in ('FRAME', 'BINUNICODE', 'BINBYTES')}
+        self.assertEqual(len(lengths), 3)
+        for name, (place, length) in lengths.items():
+            for wrong in (length ^ 0xf0f0, *[7] * (name != 'FRAME')):
+                damaged = whole[:place + 1] + struct.pack('<I', wrong) + whole[place + 5:]
+                answer = mended(damaged)
+                self.assertEqual(answer.content, whole, (name, wrong, answer.steps))
+                self.assertTrue(answer.steps[0].startswith(f'{place}: length {wrong} of {name} replaced by {length}: '), answer.steps)
+        cut = mended(whole[:-5])
+        self.assertEqual((cut.tries, cut.steps[0]), ((), f'2: FRAME {lengths["FRAME"][1]} taken away: F7 frame past the end at 2'))
+
     def test_a_large_one(self) -> None:
         """A length that is wrong in a pickle of a megabyte, and a damage in its middle."""
         whole = pickle.dumps([{'id': number, 'name': f'user{number}', 'tags': ['a', 'b', number]} for number in range(20_000)], 4)
@@ -329,7 +364,7 @@ class Words(unittest.TestCase):
             self.assertEqual((done.returncode, first), (1, f'try 1 keeps {len(picklestep.listing(whole))} opcodes, adds 4 lines of `calls`: '
                                                            '2: byte 0xff replaced by 0x5d: F2 unknown opcode 0xff at 2'))
             self.assertEqual(second, f'try 2 keeps 3 opcodes: {steps[0]}, and 2 more edits')
-            self.assertRegex(taken, r'^try 2 is taken; --choose N takes another \([0-9]+ changes of a byte were tried\)$')
+            self.assertRegex(taken, r'^try 2 is taken; --choose N takes another \([0-9]+ changes were tried\)$')
             done = run('damaged', 'out', '--choose', '1')
             self.assertEqual((done.returncode, Path(folder, 'out').read_bytes()), (1, whole))
             done = run('damaged', 'none', '--choose', '3')
