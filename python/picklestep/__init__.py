@@ -11,13 +11,13 @@ What is public is imported when it is first used: the entrance starts faster, an
 
 __version__ = '1.1.0'
 
-__all__ = ['Again', 'Answer', 'Argument', 'Brief', 'Briefs', 'Call', 'Calls', 'Change', 'Changed', 'Difference', 'End', 'Extension', 'FoundPickle',
-           'FoundPickles', 'GateAnswer', 'Global', 'Heap', 'Item', 'Items', 'Listing', 'Mark', 'Member', 'MemoSize', 'Mended', 'Name', 'NoResult',
+__all__ = ['Again', 'Answer', 'Argument', 'Brief', 'Briefs', 'Call', 'Calls', 'Change', 'Changed', 'Changer', 'Difference', 'End', 'Extension', 'FoundPickle',
+           'FoundPickles', 'GateAnswer', 'Global', 'Heap', 'Item', 'Items', 'Listing', 'Made', 'Mark', 'Member', 'MemoSize', 'Mended', 'Name', 'NoResult',
            'NotAllowed', 'NotAssembled', 'NotConverted', 'NotOpened', 'NotRenamed', 'Object', 'Objects', 'Opcode', 'OtherForm', 'OutOfMemory', 'Part',
            'PathSize', 'PicklestepError', 'PlainValue', 'ProgramError', 'PythonSource', 'Ran', 'Reach', 'ReachAnswer', 'Reached', 'Ref', 'Refused',
            'Renamed', 'RenamedImport', 'SameAnswer', 'Saving', 'Session', 'Shown', 'ShownObjects', 'Sized', 'Sizes', 'Step', 'Stored', 'TimedOut',
            'TooCrooked', 'TooLarge', 'Try', 'Value', 'Where', 'assemble', 'calls', 'check', 'compare', 'convert', 'form', 'gate', 'listing', 'members',
-           'mended', 'objects', 'optimize', 'pickles_in', 'reach', 'rename', 'same', 'size', 'source', 'tree']
+           'mended', 'objects', 'opcode_differences', 'optimize', 'pickles_in', 'reach', 'rename', 'same', 'size', 'source', 'tree']
 
 TYPE_CHECKING = False  # (`typing` would be an import)
 if TYPE_CHECKING:
@@ -27,6 +27,7 @@ if TYPE_CHECKING:
     from .assembling import assemble
     from .comparing import Difference, compare
     from .converting import convert
+    from .diff import opcode_differences
     from .errors import NoResult, NotAllowed, NotAssembled, NotConverted, NotOpened, NotRenamed, OutOfMemory, PicklestepError, ProgramError, Refused, TimedOut, TooLarge
     from .listing_records import Change, Object, Opcode
     from .mending import Mended, TooCrooked, Try, mended
@@ -39,7 +40,7 @@ if TYPE_CHECKING:
     from .scan.gating import gate
     from .session import Session
     from .session_answers import Heap, Items, ShownObjects
-    from .session_records import Changed, Item, Mark, Ran, Shown, Step, Stored, Where
+    from .session_records import Changed, Changer, Item, Made, Mark, Ran, Shown, Step, Stored, Where
     from .short_records import GateAnswer, Member, OtherForm, ReachAnswer, SameAnswer
     from .sizing import Again, MemoSize, PathSize, Saving, Sized, Sizes, size
     from .tasks import calls, form, listing, members, objects, reach
@@ -54,6 +55,7 @@ _MODULES = {
     'assembling': ('assemble',),
     'comparing': ('Difference', 'compare'),
     'converting': ('convert',),
+    'diff': ('opcode_differences',),
     'errors': ('NoResult', 'NotAllowed', 'NotAssembled', 'NotConverted', 'NotOpened', 'NotRenamed', 'OutOfMemory', 'PicklestepError', 'ProgramError', 'Refused', 'TimedOut', 'TooLarge'),
     'listing_records': ('Change', 'Object', 'Opcode'),
     'mending': ('Mended', 'TooCrooked', 'Try', 'mended'),
@@ -66,7 +68,7 @@ _MODULES = {
     'scan.gating': ('gate',),
     'session': ('Session',),
     'session_answers': ('Heap', 'Items', 'ShownObjects'),
-    'session_records': ('Changed', 'Item', 'Mark', 'Ran', 'Shown', 'Step', 'Stored', 'Where'),
+    'session_records': ('Changed', 'Changer', 'Item', 'Made', 'Mark', 'Ran', 'Shown', 'Step', 'Stored', 'Where'),
     'short_records': ('GateAnswer', 'Member', 'OtherForm', 'ReachAnswer', 'SameAnswer'),
     'sizing': ('Again', 'MemoSize', 'PathSize', 'Saving', 'Sized', 'Sizes', 'size'),
     'tasks': ('calls', 'form', 'listing', 'members', 'objects', 'reach'),

@@ -13,7 +13,7 @@ from typing import Any, Callable, Iterator, List, Optional, Tuple, TypeVar
 from .addresses import given
 from .aligning import Steps, aligned, gaps
 from .alike import paired
-from .answers import Calls
+from .answers import Calls, Listing
 from .collector import without_collector
 from .comparing import Comparison, Difference, has_same_bytes, shown_line, shown_pair, shown_value
 from .errors import NoResult, PicklestepError, reason
@@ -29,7 +29,7 @@ from .trees import Reading, objects_to_stop, read
 from .waiting import Waiting
 from .wording import shown
 
-__all__ = ['main', 'of_opcodes', 'of_reaches']
+__all__ = ['main', 'of_reaches', 'opcode_differences']
 
 _BLOCK = 1 << 20
 _SECONDS = 3  # (that a million bytes take)
@@ -82,7 +82,7 @@ def _lines(options: argparse.Namespace, progress: Callable[[str], None]) -> List
     first = _read(options.old, old, options, Heap.of())
     comparison = Comparison(first, _read(options.new, new, options, first.heap))
     lines = [*map(str, comparison.of_results()), *of_reaches(old, new, options.unframed, comparison, options.full)]
-    lines += of_opcodes(old, new, options.many, options.unframed) if options.opcodes else []
+    lines += opcode_differences(old, new, many=options.many, unframed=options.unframed) if options.opcodes else []
     lines += [] if options.many else _of_what_is_behind(old, new, options.unframed)
     return lines or [_SPELLINGS] * options.opcodes
 
@@ -136,13 +136,28 @@ def _only_in(one: List[str], other: List[str]) -> Iterator[str]:
             yield text
 
 
-def of_opcodes(old: Source, new: Source, many: bool = False, unframed: bool = False) -> Iterator[str]:
-    """What their protocols and opcodes differ in. Opcodes are compared with those that they stand for, as items of lists are."""
-    answers = [listing(source, many=many, unframed=unframed) for source in (old, new)]
-    if answers[0].protocol != answers[1].protocol:
-        yield f'highest protocol among opcodes: {answers[0].protocol} -> {answers[1].protocol}'
-    one, other = answers
-    keys = [[read for _, read in answer.each(_compared)] for answer in answers]
+@without_collector()
+def opcode_differences(old: Source, new: Source, *, many: bool = False, unframed: bool = False, timeout: Optional[float] = None,
+                       memory: Optional[int] = None) -> List[str]:
+    r"""What the protocols and opcodes of two pickles differ in, a line each: none where all opcodes and arguments are the same. `many` and `unframed`
+    are as for `listing`. Each pickle is compared as far as it can be read.
+
+    Opcodes are compared with those that they stand for, as `compare` does with items of lists: `+` is only in the new pickle, `-` only in the old one.
+
+    >>> for line in opcode_differences(b'](K\x01K\x02e.', b'](K\x01K\x05K\x06e.'):
+    ...     print(line)
+    opcode at 4: BININT1 2 -> 5
+    + opcode at 6: BININT1 6
+    """
+    if has_same_bytes(old, new):
+        return []
+    one, other = (listing(source, many=many, unframed=unframed, timeout=timeout, memory=memory) for source in (old, new))
+    protocols = [f'highest protocol among opcodes: {one.protocol} -> {other.protocol}'] if one.protocol != other.protocol else []
+    return [*protocols, *_of_opcodes(one, other)]
+
+
+def _of_opcodes(one: Listing, other: Listing) -> Iterator[str]:
+    keys = [[read for _, read in answer.each(_compared)] for answer in (one, other)]
     steps = Steps.for_items(len(keys[0]) + len(keys[1]))
     for lefts, rights, _ in gaps(aligned(keys[0], keys[1], steps), len(keys[0]), len(keys[1])):
         if not lefts and not rights:

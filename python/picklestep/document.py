@@ -15,7 +15,7 @@ from .errors import Refused
 from .lines import Lines, OpcodeLines, cut_text, silent
 from .object_lines import ObjectLines, ObjectsAsked
 from .pickle_lines import add_items, read_all, read_answers
-from .reaches import CHANGES, IMPORTS, Fields, fields_of, said_in
+from .reaches import CALLS, IMPORTS, Fields, fields_of, said_in
 from .records import Reach, Ref
 from .session import SHIFTS, Session
 from .sources import Input, Source
@@ -29,7 +29,6 @@ MOST_EXACT = 20_000
 MOST_TEXT = 1 << 24
 # The most bytes of a line of `calls` that are shown.
 _MOST_SAID = 4000
-_CALLS = ('inst', 'call', 'new', *CHANGES)
 # How closing lines begin that say that not all of a file was read.
 _OF_CONTAINER = 'begins like a container: '
 _WARNING = 'warning: '
@@ -72,7 +71,7 @@ class Reaches:
         """How the line at an offset is coloured: 'call', 'import', 'other' or ''."""
         at = bisect_left(self.offsets, offset)
         kinds = self.kinds[at:bisect_right(self.offsets, offset)]
-        if any(kind in _CALLS for kind in kinds):
+        if any(kind in CALLS for kind in kinds):
             return 'call'
         if any(kind in IMPORTS for kind in kinds):
             return 'import'
@@ -104,7 +103,7 @@ def _with_reaches(lines: OpcodeLines, final: ObjectLines, calls: bytes, is_part:
 
 
 def _counted(kinds: List[str]) -> Tuple[int, int]:
-    return sum(map(IMPORTS.__contains__, kinds)), sum(map(_CALLS.__contains__, kinds))
+    return sum(map(IMPORTS.__contains__, kinds)), sum(map(CALLS.__contains__, kinds))
 
 
 class Done(NamedTuple):

@@ -6,7 +6,7 @@ from ast import literal_eval
 from typing import TYPE_CHECKING, Dict, NamedTuple, Optional, Sequence, Union
 
 from .arguments import ArgumentValue, encoded
-from .opcodes import BY_NAME
+from .opcodes import BY_NAME, of_kinds, of_rows
 from .patterns import pattern
 
 if TYPE_CHECKING:
@@ -21,8 +21,7 @@ _HOLDERS: Dict[type, Sequence[str]] = {
     bool: ('NEWTRUE', 'NEWFALSE', 'INT'), type(None): ('NONE',), float: ('BINFLOAT', 'FLOAT'), bytearray: ('BYTEARRAY8',),
     int: ('BININT1', 'BININT2', 'BININT', 'LONG1', 'LONG4', 'INT', 'LONG'), bytes: ('SHORT_BINBYTES', 'BINBYTES', 'BINBYTES8'),
     str: ('SHORT_BINUNICODE', 'BINUNICODE', 'BINUNICODE8', 'UNICODE')}
-_PLAIN = frozenset(name for name, info in BY_NAME.items() if not info.takes and info.leaves and (
-    not name.endswith('GET') and not name.startswith('EXT') and name not in ('GLOBAL', 'INST', 'PERSID', 'MARK', 'PROTO', 'FRAME')))
+_PLAIN = frozenset(of_rows('push', 'buffer')).difference(of_kinds('global', 'persistent'))
 _MADE = pattern(r'(bytearray|float)\((.*)\)|-?(?:inf|nan)')
 # Texts of Python 2, and what is put in their place where a sign is beyond ASCII: Python 3 would not load its bytes, or another text of them.
 _LEGACY = {'STRING': 'UNICODE', 'BINSTRING': 'BINUNICODE', 'SHORT_BINSTRING': 'BINUNICODE'}

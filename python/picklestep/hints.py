@@ -4,15 +4,15 @@ from __future__ import annotations
 
 from typing import Iterator, Optional, Set, Tuple
 
-__all__ = ['ARRAY', 'AT_FRAMES', 'FRAME', 'IN_FRAMES', 'OF_FRAMES', 'OLD_TORCH', 'PAST_END', 'WRAPPER', 'Watch', 'is_array_wrapper', 'of_array', 'of_frame']
+__all__ = ['ARRAY', 'AT_FRAMES', 'FRAME', 'IN_FRAMES', 'OLD_TORCH', 'PAST_END', 'WRAPPER', 'Watch', 'is_array_wrapper', 'of_array', 'of_frame']
 
 # The lines, with a place for an offset, and for the word that reads on.
 ARRAY = ('a joblib file goes on at {} with an array, which is not read here: `picklestep scan FILE` reads on behind it, and `picklestep calls FILE` too if '
          'joblib wrote the file')
 FRAME = 'what is in that frame is not read: `picklestep {} --unframed FILE` does, `picklestep mend FILE OUT` keeps it'
 
-# What ends a reading at a frame: as an opcode like others it does not.
-OF_FRAMES = ('F6', 'F7', 'F8')
+# What ends a reading at a frame, in lines that are read as they pass by. (What is read as JSON says it by `of_frame`.)
+_OF_FRAMES = ('F6', 'F7', 'F8')
 # A frame in a frame, and an opcode that crosses the end of one: the reading of raw numbers does not get there.
 IN_FRAMES = ('F6', 'F8')
 # An argument and a frame that end behind the last byte: that of raw numbers does.
@@ -26,7 +26,7 @@ WRAPPER = _WRAPPER.encode('ascii')
 OLD_TORCH = b'\x8a\x0al\xfc\x9cF\xf9 j\xa8P\x19'
 _STATE, _MADE, _TO = ': state ', ' as #', ' to #'
 _FAULT = 'fault: F'
-_ENDED = tuple(f'\nfault: {code} ' for code in OF_FRAMES)
+_ENDED = tuple(f'\nfault: {code} ' for code in _OF_FRAMES)
 _HEADING = ' may go on:\n'
 
 

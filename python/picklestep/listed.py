@@ -315,7 +315,7 @@ def end_of(fields: Fields, refused: Tuple[Optional[int], Optional[int]]) -> End:
     if how == 'stopped':
         return End(how)
     offset, place = (int(fields['offset']), None) if how == 'fault' else refused
-    return End(how, fields['code'], words_of(fields), offset, place)
+    return End(how, fields['code'], words_of(fields), offset, place, fields.get('of_frame', False))
 
 
 def words_of(fields: Fields) -> str:

@@ -74,7 +74,8 @@ def end_of(fields: Fields, refused_at: Optional[int]) -> End:
     how = fields['how']
     if how == 'stopped':
         return End(how)
-    return End(how, fields['code'], words_of(fields), fields['offset'] if how == 'fault' else refused_at, fields.get('item'))
+    offset = fields['offset'] if how == 'fault' else refused_at
+    return End(how, fields['code'], words_of(fields), offset, fields.get('item'), fields.get('of_frame', False))
 
 
 # --- The same as `objects` prints it ---

@@ -24,7 +24,7 @@ _NAMED, _READONLY = b',"is":"stack-global"', b',"is":"readonly"'
 # What stands before the numbers of changes in JSON, and in the text of `objects`; and between these numbers, and between changes.
 _SIGNS = ('{"kind":"append","value":', '+#'), ('{"kind":"add","value":', '&#'), ('{"kind":"state","value":', '!#'), ('{"kind":"set","key":', '[#')
 _VALUE, _BETWEEN = (',"value":', ']=#'), ('},', ' ')
-_CHANGE, _SET = b'{"kind":"', b'{"kind":"set"'
+_CHANGE = b'{"kind":"'
 # How a line holds an object that was put in, as a value or as a key; and what is around the number of a part.
 _PUT = b'"value":%d}', b'"key":%d,'
 _PART = b'[%d,', b'[%d]', b',%d,', b',%d]'
@@ -58,6 +58,10 @@ class ObjectLines(Lines):
     >>> lines.shown(0), lines.kind(1), list(lines.held(0)), lines.held_count(0)
     ('list +#1', 'none', [HeldObject(how='append', number=1)], 1)
     """
+
+    def __init__(self) -> None:
+        super().__init__()
+        self._counts: Dict[int, Dict[str, int]] = {}  # how many changes of each kind there are, by where the changes begin
 
     # --- One object ---
 
@@ -107,9 +111,20 @@ class ObjectLines(Lines):
 
     def _changes_size(self, begin: int, end: int) -> int:
         """How many letters the text of changes has."""
-        pairs = self.text.count(_SET, begin, end)
-        shorter = sum(self.text.count(sign.encode('ascii'), begin, end) * (len(sign) - len(short)) for sign, short in _SIGNS)
-        return end - begin - shorter - pairs * (len(_VALUE[0]) - len(_VALUE[1])) - (self.text.count(_CHANGE, begin, end) - 1)
+        counts = self._counted(begin, end)
+        shorter = sum(counts.get(_kind_in(sign), 0) * (len(sign) - len(short)) for sign, short in _SIGNS)
+        return end - begin - shorter - counts.get('set', 0) * (len(_VALUE[0]) - len(_VALUE[1])) - (sum(counts.values()) - 1)
+
+    def _counted(self, begin: int, end: int) -> Dict[str, int]:
+        """How many changes of each kind are in a line, of those of which there are some. (There may be millions, and it is asked at each step.)"""
+        if begin not in self._counts:
+            left, counts = self.text.count(_CHANGE, begin, end), {}
+            for sign, _ in _SIGNS:
+                count = self.text.count(sign.encode('ascii'), begin, end) if left else 0
+                left -= count
+                counts.update({_kind_in(sign): count} if count else {})
+            self._counts[begin] = counts
+        return self._counts[begin]
 
     # --- What objects hold ---
 
@@ -128,10 +143,15 @@ class ObjectLines(Lines):
     def held_count(self, number: int, apart: bool = False) -> int:
         """How many there are, where a key counts as one with its value; with `apart` it does not."""
         _, parts, changes = self._spans(*self.span(number))
-        of_parts, of_changes = self._part_count(*parts), self.text.count(_CHANGE, *changes)
+        counts = self._counted(*changes)
+        of_parts, of_changes = self._part_count(*parts), sum(counts.values())
         if apart:
-            return of_parts + of_changes + self.text.count(_SET, *changes)
+            return of_parts + of_changes + counts.get('set', 0)
         return of_changes + (of_parts // 2 if self.kind(number) == 'dict' else of_parts)
+
+    def change_counts(self, number: int) -> Dict[str, int]:
+        """How many changes an object has of each kind of which there are some."""
+        return self._counted(*self._spans(*self.span(number)).changes)
 
     def is_data(self, number: int) -> bool:
         """Whether objects hold an object, and not only imports as their names."""
@@ -183,6 +203,11 @@ class ObjectsAsked(ObjectLines):
             self._starts[at] = len(self.text)
             self.text += b''.join(short_lines([self._ask(b'show %d' % at)]))
         return self._starts[at]
+
+
+def _kind_in(sign: str) -> str:
+    """The kind of the changes that begin so."""
+    return sign.split('"')[3]
 
 
 def _fields(line: bytes) -> Fields:

@@ -18,7 +18,7 @@ from .arguments import opcode
 from .collector import without_collector
 from .errors import NotConverted, PicklestepError, reason
 from .listed import Fields, argument_of, key_of
-from .opcodes import BY_NAME
+from .opcodes import BY_NAME, of_rows
 from .printing import print_text
 from .sameness import require_same
 from .saving import naming, written_whole
@@ -29,8 +29,7 @@ from .waiting import Waiting
 
 __all__ = ['SPELLINGS', 'framed', 'frames_around', 'in_frames', 'main', 'optimize']
 
-_PUTS = ('PUT', 'BINPUT', 'LONG_BINPUT', 'MEMOIZE')
-_GETS = ('GET', 'BINGET', 'LONG_BINGET')
+_PUTS, _GETS = of_rows('put', 'memoize'), of_rows('get')
 _MEMO = frozenset(_PUTS + _GETS)
 # Opcodes that make the same object of the same argument, the shortest first.
 SPELLINGS: Sequence[Sequence[str]] = (

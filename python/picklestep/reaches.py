@@ -13,12 +13,18 @@ from typing import Any, Callable, Dict, List, Optional, Tuple, Union
 from .listed import Fields, fields_in, fields_of, words_of
 from .records import Brief, Briefs, End, Extension, Global, Name, Reach, Ref, Value
 
-__all__ = ['CHANGES', 'EVENTS', 'IMPORTS', 'Fields', 'check_texts', 'end_of', 'fields_in', 'fields_of', 'name_of', 'plainly_in', 'reach_of', 'said_in', 'text_of', 'value_of']
+__all__ = ['ASKED', 'CALLED', 'CALLS', 'CHANGES', 'EVENTS', 'IMPORTS', 'Fields', 'check_texts', 'end_of', 'fields_in', 'fields_of', 'name_of', 'plainly_in',
+           'reach_of', 'said_in', 'text_of', 'value_of']
 
+# The kinds of lines that come from an opcode. The others say how it all ended. (INST imports and calls.)
 IMPORTS = ('import', 'inst')
+CALLED = ('inst', 'call', 'new')
 CHANGES = ('state', 'append', 'set', 'add')
-# The kinds of lines that come from an opcode. The others say how it all ended.
-EVENTS = frozenset((*IMPORTS, *CHANGES, 'call', 'new', 'persistent', 'buffer', 'readonly'))
+# What is asked of the program that loads the pickle.
+ASKED = ('persistent', 'buffer')
+EVENTS = frozenset((*IMPORTS, *CALLED, *CHANGES, *ASKED, 'readonly'))
+# What the program counts as calls.
+CALLS = (*CALLED, *CHANGES)
 _CONSTANTS: Dict[str, Optional[bool]] = {'none': None, 'true': True, 'false': False}
 # What a text is called that cannot be decoded, by its kind.
 _RAW = {'text': 'raw', 'string': 'raw string'}
@@ -198,7 +204,7 @@ def end_of(closing: Dict[str, Fields], refused_at: Optional[int] = None) -> End:
     if fields['how'] == 'refused':
         return End('refused', fields['code'], words_of(fields), refused_at, int(fields['item']))
     fields = fields if fields['how'] != 'stopped' else closing['unsure']
-    return End(fields.get('how', 'unsure'), fields['code'], words_of(fields), int(fields['offset']))
+    return End(fields.get('how', 'unsure'), fields['code'], words_of(fields), int(fields['offset']), of_frame=fields.get('of_frame', False))
 
 
 # --- Lines for people ---

@@ -7,18 +7,16 @@ from __future__ import annotations
 
 import struct
 from dataclasses import replace
-from typing import Callable, NamedTuple, Optional, Sequence, Tuple, Union
+from typing import Callable, Iterator, NamedTuple, Optional, Sequence, Tuple, Union
 
 from .listing_records import Opcode
-from .patterns import pattern
 from .records import Argument, End
 
-__all__ = ['Line', 'LinesError', 'begins_with_offset', 'behind_word', 'end_of_line', 'frame_length', 'has_key', 'key_in',
+__all__ = ['Line', 'LinesError', 'begins_with_offset', 'behind_word', 'end_of_line', 'frame_length', 'has_key', 'line_begins',
            'line_of', 'mark_in', 'moved_line', 'offset_at', 'opcode_of', 'renumbered', 'with_mark', 'with_offset', 'without_left']
 
-# A text in quotes, or the number of an object.
-_QUOTED_OR_NUMBER = pattern(r"'[^'\\]*(?:\\.[^'\\]*)*'|#([0-9]+)")
 _LEFT_BEGINS = b'left: '
+_DIGITS = '0123456789'
 
 
 class LinesError(ValueError):
@@ -92,13 +90,13 @@ _MARK = '(MARK at '
 _TO_NAME, _MARK_WIDTH = 7, 4
 
 
-def key_in(line: str) -> str:
-    """The key of the memo in the line of an opcode that stores an object there.
+def line_begins(code: str, name: str, marks: int) -> bytes:
+    """How the line of an opcode begins behind its offset, where so many marks are open.
 
-    >>> key_in('    2: q    BINPUT     17'), key_in('    2: \\\\x94 MEMOIZE    (as 0)')
-    ('17', '0')
+    >>> line_begins('e', 'APPENDS', 1)
+    b': e        APPENDS'
     """
-    return line.rstrip(')').rpartition(' ')[2]
+    return f': {code:{_TO_NAME - 3}} {" " * _MARK_WIDTH * marks}{name}'.encode('ascii')
 
 
 def mark_in(line: str) -> Optional[int]:
@@ -172,7 +170,42 @@ def renumbered(line: str, moved: Callable[[int], object]) -> str:
     >>> renumbered("#3 inst 'a' '#1' (#1)", lambda number: number + 4)
     "#7 inst 'a' '#1' (#5)"
     """
-    return _QUOTED_OR_NUMBER.sub(lambda match: match[0] if match[1] is None else f'#{moved(int(match[1]))}', line)
+    return ''.join(part if is_quoted else _moved(part, moved) for part, is_quoted in _quoted_parts(line))
+
+
+def _quoted_parts(line: str) -> Iterator[Tuple[str, bool]]:
+    """The parts of a line, and which of them stand in quotes. A quote that no other one ends is no more than a sign.
+
+    >>> list(_quoted_parts(r"#3 'it\\'s #1' (#1)"))
+    [('#3 ', False), ("'it\\\\'s #1'", True), (' (#1)', False)]
+    """
+    begin = 0
+    while (quote := line.find("'", begin)) >= 0:
+        end = line.find("'", quote + 1)
+        while end >= 0 and _is_escaped(line, end):
+            end = line.find("'", end + 1)
+        if end < 0:
+            break
+        yield line[begin:quote], False
+        yield line[quote:end + 1], True
+        begin = end + 1
+    yield line[begin:], False
+
+
+def _is_escaped(line: str, at: int) -> bool:
+    """Whether the quote at a place stands behind a backslash that is none of a pair. (A quote is before all of them.)"""
+    begin = at
+    while line[begin - 1] == '\\':
+        begin -= 1
+    return (at - begin) % 2 == 1
+
+
+def _moved(text: str, moved: Callable[[int], object]) -> str:
+    """A text without quotes, whose objects have other numbers."""
+    first, *others = text.split('#')
+    behind = [each.lstrip(_DIGITS) for each in others]
+    numbers = [each[:len(each) - len(rest)] for each, rest in zip(others, behind)]
+    return first + ''.join(f'#{moved(int(number)) if number else ""}{rest}' for number, rest in zip(numbers, behind))
 
 
 def with_offset(end: End, offset: int) -> End:

@@ -15,7 +15,6 @@ from .changes import changed
 from .collector import without_collector
 from .errors import NoResult
 from .heaps import FILLED, Filled, Heap, heap_of, plain_value, same_in
-from .hints import OF_FRAMES
 from .listing_records import Object
 from .program import check_timeout
 from .records import Extension, Global, Name, Ref
@@ -226,7 +225,7 @@ def objects_to_stop(pickle: Source, many: bool, unframed: bool, timeout: Optiona
     """The objects that a pickle makes. Raises NoResult where reading ended before its STOP."""
     answer = objects(pickle, many=many, unframed=unframed, timeout=timeout, memory=memory)
     if not answer.end.is_stopped or not answer.results:
-        raise NoResult(answer.end.text, answer.end.code in OF_FRAMES)
+        raise NoResult(answer.end.text, answer.end.of_frame)
     return answer
 
 

@@ -506,6 +506,11 @@ class Diff(unittest.TestCase):
         self.assertEqual(self.diff(of[2], of[4], '--opcodes'),
                          ['highest protocol among opcodes: 2 -> 4', 'opcode at 0: PROTO 2 -> 4', '+ opcode at 2: FRAME 6', '- opcode at 3: BINPUT 0', '+ opcode at 12: MEMOIZE'])
         self.assertEqual(self.diff(of[1], of[2]), [])
+        self.assertEqual(picklestep.opcode_differences(of[2], of[3]), ['opcode at 0: PROTO 2 -> 3'])
+        self.assertEqual(picklestep.opcode_differences(of[3], of[3]), [])
+        self.assertEqual(picklestep.opcode_differences(b'N.', b'N.N.'), [])
+        self.assertEqual(picklestep.opcode_differences(b'N.', b'N.N.', many=True), ['+ opcode at 2: NONE', '+ opcode at 3: STOP'])
+        self.assertEqual(picklestep.opcode_differences(b'K\x01K', b'K\x02.', unframed=True), ['opcode at 0: BININT1 1 -> 2', '+ opcode at 2: STOP'])
         self.assertEqual(self.diff(b'X\x01\0\0\0a.', b'X\x01\0\0\0b.', '--opcodes'), ["result: 'a' -> 'b'", "opcode at 0: BINUNICODE 'a' -> 'b'"])
         for old, new, told in ((b'I5\n.', b'I 5\n.', "INT b'5' -> b' 5'"), (b'F1.5\n.', b'F1.50\n.', "FLOAT b'1.5' -> b'1.50'"),
                                (b"S'a'\n.", b'S"a"\n.', """STRING b"'a'" -> b'"a"'""")):

@@ -81,10 +81,21 @@ class Answers(unittest.TestCase):
             self.assertRegex(said, r'`picklestep source --unframed FILE`.*`picklestep mend FILE OUT`')
         self.assertNotIn('that frame is', picklestep.source(CUT, unframed=True).text)
 
+    def test_what_ends_at_a_frame(self) -> None:
+        """A frame in a frame, one that ends behind the last byte, and an opcode that crosses its end; and what ends elsewhere."""
+        frame = b'\x80\x04\x95%b' + bytes(7)
+        at_frames = {'F6': frame % b'\x0a' + b'\x95' + bytes(8) + b'N.', 'F7': frame % b'\x09' + b'N.', 'F8': frame % b'\x01' + b'K\x01.'}
+        for data in (*at_frames.values(), b'N', b'', b'\x7f', b'0.', b'N.'):
+            with picklestep.Session(data) as session:
+                ends = [picklestep.listing(data).end, picklestep.objects(data).end, picklestep.calls(data).end, picklestep.source(data).end, session.where().end]
+            self.assertEqual({end.of_frame for end in ends}, {data in at_frames.values()}, data)
+        self.assertEqual([picklestep.calls(data).end.code for data in at_frames.values()], list(at_frames))
+        self.assertTrue(pickle.loads(pickle.dumps(picklestep.calls(at_frames['F7']).end)).of_frame)
+
     def test_whole_pickles_have_none(self) -> None:
         for path in chosen(REAL, 20):
             answer, written = picklestep.calls(path.read_bytes()), picklestep.source(path.read_bytes())
-            self.assertEqual((len(answer.hints), answer.array_at), (int(answer.end.code in ('F6', 'F7', 'F8')), None), path.name)
+            self.assertEqual((len(answer.hints), answer.array_at), (int(answer.end.of_frame), None), path.name)
             self.assertEqual('Running this does the same' in written[0], written.end.is_stopped and not written.kept, path.name)
 
     def test_source(self) -> None:

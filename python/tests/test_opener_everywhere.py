@@ -42,7 +42,7 @@ ASKS: Dict[str, Callable[[Any], Any]] = {
     'compare': lambda source: picklestep.compare(source, b'N.'), 'convert': functools.partial(picklestep.convert, protocol=0), 'form': picklestep.form,
     'gate': lambda source: bool(picklestep.gate(source, names=NAMES)), 'listing': lambda source: picklestep.listing(source).text,
     'mended': lambda source: picklestep.mended(source).content, 'objects': lambda source: picklestep.objects(source).text, 'optimize': picklestep.optimize, 'reach': picklestep.reach,
-    'same': lambda source: picklestep.same(source, b'N.').text,
+    'opcode_differences': lambda source: picklestep.opcode_differences(source, b'N.'), 'same': lambda source: picklestep.same(source, b'N.').text,
     'rename': functools.partial(picklestep.rename, pairs={'collections': 'other'}), 'size': picklestep.size, 'source': lambda source: picklestep.source(source).text,
     'tree': lambda source: repr(picklestep.tree(source))}
 # Those that are about a container, or about no file.

@@ -15,8 +15,8 @@ PACKAGE = Path(picklestep.__file__).parent
 # (A wheel has the page that is made of the scripts, and not these.)
 SCRIPTS = ROOT / 'python' / 'picklestep'
 DECISIONS = ROOT / 'docs' / 'DECISIONS.md'
-# How many patterns each of them has, of which the page of decisions says why: of calls; of objects. No script of the page has one.
-OF_TEXTS = {'texts.py': 1, 'scan/hash_steps.py': 5, 'scan/made_depths.py': 2}
+# How many patterns each of them has, of which the page of decisions says why: of objects. No script of the page has one.
+OF_TEXTS = {'scan/hash_steps.py': 5}
 OF_SCRIPTS: Dict[str, int] = {}
 # Others of `scan`. They read files of other forms: names of files and of members, headers, and what begins or holds a pickle. Five modules read names and
 # entries of lists (`allow`, `names`, `policy`), and `reading` and `severity` what the package itself says.
@@ -30,7 +30,7 @@ OF_SCAN = {'allow': 1, 'arrays': 1, 'begins': 3, 'canonical/agreed': 2, 'canonic
 OTHERS = {'dap/console.py': 1, 'dap/target.py': 3, 'dap/wire.py': 1, 'protocols/reading.py': 3, 'python_source/names.py': 2, 'python_source/shapes.py': 2,
           'edits.py': 1, 'question.py': 1, 'shell/expressions.py': 2, 'shell/shell.py': 4, 'shell/words.py': 4, 'sources.py': 1, 'unread.py': 7,
           'values.py': 2, 'view/server.py': 2}
-OTHER_SCRIPTS = {'alone/containers.js': 2, 'alone/literals.js': 9, 'alone/opening.js': 8, 'alone/source.js': 2,
+OTHER_SCRIPTS = {'alone/containers.js': 1, 'alone/literals.js': 9, 'alone/opening.js': 8, 'alone/source.js': 2,
                  'alone/source_builder.js': 1, 'alone/source_names.js': 4, 'bytes.js': 1, 'script.js': 2, 'shown.js': 1, 'slow.js': 2,
                  'values.js': 13, 'words.js': 8}
 _IN_SCRIPT = re.compile(r'RegExp\(|[(=!|&,?] ?/(?![/*])')

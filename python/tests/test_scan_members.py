@@ -16,7 +16,8 @@ import zipfile
 import zlib
 from typing import Dict, List, Optional, Tuple, Union
 
-from evasions import tries, wrapper
+import picklestep
+from evasions import tries, with_hole, wrapper
 from picklestep import library
 from picklestep.member_lines import members_of
 from picklestep.scan import Judge, Limits, Options, look, passing
@@ -132,6 +133,22 @@ class Members(ScanCase):
                 self.assertEqual(answer_of(archives.verify, content), wanted)
                 with unittest.mock.patch.object(outlines, '_MOST_READ', 0):
                     self.assertEqual(answer_of(archives.verify, content), answer_of(zips.verify, content))
+
+    def test_a_hole_hides_nothing(self) -> None:
+        """A reader of the directory gets one member, and one in sequence another. So the program names none, and each reader here says why."""
+        content = with_hole(by_zipfile(0, {'evil.pkl': HOSTILE}))
+        with zipfile.ZipFile(io.BytesIO(content)) as archive:
+            self.assertEqual(archive.namelist(), ['a.bin'])
+            self.assertIn(HOSTILE, archive.read('a.bin'))
+        path, why = self.file('hole.zip', content), 'sizes that differ'
+        self.assertIn(why, self.compared(content))
+        with self.assertRaisesRegex(picklestep.NotOpened, f'^not in form: 0: {why}$'):
+            picklestep.members(path)
+        self.assertEqual(picklestep.gate(content, names=['**']).reason, why)
+        looks = looks_at(Judge(Names(['**'])), path)
+        self.assertTrue(any(why in each.text for each in looks), looks)
+        found = picklestep.pickles_in(path)
+        self.assertTrue(any(why in line for line in found.missed), (found, found.missed))
 
     def test_torch_takes_two_names_for_one(self) -> None:
         for names in ((b'a/data.pkl', b'a/DATA.pkl'), (b'a/data.pkl', b'A/data.pkl')):

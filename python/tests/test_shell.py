@@ -401,7 +401,7 @@ class Words(unittest.TestCase):
                 self.assertIsNone(shell.pickle.maker(len(heap)))
                 for made in heap:
                     if made.changes and {change.how for change in made.changes} <= {'append', 'state'}:
-                        changers = [names[place] for place in shell.pickle.changers(made.number)]
+                        changers = [names[place] for place in shell.pickle.changers(made.number).places]
                         self.assertTrue(set(changers) <= {'APPEND', 'APPENDS', 'BUILD'}, changers)
                         self.assertEqual(changers.count('BUILD'), [change.how for change in made.changes].count('state'))
 
@@ -605,7 +605,16 @@ class Words(unittest.TestCase):
             shell.obey('run')
             self.assertIn(f'it is refused here: {code} ', shell.obey('explain'))
             self.assertNotIn('refused', shell.obey('explain 0'))
-        self.assertIn('it takes list #0 [], item #1 1', self.shell(b']K\x01a.').obey('explain 2'))
+
+    def test_explained_by_its_step(self) -> None:
+        """What an opcode that makes nothing takes, changes, stores and puts on the stack, as the machine of Python has it."""
+        for data, place, wanted in ((b']K\x01a.', 2, ['it takes #1 1', 'it changes #0 []']),
+                                    (b'](NNe.', 4, ['it takes the mark of 1, #1 None, #2 None', 'it changes #0 []']),
+                                    (b'](e.', 2, ['it takes the mark of 1']), (b'K\x07q\x05.', 1, ['it stores #0 7 under 5']),
+                                    (b'K\x07q\x050h\x05.', 3, ['it puts #0 7 on the stack']), (b'K\x072.', 1, ['it puts #0 7 on the stack']),
+                                    (b'N(0.', 2, ['it takes the mark of 1']), (b'N(.', 1, []), (b'K\x07.', 1, ['it takes #0 7'])):
+            with self.subTest((data, place)):
+                self.assertEqual([row for row in self.shell(data).obey(f'explain {place}').split('\n') if row.startswith('it ')], wanted)
 
     def test_words_that_fail(self) -> None:
         """The shell goes on, with its edits, whatever happens in a word."""
@@ -705,12 +714,15 @@ class Words(unittest.TestCase):
 
     def test_what_an_opcode_takes_here(self) -> None:
         shell = self.shell(b'](K\x01K\x02e}(K\x03NK\x04Nuc_\nC\n)R}b(0(NN10q\x000' + b'K\x09' * 6 + b'0' * 4 + b'\x86' + b'.')
-        said = {place: line for place in range(len(shell.pickle.lines)) for line in shell.obey(f'explain {place}').split('\n') if line.startswith('it takes')}
+        said = {}
+        for place in range(len(shell.pickle.lines)):
+            rows = [line for line in shell.obey(f'explain {place}').split('\n') if line.startswith(('it takes', 'it changes', 'it stores', 'it puts'))]
+            said.update({place: '; '.join(rows)} if rows else {})
         self.assertEqual(said, {
-            4: 'it takes list #0 [], the mark of 1, items #1 1, #2 2', 11: 'it takes dict #3 {}, the mark of 6, keys and values #4 3, #5 None, #6 4, #7 None',
-            16: 'it takes object #10 _.C(), state #11 {}', 18: 'it takes the mark of 17', 22: 'it takes the mark of 19, objects #12 None, #13 None',
-            23: 'it takes object #10 _.C()', 24: 'it takes object #3 dict of 2', 25: 'it takes object #3 dict of 2',
-            **{place: f'it takes object #{51 - place} 9' for place in range(32, 36)}, 37: 'it takes result #20 tuple of 2'})
+            4: 'it takes the mark of 1, #1 1, #2 2; it changes #0 []', 11: 'it takes the mark of 6, #4 3, #5 None, #6 4, #7 None; it changes #3 {}',
+            16: 'it takes #11 {}; it changes #10 _.C()', 18: 'it takes the mark of 17', 22: 'it takes the mark of 19, #12 None, #13 None',
+            23: 'it takes #10 _.C()', 24: 'it stores #3 dict of 2 under 0', 25: 'it takes #3 dict of 2',
+            **{place: f'it takes #{51 - place} 9' for place in range(32, 36)}, 37: 'it takes #20 tuple of 2'})
         self.assertEqual(self.place(shell), 0)
 
     def test_save(self) -> None:

@@ -59,11 +59,10 @@ def answer(shell: Shell, line: str) -> str:
 
 
 class Unread(unittest.TestCase):
-    """Pickles of any size are taken for large ones, of which it takes long to say what steps changed."""
+    """Pickles of any size are taken for large ones."""
 
     def setUp(self) -> None:
         self._enter(Opened, '_most_waited', 0)
-        self._enter(Opened, 'is_followed', property(lambda opened: False))
 
     def _enter(self, of: object, name: str, value: object) -> None:
         patch = mock.patch.object(of, name, value)

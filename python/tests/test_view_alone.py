@@ -395,10 +395,10 @@ class Alone(InChromium):
 
     def test_about_says_what_stands_on_the_stack_before_and_after(self) -> None:
         self.load()
-        self.pasted((SYSTEM[:-1] + b']K\x07ah\x05.').hex(), 10)
+        self.pasted((SYSTEM[:-1] + b']K\x07aq\x04h\x05.').hex(), 11)
         here = ['nothing → #0 posix.system', 'nothing → mark', "nothing → #1 text 'id'", "mark, #1 text 'id' → #2 tuple (#1)",
                 "#0 posix.system, #2 tuple (#1) → #3 posix.system('id')", 'nothing → #4 list', 'nothing → #5 int 7', '#4 list, #5 int 7 → #4 list +#5',
-                'refused, C3 item 8: S3 no memo entry 5']
+                '#4 list +#5 → #4 list +#5, in the memo under 4', 'refused, C3 item 9: S3 no memo entry 5']
         for place, wanted in enumerate(here):
             self.browser.js(f'void go({place})')
             self.browser.js(SETTLED)

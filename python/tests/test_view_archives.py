@@ -23,6 +23,7 @@ from pathlib import Path
 from typing import Any, Dict, List
 
 import picklestep
+from evasions import with_hole
 from pickles import HOSTILE, ROOT, known_opcodes
 from scan_support import Unseekable
 from test_view_alone import MODELS, InChromium
@@ -192,22 +193,44 @@ class Archives(unittest.TestCase):
         short = bytearray(torch_like({'a': b'N.', 'b': HOSTILE}, False))
         at = short.rfind(b'PK\1\2')
         short[at:at + 4] = b'PK\0\0'
-        whole = torch_like({'a': b'N.'}, False)
-        for found in self.read([self.file(f'{number}.pt', content) for number, content in enumerate((bytes(short), whole + b'behind', b'PK\3\4', whole[:-1]))]):
+        whole, hole = torch_like({'a': b'N.'}, False), with_hole(torch_like({'b': HOSTILE}, False))
+        contents = (bytes(short), whole + b'behind', b'PK\3\4', whole[:-1], hole)
+        for found in self.read([self.file(f'{number}.pt', content) for number, content in enumerate(contents)]):
             self.assertEqual((found['kind'], found['members']), ('zip', []))
             self.assertTrue(found['why'].startswith('not in form: '), found['why'])
 
     def test_what_is_packed(self) -> None:
         objects, numbers = (array_file(descr, HOSTILE) for descr in ("'|O'", "'<f8'"))
         files = {'a.pkl': HOSTILE, 'a.pkl.gz': gzip.compress(HOSTILE), 'a.pkl.z': zlib.compress(HOSTILE), 'b.zlib': zlib.compress(HOSTILE, 9), 'a.npy': objects,
-                 'a.npy.gz': gzip.compress(objects), 'records.npy': array_file("[('a', '<i4'), ('b', '|O')]", HOSTILE)}
+                 'a.npy.gz': gzip.compress(objects)}
         found = self.run_script(_UNPACK, [self.file(name, data) for name, data in files.items()])
         self.assertEqual([each[1] for each in found], [hashlib.sha256(HOSTILE).hexdigest()] * len(files))
-        self.assertEqual([each[0].rpartition('/')[2] for each in found], ['a.pkl', 'a.pkl', 'a.pkl', 'b', 'a', 'a', 'records'])
+        self.assertEqual([each[0].rpartition('/')[2] for each in found], ['a.pkl', 'a.pkl', 'a.pkl', 'b', 'a', 'a'])
         why, cut, twice = self.run_script(_UNPACK, [self.file('numbers.npy', numbers), self.file('cut.gz', gzip.compress(HOSTILE)[:-12]), self.file('two.gz', gzip.compress(HOSTILE) * 2)])
         self.assertEqual(why, 'an array of numpy that holds numbers: there is no pickle in it')
         for each in (cut, twice):
             self.assertTrue(each.startswith('a packed file that is not in form: '), each)
+
+    def test_arrays(self) -> None:
+        """Those that numpy wrote: the pickle is all that follows the header, whose length stands before it."""
+        data = (MODELS / 'numpy_objects.npy').read_bytes()
+        behind = data[10 + struct.unpack('<H', data[8:10])[0]:]
+        long = b"{'descr': '|O', 'fortran_order': False, 'shape': (1,), }".ljust(115) + b'\n'
+        newer = [self.file(f'{version}.npy', b'\x93NUMPY' + bytes((version, 0)) + struct.pack('<I', len(long)) + long + behind) for version in (2, 3)]
+        found = self.run_script(_UNPACK, [MODELS / 'numpy_objects.npy', *newer])
+        self.assertEqual([each[1] for each in found], [hashlib.sha256(behind).hexdigest()] * 3)
+        one = array_file("'|u1'", b'N')
+        numbers = [MODELS / 'numpy_floats.npy', self.file('one.npy', one), self.file('two.npy', one * 2), self.file('none.npy', one[:-1])]
+        self.assertEqual(self.run_script(_UNPACK, numbers), ['an array of numpy that holds numbers: there is no pickle in it'] * 4)
+
+    def test_arrays_in_another_form(self) -> None:
+        """With fields, with a header that is spelled otherwise, that is cut, or that hides a pickle from who looks for a sign."""
+        contents = [array_file(descr, HOSTILE) for descr in ("[('a', '<i4'), ('b', '|O')]", "'O'", "'\\x7cO'", "['f', '|O']")]
+        contents += [contents[1][:size] for size in (6, 8, 9, 40)] + [array_file("'|O'", b'').replace(b'\x01\x00', bytes((1, minor))) for minor in (1, 255)]
+        contents += [b'\x93NUMPY\x02\x00' + size for size in (b'', b'\xff\xff\xff\xff', b'\xff\xff\xff\xff{')]
+        files = [self.file(f'{number}.npy', content) for number, content in enumerate(contents)] + [MODELS / 'numpy_fields.npy']
+        for each in self.run_script(_UNPACK, files):
+            self.assertRegex(each, r'^an array of numpy that is not in form: [0-9]+: .* \(picklestep scan looks into it\)$')
 
     def test_tar(self) -> None:
         """As tarfile writes them, with long names; and one that is cut."""

@@ -11,7 +11,7 @@ import shutil
 import subprocess
 import unittest
 from pathlib import Path
-from typing import Any, List
+from typing import Any, List, Optional, Tuple
 
 from pickles import REAL, ROOT, real_pickles
 from picklestep import Ref, Refused, Session, calls, listing
@@ -140,6 +140,20 @@ class Shown(InNode):
         ran = self.worker.ask('move', what='run', place=0)
         self.assertEqual((ran['said'], ran['code']), ('at 2: refused, S2 stack underflow', 'S2'))
         self.assertEqual(self.worker.ask('effect'), {'place': 2, 'refused': 'C3 item 2: S2 stack underflow'})
+
+    def test_what_an_opcode_does(self) -> None:
+        """What it takes, and what it leaves, with marks by their places below zero; and the key under which it stores something."""
+        data = b'](K\x01K\x02eq\x05(0K\x03ah\x052(0\x94.'
+        does: List[Tuple[List[int], List[int], Optional[int]]] = [
+            ([], [0], None), ([], [-2], None), ([], [1], None), ([], [2], None), ([0, -2, 1, 2], [0], None), ([0], [0], 5), ([], [-7], None), ([-7], [], None),
+            ([], [3], None), ([0, 3], [0], None), ([], [0], None), ([], [0], None), ([], [-13], None), ([-13], [], None), ([0], [0], 1), ([0], [], None)]
+        self.worker.load(data)
+        for place, (before, after, key) in enumerate(does):
+            answer = self.worker.ask('effect')
+            with self.subTest(place):
+                self.assertEqual(([each for each, _ in answer['before']['things']], [each for each, _ in answer['after']['things']], answer.get('memo')),
+                                 (before, after, key))
+                self.assertEqual(self.worker.ask('move', what='step', place=0)['said'], f'at {place + 1}')
 
     def test_refusals_are_those_of_a_session(self) -> None:
         """In the words of the package."""

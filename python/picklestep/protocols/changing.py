@@ -11,7 +11,7 @@ from typing import Iterator, List, Optional, Sequence, Set
 
 from ..collector import without_collector
 from ..errors import NotConverted
-from ..opcodes import BY_CODE, BY_NAME
+from ..opcodes import BY_CODE, BY_NAME, of_kinds
 from ..optimizing import in_frames
 from ..sameness import require_same
 from ..tasks import calls, listing, objects
@@ -27,7 +27,7 @@ PROTOCOLS = range(6)
 _OF_PROTO, _OF_FRAMES, _OF_DOTS = 2, 4, 4
 # From these protocols on a loader takes other names of an import for the same texts: it translates none any more, and takes them apart at their dots.
 _OF_NAMES = 3, _OF_DOTS
-_NAMED = ('GLOBAL', 'STACK_GLOBAL', 'INST', 'EXT1', 'EXT2', 'EXT4')
+_NAMED = of_kinds('global', 'stack-global', 'inst', 'ext')
 
 
 @without_collector()

@@ -5,6 +5,7 @@ from __future__ import annotations
 from dataclasses import replace
 from typing import Callable, Dict, List, Mapping, Optional, Sequence, Tuple
 
+from ..opcodes import of_kinds
 from .lower import sees
 from .reading import Op, Rewriting, Slot, Taken, obey
 
@@ -15,7 +16,7 @@ Names = Mapping[int, Tuple[bytes, bytes]]
 
 _BATCH = 1000
 _BATCHES = {'APPEND': 'APPENDS', 'SETITEM': 'SETITEMS'}
-_PLAIN = ('LIST', 'DICT', 'EMPTY_LIST', 'EMPTY_DICT')
+_PLAIN = of_kinds('list', 'dict')
 
 
 def raised(ops: Sequence[Op], protocol: int, names: Names) -> Tuple[List[Op], List[str]]:

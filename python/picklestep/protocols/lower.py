@@ -5,15 +5,16 @@ from __future__ import annotations
 from dataclasses import replace
 from typing import Callable, Dict, List, Optional, Sequence, Tuple
 
+from ..opcodes import of_kinds
 from .reading import Op, Rewriting, Slot, Taken, obey
 
 __all__ = ['lowered']
 
 # Opcodes that may run code, which may look at what is made at the time.
-_RUNS = frozenset({'REDUCE', 'NEWOBJ', 'NEWOBJ_EX', 'BUILD', 'INST', 'OBJ', 'PERSID', 'BINPERSID'})
+_RUNS = frozenset((*of_kinds('call', 'new', 'new-ex', 'inst', 'obj', 'persistent'), 'BUILD'))
 # Names with more parts are none that Python gives to what is in a class.
 _MOST_PARTS = 100
-_TUPLES = ('TUPLE', 'TUPLE1', 'TUPLE2', 'TUPLE3', 'EMPTY_TUPLE')
+_TUPLES = of_kinds('tuple')
 
 
 def lowered(ops: Sequence[Op], protocol: int) -> Tuple[List[Op], List[str]]:

@@ -568,9 +568,7 @@ class Builder:
 
 
 # The opcodes that make a container, and its kind.
-KINDS = {
-    'EMPTY_LIST': 'list', 'LIST': 'list', 'EMPTY_DICT': 'dict', 'DICT': 'dict', 'EMPTY_SET': 'set', 'FROZENSET': 'frozenset', 'TUPLE': 'tuple',
-    'TUPLE1': 'tuple', 'TUPLE2': 'tuple', 'TUPLE3': 'tuple'}
+KINDS = {info.name: info.kind for info in TABLE if info.kind in ('list', 'dict', 'set', 'frozenset', 'tuple') and info.name != 'EMPTY_TUPLE'}
 
 
 def _are_texts(entries: Sequence[Entry]) -> bool:

@@ -9,7 +9,7 @@ from typing import Iterator, List, Optional
 from ..addresses import opened_in, other_kinds
 from ..answers import Answer
 from ..collector import without_collector
-from ..hints import OF_FRAMES, OLD_TORCH, of_array, of_frame
+from ..hints import OLD_TORCH, of_array, of_frame
 from ..listed import Batch, Listed
 from ..opens import ENOUGH, begins_like_one
 from ..program import check_timeout
@@ -135,7 +135,7 @@ def _written(builder: Builder, listed: Listed, full: bool, is_unframed: bool, un
         writer.lines.append(f'# {listed.kept} bytes after STOP are not read')
     if builder.array_at is not None:
         writer.lines.append(f'# {of_array(builder.array_at)}')
-    if end.code in OF_FRAMES:
+    if end.of_frame:
         writer.lines.append(f'# {of_frame()}')
     writer.lines += [f'# {line}' for line in unread]
     is_whole = end.is_stopped and not listed.kept and builder.array_at is None and not unread

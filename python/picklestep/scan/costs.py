@@ -11,6 +11,7 @@ from __future__ import annotations
 import re
 from typing import Iterable, NamedTuple, Optional
 
+from ..opcodes import codes_of, of_kinds, of_rows
 from ..patterns import pattern
 from .blobs import Blob, Budget
 
@@ -19,7 +20,7 @@ __all__ = ['MOST_OF_MADE', 'MOST_OF_TUPLES', 'MOST_STEPS', 'Cost', 'cost_of_tupl
 # So many steps take some seconds. To come to as many, a pickle has to take tuples, or what calls made, out of its memo: each time doubles at most what its
 # bytes say. (What puts them there otherwise is not in the form that picklers write, which is marked.)
 MOST_STEPS = 100_000_000
-_GETS = (b'h', b'j', b'g')
+_GETS = codes_of(of_rows('get'))
 _MOST_GETS = 27
 _PUT = pattern(rb'[\x85\x86\x87tR\x81\x92o\n](?:\x94|q|r...\0|p[0-9])', re.DOTALL)
 _OF_PUT = 6
@@ -29,9 +30,9 @@ MOST_OF_TUPLES = 100
 # tuples than that. No pickler gets so far, but where its program has set another limit.
 MOST_OF_MADE = 1_000
 # The opcodes that make tuples (by one of them, and from a mark on).
-_TUPLES = (b'\x85', b'\x86', b'\x87')
+_TUPLES = codes_of(name for name in of_kinds('tuple') if name in of_rows('take'))
 _MARK, _FROM_MARK = b'(', b't'
-_CALLS = (b'R', b'\x81', b'\x92', b'i', b'o')
+_CALLS = codes_of(of_kinds('call', 'new', 'new-ex', 'inst', 'obj'))
 # torch's recurrent networks.
 _NETWORKS = 'torch.nn.modules.rnn.'
 

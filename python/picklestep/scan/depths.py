@@ -47,11 +47,13 @@ def cost_in_objects(blob: Blob, budget: Budget, may_be_nested: bool) -> Optional
 
 def _cost_of_made(blob: Blob, budget: Budget) -> Optional[Cost]:
     """The same of what calls made, of which there is much."""
-    from .made_depths import Made  # (few pickles have so much)
+    from ..held import short_tails  # (few pickles have so much)
+    from .made_depths import Made
     made = Made()
-    for lines in _objects(blob, budget):
-        made.take(lines)
-        budget.spend()
+    with closing(_answer(['objects', '--json', '--many'], blob, budget)) as blocks:
+        for tails in short_tails(blocks):
+            made.take(tails)
+            budget.spend()
     if made.depth(budget) <= MOST_OF_MADE:
         return None
     return Cost(f'what calls made in it is nested deeper than {MOST_OF_MADE:,}: to free or to hash it may end the Python that loads it')

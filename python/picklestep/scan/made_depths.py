@@ -1,19 +1,19 @@
-"""How deep what calls made is in one another: by what the program's `objects` says that each object holds."""
+"""How deep what calls made is in one another: by what the program's `objects --json` says that each object holds."""
 
 from __future__ import annotations
 
 from array import array
-from typing import Dict, List, Set, Tuple
+from itertools import compress
+from typing import Dict, List, Sequence, Set, Tuple
 
-from ..patterns import pattern
+from ..held import STATE, holders_of
 from .blobs import Budget
 
 __all__ = ['Made']
 
-# In lines of objects: what each holds, and which of it is a state.
-_HOLDER = pattern(rb'\n#([0-9]+) (tuple|list|dict|set|frozenset|call|new|new-ex|obj|inst) ([^\n]*#[^\n]*)')
-_HELD = pattern(rb'(!?)#([0-9]+)')
-_ONLY_HOLD = (b'tuple', b'list', b'dict', b'set', b'frozenset')
+# What only holds, and what calls made.
+_ONLY_HOLD = frozenset(('tuple', 'list', 'dict', 'set', 'frozenset'))
+_HOLD = _ONLY_HOLD.union(('call', 'new', 'new-ex', 'obj', 'inst'))
 
 
 class Made:
@@ -26,25 +26,25 @@ class Made:
         self._made: Set[int] = set()
         self._states: List[Tuple[int, int]] = []
 
-    def take(self, lines: bytes) -> None:
-        """Goes over lines of objects."""
-        found = _HOLDER.findall(lines)
-        more = int(found[-1][0]) + 1 - len(self._depths) if found else 0
-        self._depths.extend([0] * more)
-        self._is_dict.extend(bytes(max(0, more)))
-        for number, kind, rest in found:
-            holder, held, has_state = int(number), _HELD.findall(rest), False
-            parts = [int(part) for state, part in held if not state]
-            self._is_dict[holder] = kind == b'dict'
-            if kind not in _ONLY_HOLD and len(parts) < len(held):
-                self._states.extend([(holder, int(part)) for state, part in held if state])
-                has_state = True
-            if has_state or max(parts, default=0) > holder or any([part in self._held for part in parts]):
+    def take(self, tails: Sequence[str]) -> None:
+        """Goes over the next objects, by the second parts of their lines."""
+        first = len(self._depths)
+        self._depths.extend([0] * len(tails))
+        self._is_dict.extend(bytes(len(tails)))
+        for holder, kind, given, signs, put in holders_of(first, tails):
+            if kind not in _HOLD:
+                continue
+            is_made, has_state = kind not in _ONLY_HOLD, STATE in signs
+            parts = [*given, *(compress(put, (sign != STATE[0] for sign in signs)) if has_state else put)]
+            self._is_dict[holder] = kind == 'dict'
+            if is_made and has_state:
+                self._states.extend([(holder, part) for sign, part in zip(signs, put) if sign == STATE[0]])
+            if is_made and has_state or max(parts, default=0) > holder or any([part in self._held for part in parts]):
                 self._held[holder] = parts
-                if kind not in _ONLY_HOLD:
+                if is_made:
                     self._made.add(holder)
             else:
-                self._depths[holder] = max([self._depths[part] for part in parts], default=0) + (kind not in _ONLY_HOLD)
+                self._depths[holder] = max([self._depths[part] for part in parts], default=0) + is_made
 
     def depth(self, budget: Budget) -> int:
         """How deep the deepest is. (An object that is in itself is freed in another way.)"""

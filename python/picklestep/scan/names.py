@@ -12,6 +12,7 @@ from typing import Dict, FrozenSet, Iterable, List, NamedTuple, Optional, Patter
 
 from ..errors import PicklestepError
 from ..patterns import pattern
+from ..reaches import ASKED
 from ..wording import shown
 from .entries import refused_line
 
@@ -78,7 +79,7 @@ class Names:
         self._alone.update([name] if _ALONE.search(line.entry) else [])
         is_pattern = '*' in name
         if line.entry:
-            (self._always if is_pattern or name in _NO_IMPORTS else self._entries.setdefault(name, [])).append(line.entry)
+            (self._always if is_pattern or name in ASKED else self._entries.setdefault(name, [])).append(line.entry)
         if is_pattern:
             self.patterns.append((name, _Pattern(name), line.note))
             part = name.partition('.')[0]
@@ -156,8 +157,6 @@ _OF_LISTS = ('call', 'new', 'state', 'fill')
 _ALL = frozenset(_OF_LISTS)
 # Words of a list that let something be called, or made.
 _CALLS = frozenset(('call', 'call()'))
-# What is no import and has a name of its own in the program's gate.
-_NO_IMPORTS = ('persistent', 'buffer')
 # A word behind a colon, and its shape.
 _WORD = pattern(r'([^\s()]+)(\([^()]*\))?')
 # A name that `scan` shows in two parts, since one of them is no plain word: each is in quotes, or is the number of what gives it.

@@ -5,7 +5,7 @@ from __future__ import annotations
 from typing import TYPE_CHECKING, Dict, Iterator, List, NamedTuple, Optional, Sequence, Tuple
 
 from .. import library
-from ..reaches import CHANGES, Fields, reach_of
+from ..reaches import ASKED, CHANGES, Fields, reach_of
 from ..records import Global, Name, Reach, Ref
 from ..sources import Input
 from .blobs import Blob, Budget, JoinedBlob
@@ -32,8 +32,6 @@ _MOST_PLACES = 20
 _MOST_LINES = 200_000
 _MOST_NAMES = 1_000
 _FILLS = ('append', 'set', 'add')
-# What is no import, and has a name of its own in lists.
-_NO_IMPORTS = ('persistent', 'buffer')
 # No list lets this pass, which Python 2 wrote for some instances.
 _INST = 'inst '
 
@@ -227,7 +225,7 @@ class _Lines:
 
     def _done(self, reach: Reach) -> _Done:
         """What a line does, after those before it."""
-        if reach.what == 'import' or reach.what in _NO_IMPORTS:
+        if reach.what == 'import' or reach.what in ASKED:
             done = _Done(reach.what, shown_name(reach.name), _listed(reach.name) or reach.what)
             self._imported[-1 if reach.number is None else reach.number] = done.granted
         elif reach.target is not None:

@@ -8,7 +8,7 @@ from __future__ import annotations
 
 from typing import List, Optional, Set, Tuple
 
-from ..opcodes import BY_NAME, TABLE, OpcodeInfo
+from ..opcodes import BY_NAME, TABLE, OpcodeInfo, of_kinds
 from ..patterns import pattern
 
 __all__ = ['CHECKSUM', 'MOST', 'Walk', 'is_opcode', 'length_at', 'may_begin', 'stops_at_end', 'walk']
@@ -16,8 +16,8 @@ __all__ = ['CHECKSUM', 'MOST', 'Walk', 'is_opcode', 'length_at', 'may_begin', 's
 _PAIR, _LINE, _ONE, _FOUR, _EIGHT, _UNKNOWN = -1, -2, -3, -4, -5, -6
 
 # Opcodes that call something, and those that end a walk.
-_CALLS = frozenset({'REDUCE', 'NEWOBJ', 'NEWOBJ_EX', 'OBJ', 'INST', 'BUILD'})
-_IMPORTS = frozenset({'GLOBAL', 'INST', 'STACK_GLOBAL'})
+_CALLS = frozenset((*of_kinds('call', 'new', 'new-ex', 'inst', 'obj'), 'BUILD'))
+_IMPORTS = frozenset(of_kinds('global', 'stack-global', 'inst'))
 _NUMBERS = frozenset({'INT', 'LONG', 'GET', 'PUT'})
 _STOP, _FRAME, _POP = ord('.'), 0x95, ord('0')
 

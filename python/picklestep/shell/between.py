@@ -22,7 +22,7 @@ from ..printed import offset_of
 from ..records import Ref
 from ..session_records import Mark
 from ..tasks import listing, objects
-from ..texts import behind_word, end_of_line, frame_length, key_in, line_of, mark_in, moved_line, with_mark
+from ..texts import behind_word, end_of_line, frame_length, line_of, mark_in, moved_line, with_mark
 from ..values import PLAIN_KINDS
 
 __all__ = ['MOST_EDITS', 'Between', 'Objects', 'Put', 'Unknown', 'is_known_edit', 'line_put']
@@ -104,8 +104,8 @@ class Stepped(Protocol):
     def stack_at(self, place: int) -> Tuple[Union[Ref, Mark], ...]:
         """What is on the stack at a place, from the bottom."""
 
-    def stores_of(self, number: int) -> List[int]:
-        """The places at which an object was stored before the edits."""
+    def keys_at(self, place: int, number: int) -> List[int]:
+        """The keys of the memo under which an object is stored at a place."""
 
 
 class Between:
@@ -257,14 +257,10 @@ class Between:
         return all(is_pushed if entry is None else isinstance(entry, Ref) for entry in above)
 
     def _is_got(self, number: int) -> bool:
-        """Whether an object may be got from the memo behind the edits, or is stored there."""
+        """Whether an object may be got from the memo behind the edits. (It is stored there only where it is on the top, which it was not at first.)"""
         begin = self._lines.start(self._first)
-        for place in self._session.stores_of(number):
-            key = int(key_in(self._lines.raw(place)))
-            if place >= self._first or any(self._codes.find(code, self._first) >= 0 and self._lines.text.find(end_of_line(name, key), begin) >= 0
-                                           for code, name in _GETS if key < 256 or name != b'BINGET'):
-                return True
-        return False
+        return any(self._codes.find(code, self._first) >= 0 and self._lines.text.find(end_of_line(name, key), begin) >= 0
+                   for key in self._session.keys_at(self._first, number) for code, name in _GETS if key < 256 or name != b'BINGET')
 
     def is_exact(self, made: int) -> bool:
         """Whether the objects are shown as they are at the cursor: where there are few, and their texts are short."""

@@ -14,6 +14,7 @@ from ..edits import unquoted
 from ..errors import Refused
 from ..lines import CODE_BY_NAME
 from ..opcodes import BY_NAME
+from ..reaches import CALLED, IMPORTS
 from ..texts import has_key
 from .expressions import Expression, dotted
 from .opened import Opened
@@ -21,8 +22,6 @@ from .words import NotThere
 
 __all__ = ['BREAKS', 'Break', 'BreakError', 'made_break', 'is_hit', 'next_break']
 
-_IMPORTS = ('import', 'inst')
-_CALLS = ('inst', 'call', 'new')
 # The kinds that take a number.
 _OF_NUMBERS = frozenset(('at', 'memo', 'store', 'change', 'depth'))
 _TAKES = {'opcode': 'the name of one', 'import': 'a pattern, as os.*', 'call': 'a pattern, as os.*'}
@@ -106,7 +105,7 @@ def _store(pickle: Opened, text: str, place: int, step: int) -> Iterator[int]:
 
 
 def _change(pickle: Opened, text: str, place: int, step: int) -> Iterator[int]:
-    places = pickle.changers(int(text)) if pickle.maker(int(text)) is not None else []
+    places = pickle.changers(int(text)).places if pickle.maker(int(text)) is not None else []
     return iter(places[bisect_left(places, place):] if step > 0 else places[:bisect_right(places, place)][::-1])
 
 
@@ -135,7 +134,7 @@ def _reached(kinds: 'tuple[str, ...]') -> 'Callable[[Opened, str, int, int], Ite
 
 
 BREAKS: Dict[str, Callable[[Opened, str, int, int], Iterator[int]]] = {
-    'at': _at_place, 'opcode': _opcode, 'import': _reached(_IMPORTS), 'call': _reached(_CALLS), 'text': _text, 'memo': _memo, 'store': _store,
+    'at': _at_place, 'opcode': _opcode, 'import': _reached(IMPORTS), 'call': _reached(CALLED), 'text': _text, 'memo': _memo, 'store': _store,
     'change': _change, 'depth': _depth, _EACH: _each}
 
 

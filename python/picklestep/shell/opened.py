@@ -3,6 +3,7 @@
 from __future__ import annotations
 
 import contextlib
+import sys
 import threading
 from itertools import islice
 from typing import Any, Callable, Dict, Iterator, List, NamedTuple, Optional, Sequence, Tuple, Union
@@ -21,12 +22,12 @@ from ..part import Part
 from ..python_source.shapes import BRACKETS
 from ..records import Global, Ref
 from ..session import SHIFTS
-from ..session_records import Mark, Where
+from ..session_records import Mark, Step, Where
 from ..sources import Input, Source
-from ..texts import behind_word, key_in
+from ..texts import behind_word
 from ..values import PLAIN_KINDS, kind_value
 from .between import MOST_EDITS, Between, Objects, Put, Unknown, is_known_edit
-from .history import History
+from .traced import Changers, Did, changers, did
 
 __all__ = ['REFUSED', 'Opened']
 
@@ -53,7 +54,7 @@ class _Read(NamedTuple):
     final: ObjectLines
     reaches: Reaches
     listed: int
-    history: Optional[Later[History]]
+    is_finished: bool  # it is known which opcodes make objects
 
 
 class _Stale(Exception):
@@ -74,7 +75,7 @@ class Opened(Part):
     _shown: Optional[Between] = None  # that, while it is shown
     _most_waited = 100_000  # opcodes that are read before the next line is answered
     _here = 0  # where the cursor goes back to after an edit
-    _history: Later[History]
+    _changers: Tuple[int, Dict[int, Changers]] = (0, {})  # what changed objects, in which version
     _edition = 0
     _edited_codes = bytearray()  # the codes of all opcodes, as they are after the edits
     _known: Optional[Dict[str, Any]] = None  # what was read before the latest change
@@ -110,7 +111,6 @@ class Opened(Part):
         except BaseException:
             self._codes, self._known = known
             self._edition += 1
-            self._follow()
             raise
 
     # --- The pickle ---
@@ -120,11 +120,6 @@ class Opened(Part):
         if self._codes is not None and len(self.lines) != len(self._codes):
             self._codes = None
             super()._read()
-        self._follow()
-
-    def _follow(self) -> None:
-        """Finds out what the opcodes change, as long as nothing is edited."""
-        self._history = self._later_history(self.lines, self.listed, self._edition)
 
     def close(self) -> None:
         """Ends the session, which nobody uses any more then."""
@@ -165,18 +160,14 @@ class Opened(Part):
                 self.session.undo()
             self._edits, self._undone, self._known = base.edits, base.undone, None
             self._return(here)
-            self._follow()
             raise
         self.lines, self._final, self.reaches, self.listed, self._makers = read.lines, read.final, read.reaches, read.listed, read.lines.makers
         self.version += 1
         self._content, self._heap, self.edited = (self.version, read.content), None, places_edited(self._edits)
-        if read.history is not None:
-            self._history = read.history
-        else:
+        if not read.is_finished:
             here = self.session.where().place
             self._makers.finish(self._final.readonly_count, self._makes_object)
             self.session.goto(here)
-            self._follow()
 
     @property
     def is_unread(self) -> bool:
@@ -219,11 +210,10 @@ class Opened(Part):
         with self._at(place):
             return self.session.stack()
 
-    def stores_of(self, number: int) -> List[int]:
-        """The places at which an object is stored, as it was before edits that are not read yet."""
-        if not self._history.is_good or not self._history.result().is_whole:
-            raise Unknown
-        return self._history.result().stores_of(number)
+    def keys_at(self, place: int, number: int) -> List[int]:
+        """The keys of the memo under which an object is stored at a place."""
+        with self._at(place):
+            return self.session._memo().keys_of(number)
 
     @contextlib.contextmanager
     def _at(self, place: int) -> Iterator[None]:
@@ -253,19 +243,9 @@ class Opened(Part):
             lines, final, reaches, listed = self._lists(given, len(codes), codes, progress)
             if len(lines) != len(codes):
                 lines, final, reaches, listed = self._lists(given, len(codes), None, progress)
-        history = None
         if _READONLY not in codes:
             lines.makers.finish(final.readonly_count, lambda place, number: False)
-            history = self._later_history(lines, listed, edition)
-        return _Read(content, lines, final, reaches, listed, history)
-
-    def _later_history(self, lines: OpcodeLines, listed: int, edition: int) -> Later[History]:
-        def is_wanted() -> bool:
-            self._free.wait()
-            return self._edition == edition
-
-        until = listed - int(behind_word(lines.closing, 'refused') is not None)
-        return Later(lambda: History(lines, until, is_wanted)).start()
+        return _Read(content, lines, final, reaches, listed, _READONLY not in codes)
 
     def content(self) -> bytes:
         """The bytes of the pickle as it is."""
@@ -303,7 +283,6 @@ class Opened(Part):
             self.session.goto(0)
             back()
             self._return(here)
-            self._follow()
 
         def read() -> None:
             self._return(here)
@@ -332,7 +311,6 @@ class Opened(Part):
         self.version, self._content = version, (version if has_content else 0, self._content[1])
         self._reading = Later(lambda: self._return(here))
         self._reading.start()
-        self._follow()
 
     @property
     def array_at(self) -> Optional[int]:
@@ -349,26 +327,32 @@ class Opened(Part):
             raise Unknown
         return super().maker(number)
 
-    def changers(self, number: int) -> List[int]:
-        """The places of the opcodes that change an object."""
-        made = self.final_object(number)
-        if made is not None and not made.changes:
-            return []
-        return self._history.result().changers(number)
+    def changers(self, number: int, most: int = sys.maxsize) -> Changers:
+        """The places of the opcodes that change an object: all, or of more than `most` at least the first ones."""
+        version, known = self._changers
+        if version != self.version:
+            known = {}
+            self._changers = self.version, known
+        found = known.get(number)
+        if found is None or found.left and len(found.places) <= most:
+            until = self.listed - int(behind_word(self.lines.closing, 'refused') is not None)
+            with self._back():
+                found = known[number] = changers(self.session, self.lines, self._final, number, until, most, self.tell)
+        return found
 
-    @property
-    def is_followed(self) -> bool:
-        """Whether it is known what the opcodes change, for which a large pickle is not waited for."""
-        return self._shown is None and (self._history.is_done or len(self.lines) <= self._most_waited)
+    def did(self, begin: int, end: int, known: int, most: int) -> Did:
+        """What the opcodes from a place on before another did, of which so many objects were known before, and the last entries of the memo."""
+        with self._back():
+            return did(self.session, self.lines.makers.codes, begin, end, known, most)
 
-    def changed(self, begin: int, end: int) -> Sequence[int]:
-        """The objects that the opcodes from a place on before another change, the latest last."""
-        return self._history.result().changed(begin, end)
-
-    def stored(self, begin: int, end: int, most: int) -> Tuple[int, List[Tuple[str, int]]]:
-        """How many objects these opcodes store in the memo, and the last of them, each with its key."""
-        places, objects = self._history.result().stored(begin, end)
-        return len(places), [(key_in(self.lines.raw(place)), number) for place, number in zip(places[-most:], objects[-most:])]
+    @contextlib.contextmanager
+    def _back(self) -> Iterator[None]:
+        """Within it the cursor may go anywhere. Then it is back."""
+        here = self.session.where().place
+        try:
+            yield
+        finally:
+            self.session.goto(here)
 
     def calls_at(self, place: int, line: Line) -> List[str]:
         """What `calls` says of the opcode at a place, of which this is the line."""
@@ -475,12 +459,17 @@ class Opened(Part):
 
     def refusal(self) -> str:
         """Why the opcode at the cursor is refused; nothing where it is not."""
+        return self.step_ahead()[1]
+
+    def step_ahead(self) -> Tuple[Optional[Step], str]:
+        """What the step over the opcode at the cursor does; or none, and why it is refused."""
         try:
             self.session.step()
         except Refused as error:
-            return error.refusal
+            return None, error.refusal
+        step = self.session.trace()
         self.session.back()
-        return ''
+        return step, ''
 
     @property
     def is_exact(self) -> bool:

@@ -14,7 +14,7 @@ from ..diff import of_reaches
 from ..document import Done
 from ..edits import Edit, EditError, of_object, of_value, of_words
 from ..errors import NoResult, PicklestepError, Refused, reason
-from ..hints import OF_FRAMES, of_array, of_frame
+from ..hints import of_array, of_frame
 from ..lines import silent
 from ..opcodes import BY_NAME
 from ..patterns import pattern
@@ -241,19 +241,17 @@ class Shell:
         part = [said_of_part(self.pickle)] if self.pickle.is_part and offset is None else []
         found = [] if array is None or offset is not None and offset < array else [of_array(array)]
         is_at_end = offset is None or end.offset is not None and offset >= end.offset
-        found += [of_frame('shell')] if end.code in OF_FRAMES and is_at_end else []
+        found += [of_frame('shell')] if end.of_frame and is_at_end else []
         return [*part, *(f'({hint[:1].upper()}{hint[1:]}.)' for hint in found)]
 
     def _changed(self, begin: int, known: int, end: int, made: int) -> List[str]:
         """What the opcodes from a place on before another did: the objects that they made, changed and stored, the latest of each."""
         named = [f'#{number} {self.pickle.described(number)}' for number in range(max(known, made - _MOST_STACK), made)]
         rows = latest('made:  ', made - known, named)
-        if not self.pickle.is_followed:
-            return [*rows, 'changed: (this is still being found out)']
-        changed = [number for number in self.pickle.changed(begin, end) if number < known] if known else []
-        rows += latest('changed: ', len(changed), [f'#{number} {self.pickle.described(number)}' for number in changed[-_MOST_STACK:]])
-        count, stored = self.pickle.stored(begin, end, _MOST_STACK)
-        return rows + latest('stored: ', count, [f'{key}: #{number} {self.pickle.described(number)}' for key, number in stored])
+        did = self.pickle.did(begin, end, known, _MOST_STACK)
+        shown = [f'#{number} {self.pickle.described(number)}' for number in did.changed[-_MOST_STACK:]]
+        rows += latest('changed: ', len(did.changed), shown) if did.is_all else [f'changed: {", ".join(["perhaps more", *shown])}']
+        return rows + latest('stored: ', did.stored, [f'{key}: #{number} {self.pickle.described(number)}' for key, number in did.entries])
 
     def _top(self) -> str:
         """The top of the stack, the highest first."""
@@ -524,11 +522,11 @@ class Shell:
         maker = self._maker(text)
         number = self._count(text.lstrip('#'))
         here = self._now()[0]
-        changes = self.pickle.changers(number)
+        places, left = self.pickle.changers(number, _MOST_LINES)
         rows = ['made by', *self._rows(maker, maker + 1, here)]
-        if changes:
-            rows += ['changed by', *(self._row(place, here) for place in changes[:_MOST_LINES])]
-        more = [f'.. {len(changes) - _MOST_LINES} more'] if len(changes) > _MOST_LINES else []
+        if places:
+            rows += ['changed by', *(self._row(place, here) for place in places[:_MOST_LINES])]
+        more = [f'.. {"" if left else f"{len(places) - _MOST_LINES} "}more'] if len(places) > _MOST_LINES else []
         return '\n'.join([*rows, *more, *(self.pickle.kept if self.pickle.is_part else [])])
 
     def _do_show(self, text: str) -> str:

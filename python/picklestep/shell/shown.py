@@ -19,7 +19,7 @@ MOST_BYTES = 256
 
 def latest(word: str, count: int, shown: List[str]) -> List[str]:
     """A line of the last of some things, and how many there are besides; none where there are none."""
-    more = [f'{count - len(shown)} more'] if count > len(shown) else []
+    more = [f'{count - len(shown)}{" more" if shown else ""}'] if count > len(shown) else []
     return [word + ', '.join(more + shown)] if count else []
 
 

@@ -2,7 +2,6 @@
 // Stack, memo and objects, what is imported and called, the result, and what the page says about an opcode and an object.
 
 const PAGE = 200;
-const MOST_DEEP_STACK = 20000; // words of a stack, above which it is not asked for once more at each step
 const MOST_HERE = 28; // letters of an object in About
 
 // A mark on the stack is a number below zero, by the place of its opcode.
@@ -161,7 +160,7 @@ async function reveal(number) {
 // What the selected opcode does, takes and makes.
 function explain() {
   const row = rowAt(view.selected), state = view.state;
-  const isAt = view.selected === state.place && state.stack.more < MOST_DEEP_STACK;
+  const isAt = view.selected === state.place;
   const reached = row ? reachOfRow(row.reach) : '', key = row && state.places ? [state.version, view.selected, isAt, row.opcode, reached].join(' ') : '';
   if (by('opcode').dataset.key === key) return;
   by('opcode').dataset.key = key;
@@ -176,13 +175,14 @@ function explain() {
   if (isAt) showEffect(here[0], key);
 }
 
-// What the opcode at the cursor takes from the stack as it is, and what it leaves there.
+// What the opcode at the cursor takes from the stack as it is, what it leaves there, and what it stores.
 async function showEffect(into, key) {
   const answer = await ask('effect');
   if (by('opcode').dataset.key !== key) return;
   if (answer.refused) into.textContent = `here: refused, ${answer.refused}`;
   else if (answer.before)
-    into.replaceChildren(element('span', 'key', 'here: '), shownTop(answer.before), element('span', 'key', ' → '), shownTop(answer.after));
+    into.replaceChildren(element('span', 'key', 'here: '), shownTop(answer.before), element('span', 'key', ' → '), shownTop(answer.after),
+      ...(answer.memo === undefined ? [] : [element('span', 'key', ', in the memo under '), String(answer.memo)]));
   else into.remove();
 }
 

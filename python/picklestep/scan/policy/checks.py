@@ -8,6 +8,7 @@ from dataclasses import dataclass, field
 from pathlib import Path
 from typing import Dict, Iterator, List, Optional, Set
 
+from ...reaches import ASKED
 from ...wording import shown
 from ..allow import SETS
 from ..looks import Look
@@ -26,8 +27,6 @@ __all__ = ['Used', 'faults']
 _SOON = 30
 # So many entries of a list are named that nothing uses.
 _MOST_ENTRIES = 20
-# What lists have lines for, and is no import.
-_NO_IMPORTS = ('persistent', 'buffer')
 
 
 @dataclass
@@ -115,7 +114,7 @@ class Used:
         named.is_unsure = named.is_unsure or is_unsure
         for pickle in result.pickles:
             named.names.update(found.name for found in pickle.imports)
-            named.names.update(done.what for done in pickle.calls if done.what in _NO_IMPORTS)
+            named.names.update(done.what for done in pickle.calls if done.what in ASKED)
 
     def _add(self, result: Result, look: Look, exceptions: List[PolicyException]) -> None:
         """Counts a mark for the exceptions that are about it. A baseline takes it before them, and the first that has not ended before the others."""

@@ -13,6 +13,7 @@ from __future__ import annotations
 import re
 from typing import Iterator, Optional, Set, Tuple
 
+from ...opcodes import TABLE
 from ...patterns import pattern
 from ..blobs import Blob, LimitMet
 from ..walk import CHECKSUM, MOST, Walk, walk
@@ -47,8 +48,7 @@ _TEXTS = pattern(rb'[\x8cXUTVS\x8d]')
 _BEFORE_STACK_GLOBAL = 600
 
 # Opcodes that take something out of the memo or put it there, each with the width of its number (0: a line).
-_GETS = {ord('g'): 0, ord('h'): 1, ord('j'): 4}
-_PUTS = {ord('p'): 0, ord('q'): 1, ord('r'): 4}
+_GETS, _PUTS = ({info.code: 0 if info.form == 'decimal' else int(info.form[-1]) for info in TABLE if info.row == row} for row in ('get', 'put'))
 _MEMOIZE = 0x94
 _MOST_OF_NUMBER = 20
 

@@ -19,7 +19,7 @@ _BEFORE: Dict[int, int] = {
     each.code: 1 if each.argument.endswith('nl') else 1 + int(each.argument[-1])
     for each in TABLE if each.argument.startswith(('string', 'unicodestring', 'bytes', 'bytearray')) and not each.argument.startswith('stringnl_')}
 _STRING, _UNICODE = ord('S'), ord('V')
-_OF_UTF8 = frozenset(each.code for each in TABLE if each.name.endswith(('BINUNICODE', 'BINUNICODE8')))
+_OF_UTF8 = frozenset(each.code for each in TABLE if each.kind == 'text')
 
 
 class Text(NamedTuple):

@@ -333,22 +333,21 @@ class Document {
     return found;
   }
 
-  // The top of the stack before the opcode at the cursor and after it, as far as they differ; or why it is refused.
+  // What the opcode at the cursor takes from the stack, what it leaves there, and under which key of the memo; or why it is refused.
   effect() {
-    const { place, session } = this, before = session.stack();
+    const { place, session } = this;
     try {
       session.ask('step');
     } catch (error) {
       if (error instanceof Refused) return { place, refused: error.message };
       throw error;
     }
-    const after = session.stack();
-    let kept = 0;
-    while (kept < before.length && before[kept] === after[kept]) kept += 1;
-    if (kept === after.length && kept) kept -= 1; // (what is on top then may have changed)
-    const top = this.top(after.slice(kept));
+    const step = session.ask('trace'), { changed, memo, pushed } = step, isThere = (each) => each !== undefined;
+    const stays = [changed, memo].filter(isThere).map(({ object }) => object);
+    const after = this.top([...stays, ...[pushed].filter(isThere), ...(step.set_mark ? [markOf(place)] : [])]);
     session.ask('back');
-    return { place, before: this.top(before.slice(kept)), after: top };
+    const before = this.top([...stays, ...[step.cut_mark].filter(isThere).map(markOf), ...step.took]);
+    return { place, before, after, ...(memo && { memo: memo.memo }) };
   }
 
   top(entries) {

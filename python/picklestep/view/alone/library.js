@@ -33,11 +33,16 @@ class Library {
     }
   }
 
-  // What a function writes about an input. Where it has no room, it is asked once more, with as much as it needs.
-  answer(name, input) {
+  // The same with several inputs.
+  withInputs([input, ...rest], act, ...places) {
+    return input ? this.withInput(input, (...place) => this.withInputs(rest, act, ...places, ...place)) : act(...places);
+  }
+
+  // What a function writes about inputs. Where it has no room, it is asked once more, with as much as it needs.
+  answer(name, ...inputs) {
     const written = this.take(SIZE_OF_WRITTEN);
-    const fill = (room) => this.withInput(input, (at, length) => {
-      const out = this.take(room), done = this.exports[name](at, length, out, BigInt(room), written), size = this.sizeAt(written);
+    const fill = (room) => this.withInputs(inputs, (...places) => {
+      const out = this.take(room), done = this.exports[name](...places, out, BigInt(room), written), size = this.sizeAt(written);
       if (done === NO_ROOM) {
         this.exports.give(out);
         return size;

@@ -1,18 +1,16 @@
 'use strict';
 // What the pickle imports and calls, by the offsets of the opcodes: the lines of `calls --json`, whose fields docs/reference/json.md has.
 
-const IMPORTS = ['import', 'inst'];
-const CHANGES = ['state', 'append', 'set', 'add'];
-const CALLS = ['inst', 'call', 'new', ...CHANGES];
-const EVENTS = [...IMPORTS, ...CALLS, 'persistent', 'buffer', 'readonly'];
+// The kinds of lines that come from an opcode, and which of these import, call and change something. They come when the worker starts.
+const KINDS = { imports: [], called: [], changes: [], calls: [], events: [] };
 
 const MOST_SAID = 2000; // bytes of a text that are shown
 const WRAPPER = 'NumpyArrayWrapper'; // the class of joblib that stands for an array
 
 // Where else to look for what is not read here: behind an array of joblib, and in a frame at which reading ended.
-function hintsOf({ arrayAt, fault }, { hints }) {
+function hintsOf({ arrayAt, isOfFrame }, { hints }) {
   const array = arrayAt === null ? [] : [hints.array.replace('{}', arrayAt)];
-  return hints.ofFrames.includes(fault) ? [...array, hints.frame.replace('{}', 'source')] : array;
+  return isOfFrame ? [...array, hints.frame.replace('{}', 'source')] : array;
 }
 
 // The fields of a line, whose long texts are cut: how many bytes more they have is in fields that the program does not write.
@@ -44,7 +42,7 @@ class Reaches {
     this.behind = [];
     this.arrayAt = null; // where joblib's first array begins,
     this.arrays = new Set(); // and the numbers of what stands for such arrays
-    this.fault = ''; // at which the reading ended, by its code
+    this.isOfFrame = false; // whether the reading ended at a frame
     this.counts = [0, 0];
     this.read();
   }
@@ -65,15 +63,15 @@ class Reaches {
     let at = 0;
     for (; at < this.lines.length; at += 1) {
       const fields = this.fieldsAt(at), { kind, offset, object } = fields;
-      if (!EVENTS.includes(kind)) break;
+      if (!KINDS.events.includes(kind)) break;
       this.offsets.add(offset);
       this.kinds.push(kind);
       this.watch(fields);
       this.imported.add(sums[0]);
       this.called.add(sums[1]);
-      sums[0] += Number(IMPORTS.includes(kind));
-      sums[1] += Number(CALLS.includes(kind));
-      if (!CHANGES.includes(kind)) { this.made.add(object); this.makers.add(at); }
+      sums[0] += Number(KINDS.imports.includes(kind));
+      sums[1] += Number(KINDS.calls.includes(kind));
+      if (!KINDS.changes.includes(kind)) { this.made.add(object); this.makers.add(at); }
     }
     this.sums = sums;
     if (this.isPart) this.counts = sums;
@@ -87,7 +85,7 @@ class Reaches {
     let heading = '', mixing = '';
     const ends = {
       heading: ({ text }) => { heading = text; },
-      ending: ({ how, code }) => { if (how === 'fault') this.fault = code; },
+      ending: (fields) => { this.isOfFrame = Boolean(fields.of_frame); },
       begins: ({ like }) => this.behind.push(`begins like a container: ${like.slice(like.indexOf(' ') + 1)} (picklestep scan looks into it)`),
       warning: ({ text }) => this.behind.push(text),
       counts: ({ imports, calls }) => { this.counts = [imports, calls]; },
@@ -101,7 +99,7 @@ class Reaches {
     };
     for (let at = from; at < this.lines.length; at += 1) {
       const fields = this.fieldsAt(at), act = (heading ? inPart : ends)[fields.kind] || last[fields.kind];
-      if (EVENTS.includes(fields.kind)) this.watch(fields);
+      if (KINDS.events.includes(fields.kind)) this.watch(fields);
       if (act) act(fields);
     }
   }
@@ -110,7 +108,7 @@ class Reaches {
   watch(fields) {
     const { kind, offset, object } = fields;
     if (kind === 'state' && this.arrayAt === null && this.arrays.has(object)) this.arrayAt = offset + 1;
-    else if (['call', 'new', 'inst'].includes(kind) && hasWrapper(fields)) this.arrays.add(object);
+    else if (KINDS.called.includes(kind) && hasWrapper(fields)) this.arrays.add(object);
   }
 
   // The fields of a line.
@@ -130,8 +128,8 @@ class Reaches {
   // How the line at an offset is coloured: 'call', 'import', 'other' or ''.
   kindAt(offset) {
     const kinds = this.kinds.slice(this.offsets.below(offset), this.offsets.below(offset, true));
-    if (kinds.some((kind) => CALLS.includes(kind))) return 'call';
-    if (kinds.some((kind) => IMPORTS.includes(kind))) return 'import';
+    if (kinds.some((kind) => KINDS.calls.includes(kind))) return 'call';
+    if (kinds.some((kind) => KINDS.imports.includes(kind))) return 'import';
     return kinds.length ? 'other' : '';
   }
 
@@ -168,7 +166,7 @@ class Reaches {
   // The offset of the next call behind an offset, or before it.
   nextCall(offset, direction) {
     let at = direction > 0 ? this.offsets.below(offset, true) : this.offsets.below(offset) - 1;
-    for (; at >= 0 && at < this.length; at += direction) if (CALLS.includes(this.kinds[at])) return this.offsets.at(at);
+    for (; at >= 0 && at < this.length; at += direction) if (KINDS.calls.includes(this.kinds[at])) return this.offsets.at(at);
     return null;
   }
 }

@@ -114,7 +114,7 @@ const earlyWords = (end, lastOffset) => ({ refused: `${endWords(end)} at ${lastO
 // The source of a pickle: its bytes, the offsets of its opcodes as far as a loader gets, and how reading ended.
 function sourceOf(content, offsets, end, { opcodes, facts, reachAt, isPart }) {
   Object.assign(MOST, facts.most);
-  const early = earlyWords(end, offsets.at(-1) || 0), { code, kept } = end;
+  const early = earlyWords(end, offsets.at(-1) || 0), { code, kept, of_frame: isOfFrame } = end;
   const builder = new Builder(content, opcodes, facts, reachAt);
   for (let at = 0; at < offsets.length - Number(end.how === 'refused'); at += 1) builder.read(offsets.at(at));
   const left = early ? builder.leave() : [];
@@ -125,7 +125,7 @@ function sourceOf(content, offsets, end, { opcodes, facts, reachAt, isPart }) {
     writer.end(`stack = [${left.map(String).join(', ')}]`, null);
   }
   if (kept) writer.lines.push(`# ${kept} bytes after STOP are not read`);
-  for (const hint of hintsOf({ arrayAt: builder.arrayAt, fault: code }, facts)) writer.lines.push(`# ${hint}`);
+  for (const hint of hintsOf({ arrayAt: builder.arrayAt, isOfFrame }, facts)) writer.lines.push(`# ${hint}`);
   const heads = early || kept || isPart || builder.arrayAt !== null ? facts.headsOfPart : facts.heads;
   const head = Object.entries(facts.helpers).filter(([need]) => builder.needs.has(need)).map(([, text]) => text);
   return `${heads[Number(writer.isCut)]}${head.join('')}${writer.lines.join('\n')}\n`;

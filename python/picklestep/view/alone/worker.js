@@ -11,6 +11,7 @@ const ANSWERS = {
   // Versions go on `from` those of the worker before, so that no two documents of the page have the same.
   start: ({ from, ...program }) => {
     page.program = program;
+    Object.assign(KINDS, program.facts.reaches);
     versions = from;
     return {};
   },
