@@ -127,6 +127,13 @@ def make_plain(folder: Path, count: int) -> None:
         (folder / f'{at}.pkl').write_bytes(pickle.dumps(made[at % 3], at % 4 + 2))
 
 
+def make_tiny(folder: Path, count: int) -> None:
+    """Pickles of 20 bytes."""
+    folder.mkdir()
+    for at in range(count):
+        (folder / f'{at}.pkl').write_bytes(pickle.dumps((f'{at:06}', None), 2))
+
+
 def make_mixed(folder: Path, count: int) -> None:
     """The same, but each fourth is a file that torch, numpy, pandas or scikit-learn wrote."""
     make_plain(folder, count)

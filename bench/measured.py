@@ -194,7 +194,10 @@ def rows_of_many(folder: Path, scale: fractions.Fraction) -> Iterator[Row]:
     yield from command_row('many', '*`pickletools.genops` in a loop*', given, [sys.executable, '-c', GENOPS, *plain[:count // 10]], folder)
     renamed = [ENTRANCE, 'rename', 'collections', 'other', str(folder / 'few'), '--jobs', '4', '--in-place']
     yield from command_row('many', '`rename --jobs 4`', given, renamed, folder, repeated=False)
-    for name in ('plain', 'mixed', 'few'):
+    inputs.make_tiny(folder / 'tiny', 10 * count)
+    given = f'{10 * count:,} pickles of 20 bytes'
+    yield from command_row('many', '`scan --jobs 4`', given, [ENTRANCE, 'scan', '--jobs', '4', str(folder / 'tiny')], folder)
+    for name in ('plain', 'mixed', 'few', 'tiny'):
         shutil.rmtree(folder / name)
 
 
@@ -243,6 +246,8 @@ def rows_of_debugger(folder: Path, scale: fractions.Fraction) -> Iterator[Row]:
     back = b'run\n' + b'back\n' * count
     for what, lines in {f'{count:,} single steps': b'step\n' * count, f'run to the end, and {count:,} steps back': back}.items():
         yield from command_row('debugger', f'`debug`: {what}', given, [ENTRANCE, 'debug', str(path)], folder, lines)
+    what = '`debug --window 100`, which keeps 100 steps: run to the end'
+    yield from command_row('debugger', what, given, [ENTRANCE, 'debug', '--window', '100', str(path)], folder, b'run\n')
     yield from command_row('debugger', '`shell`: open it, and quit', given, [ENTRANCE, 'shell', str(path)], folder, b'quit\n')
     yield from rows_of_long(folder / 'long.pickle', scale)
 
@@ -278,6 +283,7 @@ def rows_of_starts(folder: Path) -> Iterator[Row]:
         '`./picklestep list FILE`, which starts that program': [ENTRANCE, 'list', file],
         '`./picklestep calls FILE`, which starts Python': [ENTRANCE, 'calls', file],
         '`./picklestep FILE`, which is `scan` and starts Python': [ENTRANCE, file],
+        '*a Python that starts, and does nothing*': [sys.executable, '-c', 'pass'],
         'a Python that starts, and asks `picklestep.calls` once': [sys.executable, '-c', PACKAGE + 'picklestep.calls(open(sys.argv[1], "rb").read())', file]}
     if shutil.which('node'):
         ways['Node: `node picklestep.mjs calls FILE`'] = ['node', MODULE, 'calls', file]
@@ -290,10 +296,11 @@ def rows_of_starts(folder: Path) -> Iterator[Row]:
 
 
 def rows_of_node(folder: Path, scale: fractions.Fraction) -> Iterator[Row]:
-    """The module in Node, with the records of ten megabytes."""
+    """The module in Node beside the native program, with the records of ten megabytes. (Most of what the entrance takes is the start of Python.)"""
     if shutil.which('node'):
-        given = f'records of {sized(float(10 * scale))}'
-        yield from command_row('node', '`calls` in Node', given, ['node', MODULE, 'calls', str(folder / '10.pickle')], folder)
+        path, given = str(folder / '10.pickle'), f'records of {sized(float(10 * scale))}'
+        yield from command_row('node', '`calls`, the native program alone', given, [PROGRAM, 'calls', path], folder)
+        yield from command_row('node', '`calls` in Node', given, ['node', MODULE, 'calls', path], folder)
 
 
 # --- The run ---

@@ -34,14 +34,13 @@ OTHER_WAYS = {
     '`optimize`': '`pickletools.optimize`, which is quicker, and compares nothing',
     '`convert --protocol 2`': 'if the file is yours: load it, and pickle it again'}
 # What people would use in place of picklestep, or to compare with: the first table that has both rows, the input, and what is done.
-NODE = '`calls` in Node'
 LIMIT, SMALL_FILES = '*the limit: a C program that prints what `list` does*', '1,000 pickles of 2 to 7 KB'
 BESIDE = [
     ('words', '1 MB', '`list`', '*`python3 -m pickletools`*'),
     ('words', '100 MB', '`list`', LIMIT),
     ('words', '10 MB', '`calls`', '*`pickle.load`*'),
     ('words', '10 MB', '`objects`', '*`pickle.load`*'),
-    ('words', '10 MB', '`calls`', NODE),
+    ('node', 'records of 10 MB', '`calls`, the native program alone', '`calls` in Node'),
     ('many', SMALL_FILES, 'Python: `picklestep.calls` in a loop', '*`pickletools.genops` in a loop*'),
     ('many', SMALL_FILES, '`scan`', '*`pickletools.genops` in a loop*')]
 MEMORY_ENDS = (
@@ -160,11 +159,8 @@ class Kept:
     def beside(self) -> str:
         """What other programs take for the same input."""
         rows = [[f'records of {given}' if name == 'words' else given, what, seconds(ours), other, seconds(theirs), f'{theirs / ours:.1f}']
-                for name, given, what, other in BESIDE if (ours := self._time(name, what, given)) and (theirs := self._other(name, other, given))]
+                for name, given, what, other in BESIDE if (ours := self._time(name, what, given)) and (theirs := self._time(name, other, given))]
         return table(['Input', '!You use', 's', '!In place of it', 's', 'times as long'], rows)
-
-    def _other(self, name: str, what: str, given: str) -> float:
-        return self._time('node', what, f'records of {given}') if what == NODE else self._time(name, what, given)
 
     def _time(self, name: str, what: str, given: str) -> float:
         return self.rows.get((name, what, given), (0.0, None))[0]
@@ -249,7 +245,7 @@ class Kept:
         return table(['You have', '!You use', 'Time', 'Memory'], cells)
 
     def _about_starts(self) -> str:
-        quarter = (f', which took {span(self.used_by_jobs)} of CPU time together' if self.is_quiet else
+        quarter = (f', which took {span(self.used_by_jobs)} of CPU time together for the first row' if self.is_quiet else
                    ': with four processors you wait about a quarter of this CPU time')
         return (f'`scan --jobs 4` shares the files out among four processes{quarter}. '
                 f'Each start of `scan` takes {self._start("`./picklestep FILE`")}, so give many '
