@@ -4,3 +4,6 @@ mod Values
 mod Looked
 mod Events
 mod Answers
+mod Readable
+mod LastReadable
+mod Whole

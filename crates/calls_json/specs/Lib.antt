@@ -7,3 +7,4 @@ pub mod EventFields
 pub mod LastFields
 pub mod Told
 pub mod MixFields
+pub mod Readable

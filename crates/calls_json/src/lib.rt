@@ -4,6 +4,7 @@
 
 mod event;
 mod last;
+mod laws;
 mod mixes;
 mod names;
 mod people;
@@ -15,5 +16,6 @@ mod value;
 
 pub use event::write_event_line;
 pub use last::{write_hole, write_status};
+pub use laws::{event_lines_read_back, other_lines_read_back, whole_is_lines};
 pub use said::{Operand, Said};
 pub use told::{ForPrograms, calls_lines};

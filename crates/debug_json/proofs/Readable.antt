@@ -1,15 +1,15 @@
 -- The fields of each line can be read back, and so the line is.
 use Rattle.std.proofs.Common.{◌≡◌, ℕ, zero, suc, ◌+◌, ◌-◌, ◌<◌, ◌≤◌, Bool, true, false, List, [], ◌∷◌, length, Option, None, Some, Result, Ok, Err, refl, arith}
-use Rattle.std.specs.Prelude.{codes, map, nat_lt, slice_get, if◌then◌else◌, MatchOption, ⊤}
+use Rattle.std.specs.Prelude.{codes, nat_lt, slice_get, if◌then◌else◌, MatchOption, ⊤}
 use Rattle.std.specs.List.{list_all}
 use Rattle.std.proofs.lemmas.Bool.{ltb-true}
-use Rattle.json.specs.Json.{Json, document}
-use Rattle.json.specs.Tree.{depth, items_depth, members_depth}
+use Rattle.json.specs.Json.{Json}
+use Rattle.json.specs.Tree.{items_depth}
 use Rattle.json.specs.Value.{items_of}
 use Rattle.json_lines.specs.Json.{is_plain}
-use Rattle.json_lines.specs.Line.{Field, field, ◌⊕◌, members_of, whole, numbers_json, line}
-use Rattle.json_lines.specs.Readable.{HasTexts, ItemsHaveTexts, MembersHaveTexts, ArePlain, LinesReadBack}
-use Rattle.json_lines.proofs.Fields.{fields_are_plain, plain_texts, plain_depth}
+use Rattle.json_lines.specs.Line.{Field, field, whole, numbers_json, line}
+use Rattle.json_lines.specs.Readable.{ItemsHaveTexts, ArePlain}
+use Rattle.json_lines.proofs.Nested.{number, text, truth, both, Fits, Deep, wider, deeper, of_plain, joined, alone, object_fits, mapped, number_fits, numbers_fit, line_reads}
 use Rattle.pickle_doc.specs.Document.{Contents}
 use Rattle.pickle_doc.specs.declared.edit.EditFault.{EditFault}
 use Rattle.pickle_doc.specs.declared.edit.EditFault.TheVariants as edit
@@ -43,12 +43,11 @@ use Rattle.pickle_script.specs.declared.conversation.line.Syntax.{Syntax}
 use Rattle.pickle_script.specs.declared.conversation.line.Syntax.TheVariants as syntax
 use Rattle.pickle_script.specs.Grammar.{command_at}
 use Rattle.pickle_json.specs.EndFields as ends
-use Rattle.pickle_json.specs.EndFields.{coded_fields}
-use Rattle.pickle_json.proofs.Readable.{word, ended, refused, truth, head, argument}
+use Rattle.pickle_json.proofs.Readable.{ended, coded, refused, head, argument}
 use Rattle.pickle_json.proofs.Readable.{fault as fault_told}
 use Rattle.objects_json.specs.ObjectFields.{object_line}
 use Rattle.objects_json.specs.Objects.{item_refused_fields}
-use Rattle.objects_json.proofs.Readable.{object, item_refused, numbers_texts, numbers_depth, number_texts, number_flat}
+use Rattle.objects_json.proofs.Readable.{object, item_refused}
 use Rattle.debug_json.specs.declared.asked.Own.{Own}
 use Rattle.debug_json.specs.declared.asked.Own.TheVariants as own
 use Rattle.debug_json.specs.declared.asked.Asked.{Asked}
@@ -71,41 +70,11 @@ use Rattle.debug_json.specs.Says.{SaysOnly, SaysReply, SaysLine, SaysOwn, SaysBy
 use Rattle.debug_json.specs.Readable.{ReadsBack, AnswersReadBack}
 use Rattle.debug_json.proofs.Printed.{same_state}
 
--- ---- values and fields of a depth
-
-record Fits (n : ℕ) (v : Json) : Type 0 where
-  texts : HasTexts v
-  shallow : depth v ≤ n
-
-record Deep (n : ℕ) (fs : List Field) : Type 0 where
-  texts : MembersHaveTexts (members_of fs)
-  shallow : members_depth (members_of fs) ≤ n
-
-of_plain : (n : ℕ) (fs : List Field) → ArePlain fs → Deep n fs
-of_plain n fs p = record { texts = plain_texts fs p; shallow = omega (arith, plain_depth fs p) }
-
-texts_joined : (xs ys : List Field) → MembersHaveTexts (members_of xs) → MembersHaveTexts (members_of ys) → MembersHaveTexts (members_of (xs ⊕ ys))
-unfolding ◌⊕◌
-texts_joined [] ys p q = q
-texts_joined (x ∷ xs) ys p q = (p.0, (p.1.0, texts_joined xs ys p.1.1 q))
-
-depth_joined : (n : ℕ) (xs ys : List Field) → members_depth (members_of xs) ≤ n → members_depth (members_of ys) ≤ n → members_depth (members_of (xs ⊕ ys)) ≤ n
-unfolding ◌⊕◌
-depth_joined n [] ys p q = q
-depth_joined n (x ∷ xs) ys p q =
-    let rest : members_depth (members_of xs) ≤ n = omega (arith, p) in
-    omega (arith, p, depth_joined n xs ys rest q)
-
-joined : (n : ℕ) (xs ys : List Field) → Deep n xs → Deep n ys → Deep n (xs ⊕ ys)
-joined n xs ys p q = record { texts = texts_joined xs ys p.texts q.texts; shallow = depth_joined n xs ys p.shallow q.shallow }
-
-alone : (n : ℕ) (name : List ℕ) (v : Json) → list_all is_plain name ≡ true → Fits n v → Deep n (field name v)
-unfolding field
-alone n name v h f = record { texts = (word name h, (f.texts, tt)); shallow = omega (arith, f.shallow) }
+-- ---- objects as values, and values by their places
 
 value : (n : ℕ) (kind : List ℕ) (fs : List Field) → list_all is_plain kind ≡ true → Deep n fs → Fits (suc n) (object_json kind fs)
-unfolding object_json field ◌⊕◌
-value n kind fs h d = record { texts = (word (codes "kind") refl, (word kind h, d.texts)); shallow = omega (arith, d.shallow) }
+unfolding object_json
+value n kind fs h d = object_fits n kind fs h d
 
 module _ {X : Type 0} where
   values_texts : (n : ℕ) (json : ℕ → X → Json) (xs : List X) → ((i : ℕ) (x : X) → Fits n (json i x)) → ItemsHaveTexts (items_of (numbered json xs))
@@ -120,23 +89,9 @@ module _ {X : Type 0} where
   unfolding array_json
   values n json xs f = record { texts = values_texts n json xs f; shallow = omega (arith, values_depth n json xs f) }
 
-number : (name : List ℕ) (n : ℕ) → list_all is_plain name ≡ true → ArePlain (field name (whole n))
-number name n h = fields_are_plain.wholes name n (word name h)
-
-text : (name words : List ℕ) → list_all is_plain name ≡ true → list_all is_plain words ≡ true → ArePlain (field name (Rattle.json.specs.Json.string words))
-text name words h k = fields_are_plain.texts name words (word name h) (word words k)
-
-both : (xs ys : List Field) → ArePlain xs → ArePlain ys → ArePlain (xs ⊕ ys)
-both xs ys p q = fields_are_plain.joined xs ys p q
-
-coded : (code words : List ℕ) → list_all is_plain code ≡ true → list_all is_plain words ≡ true → ArePlain (coded_fields code words)
-unfolding coded_fields
-coded code words c w = both _ _ (text (codes "code") code refl c) (text (codes "words") words refl w)
-
 -- a line of such fields is read back
-reads : LinesReadBack → (kind : List ℕ) (fs : List Field) → list_all is_plain kind ≡ true → Deep 8 fs → ReadsBack (line kind fs)
-unfolding field ◌⊕◌
-reads law kind fs h d = record { kind = kind; fields = fs; is_line = refl; is_read = law kind fs (word kind h) d.texts (omega (arith, d.shallow)) }
+reads : (kind : List ℕ) (fs : List Field) → list_all is_plain kind ≡ true → Deep 8 fs → ReadsBack (line kind fs)
+reads kind fs h d = record { kind = kind; fields = fs; is_line = refl; reads = line_reads kind fs h d }
 
 -- ---- how a document ends, and which item is refused
 
@@ -146,17 +101,11 @@ ending (end.Fault f offset) = fault_told f offset None
 
 end_deep : (e : End) → Deep 8 (end_field e)
 unfolding end_field
-end_deep e = widened (alone 1 (codes "end") _ refl (value 0 (codes "end") (end_fields e) refl (of_plain 0 _ (ending e))))
-  where
-    widened : {fs : List Field} → Deep 1 fs → Deep 8 fs
-    widened d = record { texts = d.texts; shallow = omega (arith, d.shallow) }
+end_deep e = deeper 1 8 _ (omega arith) (alone 1 (codes "end") _ refl (value 0 (codes "end") (end_fields e) refl (of_plain 0 _ (ending e))))
 
 item_deep : (k : ℕ) (r : Refusal) → Deep 8 (item_field k r)
 unfolding item_field
-item_deep k r = widened (alone 1 (codes "end") _ refl (value 0 (codes "end") (item_refused_fields k r) refl (of_plain 0 _ (item_refused k r))))
-  where
-    widened : {fs : List Field} → Deep 1 fs → Deep 8 fs
-    widened d = record { texts = d.texts; shallow = omega (arith, d.shallow) }
+item_deep k r = deeper 1 8 _ (omega arith) (alone 1 (codes "end") _ refl (value 0 (codes "end") (item_refused_fields k r) refl (of_plain 0 _ (item_refused k r))))
 
 placed : (k : ℕ) → ArePlain (place_field k)
 unfolding place_field
@@ -275,16 +224,16 @@ stopped_why e why.End = ending e
 stopped_why e why.Breakpoint = ended (codes "breakpoint") refl
 stopped_why e (why.Refused r) = refused r None
 
-replies : LinesReadBack → (e : End) (r : Reply) → ReadsBack (reply_line e r)
+replies : (e : End) (r : Reply) → ReadsBack (reply_line e r)
 unfolding reply_line ran_line placed_line refused_command
-replies law e (reply.At k) = reads law (codes "at") (place_field k) refl (of_plain 8 _ (placed k))
-replies law e (reply.Ran k w) = reads law (codes "ran") (ran_fields e k w) refl (of_plain 8 _ (both _ _ (placed k) (stopped_why e w)))
-replies law e (reply.Broke k) = reads law (codes "broke") (place_field k) refl (of_plain 8 _ (placed k))
-replies law e (reply.Cleared k) = reads law (codes "cleared") (place_field k) refl (of_plain 8 _ (placed k))
-replies law e (reply.Edited k) = reads law (codes "edited") (place_field k) refl (of_plain 8 _ (placed k))
-replies law e (reply.Undone k) = reads law (codes "undone") (place_field k) refl (of_plain 8 _ (placed k))
-replies law e (reply.Redone k) = reads law (codes "redone") (place_field k) refl (of_plain 8 _ (placed k))
-replies law e (reply.Refused f) = reads law (codes "refused") (fault_fields f) refl (faulty f)
+replies e (reply.At k) = reads (codes "at") (place_field k) refl (of_plain 8 _ (placed k))
+replies e (reply.Ran k w) = reads (codes "ran") (ran_fields e k w) refl (of_plain 8 _ (both _ _ (placed k) (stopped_why e w)))
+replies e (reply.Broke k) = reads (codes "broke") (place_field k) refl (of_plain 8 _ (placed k))
+replies e (reply.Cleared k) = reads (codes "cleared") (place_field k) refl (of_plain 8 _ (placed k))
+replies e (reply.Edited k) = reads (codes "edited") (place_field k) refl (of_plain 8 _ (placed k))
+replies e (reply.Undone k) = reads (codes "undone") (place_field k) refl (of_plain 8 _ (placed k))
+replies e (reply.Redone k) = reads (codes "redone") (place_field k) refl (of_plain 8 _ (placed k))
+replies e (reply.Refused f) = reads (codes "refused") (fault_fields f) refl (faulty f)
 
 -- ---- where a session is
 
@@ -298,24 +247,23 @@ counts t =
     both _ _ (both _ _ (both _ _ (number (codes "objects") _ refl) (number (codes "stack_size") _ refl)) (number (codes "marks") _ refl)) (number (codes "memo_size") _ refl)
 
 results : (ids : List ℕ) → Fits 8 (numbers_json ids)
-unfolding numbers_json
-results ids = record { texts = numbers_texts ids; shallow = omega (arith, numbers_depth ids) }
+results ids = wider 1 8 _ (omega arith) (numbers_fit ids)
 
 reached : (t : State) → Deep 8 (reached_fields t)
 unfolding reached_fields
 reached t = joined 8 _ _ (of_plain 8 _ (number (codes "buffers") t.buffers refl)) (alone 8 (codes "results") (numbers_json t.results) refl (results t.results))
 
-where_is : LinesReadBack → (s : Session) (t : State) → ReadsBack (where_line s t)
+where_is : (s : Session) (t : State) → ReadsBack (where_line s t)
 unfolding where_line
-where_is law s t =
-    reads law (codes "where") (where_fields s t) refl
+where_is s t =
+    reads (codes "where") (where_fields s t) refl
     (joined 8 _ _ (joined 8 _ _ (joined 8 _ _ (of_plain 8 _ (at_cursor _ _ _)) (of_plain 8 _ (counts t))) (reached t)) (end_deep (end_of s.document)))
 
 -- ---- what is shown of a machine
 
 id_fits : (i id : ℕ) → Fits 0 (id_json i id)
 unfolding id_json
-id_fits i id = record { texts = number_texts id; shallow = omega (arith, number_flat id) }
+id_fits i id = number_fits id
 
 mark_fits : (i : ℕ) (m : ℕ × ℕ) → Fits 1 (mark_json i m)
 unfolding mark_json mark_fields
@@ -327,40 +275,37 @@ entry_fits i e = value 0 (codes "entry") _ refl (of_plain 0 _ (both _ _ (number 
 
 heap_fits : (id : ℕ) (o : Object) → Fits 3 (heap_json id o)
 unfolding heap_json
-heap_fits id o = value 2 (codes "object") _ refl (record { texts = (object id o).texts; shallow = (object id o).shallow })
+heap_fits id o = value 2 (codes "object") _ refl (object id o)
 
-wide : (n : ℕ) (fs : List Field) → n ≤ 8 → Deep n fs → Deep 8 fs
-wide n fs h d = record { texts = d.texts; shallow = omega (arith, h, d.shallow) }
-
-stack_is : LinesReadBack → (t : State) → ReadsBack (stack_line t)
+stack_is : (t : State) → ReadsBack (stack_line t)
 unfolding stack_line ids_field marks_field
-stack_is law t =
-    reads law (codes "stack") (stack_fields t) refl
-    (joined 8 _ _ (wide 1 _ (omega arith) (alone 1 (codes "stack") _ refl (values 0 id_json (stack_of t) id_fits)))
-    (wide 2 _ (omega arith) (alone 2 (codes "marks") _ refl (values 1 mark_json (marks_of t.marked) mark_fits))))
+stack_is t =
+    reads (codes "stack") (stack_fields t) refl
+    (joined 8 _ _ (deeper 1 8 _ (omega arith) (alone 1 (codes "stack") _ refl (values 0 id_json (stack_of t) id_fits)))
+    (deeper 2 8 _ (omega arith) (alone 2 (codes "marks") _ refl (values 1 mark_json (marks_of t.marked) mark_fits))))
 
-memo_is : LinesReadBack → (entries : List (ℕ × ℕ)) → ReadsBack (memo_line entries)
+memo_is : (entries : List (ℕ × ℕ)) → ReadsBack (memo_line entries)
 unfolding memo_line memo_fields
-memo_is law entries =
-    reads law (codes "memo") _ refl (wide 2 _ (omega arith) (alone 2 (codes "entries") _ refl (values 1 entry_json entries entry_fits)))
+memo_is entries =
+    reads (codes "memo") _ refl (deeper 2 8 _ (omega arith) (alone 2 (codes "entries") _ refl (values 1 entry_json entries entry_fits)))
 
-heap_is : LinesReadBack → (heap : List Object) → ReadsBack (heap_line heap)
+heap_is : (heap : List Object) → ReadsBack (heap_line heap)
 unfolding heap_line heap_fields
-heap_is law heap =
-    reads law (codes "objects") _ refl (wide 4 _ (omega arith) (alone 4 (codes "objects") _ refl (values 3 heap_json heap heap_fits)))
+heap_is heap =
+    reads (codes "objects") _ refl (deeper 4 8 _ (omega arith) (alone 4 (codes "objects") _ refl (values 3 heap_json heap heap_fits)))
 
-one_line : LinesReadBack → (id : ℕ) (o : Object) → ReadsBack (object_line id o)
+one_line : (id : ℕ) (o : Object) → ReadsBack (object_line id o)
 unfolding object_line
-one_line law id o = reads law (codes "object") _ refl (record { texts = (object id o).texts; shallow = omega (arith, (object id o).shallow) })
+one_line id o = reads (codes "object") _ refl (deeper 2 8 _ (omega arith) (object id o))
 
 there : (heap : List Object) (n : ℕ) → n < length heap → (o : Object) × (slice_get heap n ≡ Some o)
 there [] n h = absurd (omega (arith, h))
 there (o ∷ heap) zero h = (o, refl)
 there (o ∷ heap) (suc n) h = there heap n (omega (arith, h))
 
-show_is : LinesReadBack → (heap : List Object) (n : ℕ) → n < length heap → ReadsBack (show_line heap n)
+show_is : (heap : List Object) (n : ℕ) → n < length heap → ReadsBack (show_line heap n)
 unfolding show_line
-show_is law heap n h = let x = there heap n h in rw x.1 (one_line law n x.0)
+show_is heap n h = let x = there heap n h in rw x.1 (one_line n x.0)
 
 -- ---- items
 
@@ -374,46 +319,35 @@ item_fits s k o =
     value 0 (codes "opcode") (item_fields s k o) refl
     (of_plain 0 _ (both _ _ (both _ _ (both _ _ (placed k) (head o (offset_of s.document k))) (argument o)) (signs _ _)))
 
-items_is : LinesReadBack → (s : Session) → ReadsBack (items_line s)
+items_is : (s : Session) → ReadsBack (items_line s)
 unfolding items_line items_fields
-items_is law s =
-    reads law (codes "items") _ refl (wide 2 _ (omega arith) (alone 2 (codes "items") _ refl (values 1 (item_json s) (ops_of s.document) (item_fits s))))
+items_is s =
+    reads (codes "items") _ refl (deeper 2 8 _ (omega arith) (alone 2 (codes "items") _ refl (values 1 (item_json s) (ops_of s.document) (item_fits s))))
 
 -- ---- what is told in JSON alone
 
-mapped_texts : {X : Type 0} (n : ℕ) (json : X → Json) (xs : List X) → ((x : X) → Fits n (json x)) → ItemsHaveTexts (items_of (map json xs))
-mapped_texts n json [] f = tt
-mapped_texts n json (x ∷ xs) f = ((f x).texts, mapped_texts n json xs f)
-
-mapped_depth : {X : Type 0} (n : ℕ) (json : X → Json) (xs : List X) → ((x : X) → Fits n (json x)) → items_depth (items_of (map json xs)) ≤ n
-mapped_depth n json [] f = omega arith
-mapped_depth n json (x ∷ xs) f = omega (arith, (f x).shallow, mapped_depth n json xs f)
-
 found_values : {X : Type 0} (n : ℕ) (json : X → Json) (find : ℕ → Option X) (k : ℕ) → ((x : X) → Fits n (json x)) → Fits (suc n) (picked_json json find k)
 unfolding picked_json
-found_values n json find k f = record { texts = mapped_texts n json (picked find k) f; shallow = omega (arith, mapped_depth n json (picked find k) f) }
+found_values n json find k f = mapped n json (picked find k) f
 
-number_fits : (k : ℕ) → Fits 0 (whole k)
-number_fits k = record { texts = number_texts k; shallow = omega (arith, number_flat k) }
-
-breaks_is : LinesReadBack → (s : Session) → ReadsBack (breaks_line s)
+breaks_is : (s : Session) → ReadsBack (breaks_line s)
 unfolding breaks_line breaks_fields
-breaks_is law s =
-    reads law (codes "breaks") _ refl (wide 1 _ (omega arith) (alone 1 (codes "places") _ refl (found_values 0 whole (break_at s) (len_of s.document) number_fits)))
+breaks_is s =
+    reads (codes "breaks") _ refl (deeper 1 8 _ (omega arith) (alone 1 (codes "places") _ refl (found_values 0 whole (break_at s) (len_of s.document) number_fits)))
 
 range : {X : Type 0} (n : ℕ) (json : ℕ → X → Json) (a b : ℕ) (xs : List X) → ((i : ℕ) (x : X) → Fits n (json i x)) → Fits (suc n) (range_json json a b xs)
 unfolding range_json
 range n json a b xs f = values n (λ (i : ℕ). json (a + i)) (between a b xs) (λ i x. f (a + i) x)
 
-some_items_is : LinesReadBack → (s : Session) (a b : ℕ) → ReadsBack (some_items_line s a b)
+some_items_is : (s : Session) (a b : ℕ) → ReadsBack (some_items_line s a b)
 unfolding some_items_line some_items_fields
-some_items_is law s a b =
-    reads law (codes "items") _ refl (wide 2 _ (omega arith) (alone 2 (codes "items") _ refl (range 1 (item_json s) a b (ops_of s.document) (item_fits s))))
+some_items_is s a b =
+    reads (codes "items") _ refl (deeper 2 8 _ (omega arith) (alone 2 (codes "items") _ refl (range 1 (item_json s) a b (ops_of s.document) (item_fits s))))
 
-some_heap_is : LinesReadBack → (heap : List Object) (a b : ℕ) → ReadsBack (some_heap_line heap a b)
+some_heap_is : (heap : List Object) (a b : ℕ) → ReadsBack (some_heap_line heap a b)
 unfolding some_heap_line some_heap_fields
-some_heap_is law heap a b =
-    reads law (codes "objects") _ refl (wide 4 _ (omega arith) (alone 4 (codes "objects") _ refl (range 3 heap_json a b heap heap_fits)))
+some_heap_is heap a b =
+    reads (codes "objects") _ refl (deeper 4 8 _ (omega arith) (alone 4 (codes "objects") _ refl (range 3 heap_json a b heap heap_fits)))
 
 -- ---- what a step did
 
@@ -440,7 +374,7 @@ marks_told x = of_plain 8 _ (both _ _ (optional (codes "cut_mark") x.cut refl) (
 change_told : (c : ℕ × ℕ) → Deep 8 (one_change c)
 unfolding one_change change_fields
 change_told c =
-    wide 1 _ (omega arith) (alone 1 (codes "changed") _ refl (value 0 (codes "change") _ refl (of_plain 0 _ (both _ _ (number (codes "object") c.0 refl) (number (codes "changes") c.1 refl)))))
+    deeper 1 8 _ (omega arith) (alone 1 (codes "changed") _ refl (value 0 (codes "change") _ refl (of_plain 0 _ (both _ _ (number (codes "object") c.0 refl) (number (codes "changes") c.1 refl)))))
 
 change_when : (b : Bool) (c : ℕ × ℕ) → Deep 8 (if b then one_change c else [])
 change_when true c = change_told c
@@ -454,7 +388,7 @@ changed_told (Some c) = change_when (nat_lt 0 c.1) c
 entry_told : (e : Stored) → Deep 8 (one_entry e)
 unfolding one_entry stored_fields
 entry_told e =
-    wide 1 _ (omega arith) (alone 1 (codes "memo") _ refl (value 0 (codes "entry") _ refl
+    deeper 1 8 _ (omega arith) (alone 1 (codes "memo") _ refl (value 0 (codes "entry") _ refl
     (of_plain 0 _ (both _ _ (both _ _ (number (codes "memo") e.key refl) (number (codes "object") e.object refl)) (optional (codes "before") e.before refl)))))
 
 stored_told : (found : Option Stored) → Deep 8 (stored_field found)
@@ -474,13 +408,13 @@ step_by s t (Some o) (Some before) = stepped s t (s.cursor - 1) o (does (row_of 
 step_by s t (Some o) None = of_plain 8 [] tt
 step_by s t None before = of_plain 8 [] tt
 
-step_is : LinesReadBack → (s : Session) (t : State) → ReadsBack (step_line s t)
+step_is : (s : Session) (t : State) → ReadsBack (step_line s t)
 unfolding step_line step_fields
-step_is law s t = reads law (codes "step") _ refl (step_by s t _ _)
+step_is s t = reads (codes "step") _ refl (step_by s t _ _)
 
-no_step : LinesReadBack → ReadsBack no_step_line
+no_step : ReadsBack no_step_line
 unfolding no_step_line no_step_fields no_step_words
-no_step law = reads law (codes "refused") _ refl (of_plain 8 _ (coded (codes "V3") _ refl refl))
+no_step = reads (codes "refused") _ refl (of_plain 8 _ (coded (codes "V3") _ refl refl))
 
 -- ---- who made an object
 
@@ -506,16 +440,16 @@ since_told first = since_when (nat_lt 0 first) first
 changers_told : (d : Contents) (first n cursor : ℕ) → Deep 8 (changers_field d first n cursor)
 unfolding changers_field
 changers_told d first n cursor =
-    wide 2 _ (omega arith) (alone 2 (codes "changed") _ refl (found_values 1 changer_json (changer_from d first n) (cursor - first) changer_fits))
+    deeper 2 8 _ (omega arith) (alone 2 (codes "changed") _ refl (found_values 1 changer_json (changer_from d first n) (cursor - first) changer_fits))
 
 made_told : (s : Session) (n first : ℕ) → Deep 8 (made_fields s n first)
 unfolding made_fields
 made_told s n first =
     joined 8 _ _ (of_plain 8 _ (both _ _ (both _ _ (number (codes "object") n refl) (maker_told s.document _)) (since_told first))) (changers_told s.document first n s.cursor)
 
-made_is : LinesReadBack → (s : Session) (n first : ℕ) → ReadsBack (made_line s n first)
+made_is : (s : Session) (n first : ℕ) → ReadsBack (made_line s n first)
 unfolding made_line
-made_is law s n first = reads law (codes "made") _ refl (made_told s n first)
+made_is s n first = reads (codes "made") _ refl (made_told s n first)
 
 -- ---- answers
 
@@ -524,29 +458,29 @@ abbrev IsThere : Said → State → Type 0
 IsThere (said.Shown (query.Show n)) t = n < length t.heap
 IsThere _ t = ⊤
 
-bare : LinesReadBack → (kind : List ℕ) → list_all is_plain kind ≡ true → ReadsBack (line kind [])
-bare law kind h = reads law kind [] h (of_plain 8 [] tt)
+bare : (kind : List ℕ) → list_all is_plain kind ≡ true → ReadsBack (line kind [])
+bare kind h = reads kind [] h (of_plain 8 [] tt)
 
-said_reads : LinesReadBack → (what : Said) (s : Session) (t : State) → IsThere what t → ReadsBack (said_line what s t)
+said_reads : (what : Said) (s : Session) (t : State) → IsThere what t → ReadsBack (said_line what s t)
 unfolding nothing_line quit_line refused_syntax no_object_line no_item_line
-said_reads law said.Nothing s t h = bare law (codes "nothing") refl
-said_reads law said.Quit s t h = bare law (codes "quit") refl
-said_reads law (said.Replied r) s t h = replies law (end_of s.document) r
-said_reads law (said.NoItem offset) s t h = reads law (codes "refused") _ refl (of_plain 8 _ (no_item offset))
-said_reads law (said.NoObject n) s t h = reads law (codes "refused") _ refl (of_plain 8 _ (no_object n))
-said_reads law (said.Bad f) s t h = reads law (codes "refused") _ refl (of_plain 8 _ (no_words f))
-said_reads law (said.Shown query.Items) s t h = items_is law s
-said_reads law (said.Shown query.Objects) s t h = heap_is law t.heap
-said_reads law (said.Shown query.Stack) s t h = stack_is law t
-said_reads law (said.Shown query.Memo) s t h = memo_is law t.memo
-said_reads law (said.Shown (query.Show n)) s t h = show_is law t.heap n h
-said_reads law (said.Shown query.Where) s t h = where_is law s t
-said_reads law said.Breaks s t h = breaks_is law s
-said_reads law (said.SomeItems a b) s t h = some_items_is law s a b
-said_reads law (said.SomeObjects a b) s t h = some_heap_is law t.heap a b
-said_reads law said.Step s t h = step_is law s t
-said_reads law said.NoStep s t h = no_step law
-said_reads law (said.Made n first) s t h = made_is law s n first
+said_reads said.Nothing s t h = bare (codes "nothing") refl
+said_reads said.Quit s t h = bare (codes "quit") refl
+said_reads (said.Replied r) s t h = replies (end_of s.document) r
+said_reads (said.NoItem offset) s t h = reads (codes "refused") _ refl (of_plain 8 _ (no_item offset))
+said_reads (said.NoObject n) s t h = reads (codes "refused") _ refl (of_plain 8 _ (no_object n))
+said_reads (said.Bad f) s t h = reads (codes "refused") _ refl (of_plain 8 _ (no_words f))
+said_reads (said.Shown query.Items) s t h = items_is s
+said_reads (said.Shown query.Objects) s t h = heap_is t.heap
+said_reads (said.Shown query.Stack) s t h = stack_is t
+said_reads (said.Shown query.Memo) s t h = memo_is t.memo
+said_reads (said.Shown (query.Show n)) s t h = show_is t.heap n h
+said_reads (said.Shown query.Where) s t h = where_is s t
+said_reads said.Breaks s t h = breaks_is s
+said_reads (said.SomeItems a b) s t h = some_items_is s a b
+said_reads (said.SomeObjects a b) s t h = some_heap_is t.heap a b
+said_reads said.Step s t h = step_is s t
+said_reads said.NoStep s t h = no_step
+said_reads (said.Made n first) s t h = made_is s n first
 
 by_number : (b : Bool) (n : ℕ) (t : State) → nat_lt n (length t.heap) ≡ b → IsThere (if b then said.Shown (query.Show n) else said.NoObject n) t
 by_number true n t e = ltb-true n (length t.heap) e
@@ -600,5 +534,5 @@ there_by (Ok (asking.Line l)) p q t what r w = there_line l p q t what r w
 there_by (Ok (asking.Own o)) p q t what r w = there_own o p q t what w
 there_by (Err f) p q t what r w = is_there (said.Bad f) what t w.said_is tt
 
-pub answers_read_back : LinesReadBack → AnswersReadBack
-answers_read_back law p q bytes a w = said_reads law a.said a.session a.state (there_by w.says p q a.state a.said w.reached w.said_by)
+pub answers_read_back : AnswersReadBack
+answers_read_back p q bytes a w = said_reads a.said a.session a.state (there_by w.says p q a.state a.said w.reached w.said_by)

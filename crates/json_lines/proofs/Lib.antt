@@ -4,4 +4,7 @@ pub mod Lines
 mod Units
 mod Tokens
 mod Trees
+mod Printing
 pub mod Fields
+pub mod Nested
+pub mod Wholes

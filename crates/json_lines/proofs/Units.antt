@@ -1,8 +1,10 @@
--- A string is read back, and the lexer passes over it.
+-- A string is read back, the lexer passes over it, and its characters print.
 use Rattle.std.proofs.Common.{◌≡◌, ℕ, ◌+◌, ◌-◌, ◌*◌, ◌/◌, ◌%◌, ◌<◌, ◌≤◌, Bool, true, false, cond, ◌&&◌, List, [], ◌∷◌, ◌++◌, Some, inl, inr, refl, sym, ap, ◌∙◌, subst, arith, append_assoc}
 use Rattle.std.specs.Prelude.{nat_lt, nat_le}
 use Rattle.std.specs.Char.{digit_char, digit_value}
-use Rattle.std.proofs.lemmas.Bool.{cases_eq, cases_lt, ne_eqb, lt-ltb, le-ltb, le-leb, lt-leb, ltb-true, ltb-false, and_left, and_right, and_from, and_parts, cond_both}
+use Rattle.std.specs.List.{list_all}
+use Rattle.std.proofs.lemmas.Bool.{cases_eq, cases_lt, ne_eqb, lt-ltb, le-ltb, le-leb, lt-leb, ltb-true, ltb-false, and_left, and_right, and_from, and_parts, cond_both, agree_below_at}
+use Rattle.std.proofs.lemmas.List.Folds.{list_all-append}
 use Rattle.std.proofs.lemmas.Str.{digit_value-digit_char, encode_ascii}
 use lib.Utf8.{scalar, scalars, scalar_cases, encode, encodes}
 use Rattle.json.specs.Text.{content, plain, prepend, code_unit, short_escape, is_high_surrogate, is_low_surrogate, surrogate_pair}
@@ -12,6 +14,7 @@ use Rattle.pickle_io.specs.Text.{◌⧺◌}
 use Rattle.pickle_io.specs.Device.{each}
 use Rattle.pickle_io.proofs.Devices.{each-nil, each-cons}
 use Rattle.json_lines.specs.Json.{unit_text, pair_text, char_text}
+use Rattle.json_lines.specs.Readable.{is_printed}
 
 -- ---- digits
 
@@ -80,20 +83,38 @@ pair_read : (high low : ℕ) (r : List ℕ) → high < 65536 → low < 65536 →
 unfolding content unit_text
 pair_read high low r h l is_high is_low = rw (code_is high h, is_high, code_is low l, is_low) refl
 
+-- ---- texts that print
+
+abbrev pub Prints : List ℕ → Type 0
+Prints t = list_all is_printed t ≡ true
+
+pub both_print : (xs ys : List ℕ) → Prints xs → Prints ys → Prints (xs ++ ys)
+both_print xs ys p q = list_all-append is_printed xs ys ∙ and_from _ _ p q
+
+digit_prints : (d : ℕ) → d < 16 → is_printed (digit_char d) ≡ true
+digit_prints d h = agree_below_at (λ (x : ℕ). is_printed (digit_char x)) (λ (x : ℕ). true) 16 d refl h
+
+unit_prints : (u : ℕ) → u < 65536 → Prints (unit_text u)
+unfolding unit_text
+unit_prints u h =
+    and_from _ _ (digit_prints (u / 4096) (omega (arith, h))) (and_from _ _ (digit_prints (u / 256 % 16) (omega arith))
+    (and_from _ _ (digit_prints (u / 16 % 16) (omega arith)) (and_from _ _ (digit_prints (u % 16) (omega arith)) refl)))
+
 -- ---- characters
 
--- what both readers make of a character as it stands in a string, before any text
+-- what both readers make of a character as it stands in a string, before any text; and that it prints
 record Passes (c : ℕ) : Type 0 where
   read : (r : List ℕ) → content plain (char_text c ++ r) ≡ prepend (encode c) (content plain r)
   lexed : (r : List ℕ) → lex in_string (char_text c ++ r) ≡ lex in_string r
+  printed : Prints (char_text c)
 
 quote_passes : Passes 34
 unfolding char_text content lex short_escape encode
-quote_passes = record { read = λ r. refl; lexed = λ r. refl }
+quote_passes = record { read = λ r. refl; lexed = λ r. refl; printed = refl }
 
 backslash_passes : Passes 92
 unfolding char_text content lex short_escape encode
-backslash_passes = record { read = λ r. refl; lexed = λ r. refl }
+backslash_passes = record { read = λ r. refl; lexed = λ r. refl; printed = refl }
 
 plain_read : (c : ℕ) (r : List ℕ) → (c ≡ 34 → ⊥) → (c ≡ 92 → ⊥) → 32 ≤ c → content plain (c ∷ r) ≡ prepend (c ∷ []) (content plain r)
 unfolding content
@@ -106,6 +127,7 @@ plain_passes c q b low high =
     record {
       read = λ r. ap (λ (t : List ℕ). content plain (t ++ r)) same ∙ plain_read c r q b low ∙ ap (λ (t : List ℕ). prepend t (content plain r)) (sym (encode_ascii c (omega (arith, high))));
       lexed = λ r. ap (λ (t : List ℕ). lex in_string (t ++ r)) same ∙ inside c r q b;
+      printed = ap (list_all is_printed) same ∙ and_from _ _ (and_from _ _ (le-leb 32 c low) (le-leb c 126 high)) refl;
     }
 
 -- neither of these
@@ -119,6 +141,7 @@ unit_passes c s q b apart below =
     record {
       read = λ r. ap (λ (t : List ℕ). content plain (t ++ r)) same ∙ unit_read c r below s;
       lexed = λ r. ap (λ (t : List ℕ). lex in_string (t ++ r)) same ∙ unit_lexed c r;
+      printed = ap (list_all is_printed) same ∙ unit_prints c below;
     }
 
 far_passes : (c : ℕ) → scalar c ≡ true → (c ≡ 34 → ⊥) → (c ≡ 92 → ⊥) → IsApart c → 65536 ≤ c → Passes c
@@ -135,6 +158,7 @@ far_passes c s q b apart beyond =
     record {
       read = λ r. ap (content plain) (joined r) ∙ pair_read high low r (omega (arith, bound)) (omega arith) is_high is_low ∙ ap (λ (n : ℕ). prepend (encode n) (content plain r)) whole;
       lexed = λ r. ap (lex in_string) (joined r) ∙ unit_lexed high (unit_text low ++ r) ∙ unit_lexed low r;
+      printed = ap (list_all is_printed) same ∙ both_print (unit_text high) (unit_text low) (unit_prints high (omega (arith, bound))) (unit_prints low (omega arith));
     }
 
 other_passes : (c : ℕ) → scalar c ≡ true → (c ≡ 34 → ⊥) → (c ≡ 92 → ⊥) → IsApart c → Passes c
@@ -180,3 +204,9 @@ lex-chars (c ∷ cs) r h =
     let p = and_parts (scalar c) (scalars cs) h in
     ap (λ (t : List ℕ). lex in_string (t ++ 34 ∷ r)) (each-cons char_text c cs) ∙ ap (lex in_string) (append_assoc (char_text c) (each char_text cs) (34 ∷ r))
     ∙ (passes c p.0).lexed (each char_text cs ++ 34 ∷ r) ∙ lex-chars cs r p.1
+
+pub prints-chars : (cs : List ℕ) → scalars cs ≡ true → Prints (each char_text cs)
+prints-chars [] h = ap (list_all is_printed) (each-nil char_text)
+prints-chars (c ∷ cs) h =
+    let p = and_parts (scalar c) (scalars cs) h in
+    ap (list_all is_printed) (each-cons char_text c cs) ∙ both_print (char_text c) (each char_text cs) (passes c p.0).printed (prints-chars cs p.1)

@@ -3,14 +3,10 @@
 ghost use Rattle.objects_json.specs.Agreeing.{WordsAgree};
 ghost use Rattle.objects_json.specs.Readable.{ObjectLinesReadBack};
 
-use json_lines::lines_read_back;
-
-/// Each line is read back as its object, by the law of all lines.
+/// Each line is read back as its object, and is one line.
 pub fn object_lines_read_back()
     ensures { ObjectLinesReadBack }
-{
-    lines_read_back();
-}
+{}
 
 /// The words of kinds are those of the texts for people.
 pub fn words_are_those_of_texts()

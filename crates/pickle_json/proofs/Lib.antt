@@ -6,5 +6,5 @@ mod Cuts
 mod Steps
 pub mod Readable
 mod ReachReadable
-mod FormReadable
+pub mod FormReadable
 mod Agreeing

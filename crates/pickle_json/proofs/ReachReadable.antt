@@ -10,10 +10,11 @@ use Rattle.pickle_lenient.specs.declared.taken.Frames.TheVariants as frames
 use Rattle.pickle_reach.specs.declared.spot.Spot.{Spot}
 use Rattle.json_lines.specs.Json.{is_plain}
 use Rattle.json_lines.specs.Readable.{ArePlain}
-use Rattle.json_lines.proofs.Fields.{fields_are_plain, plain_lines_read_back}
+use Rattle.json_lines.proofs.Fields.{fields_are_plain}
+use Rattle.json_lines.proofs.Nested.{word, truth, plain_line_reads}
 use Rattle.pickle_json.specs.ReachFields.{reach_name, frames_name, loader_fields, by_fields, reached_fields, reached_line, follows_fields, nothing_fields, nothing_line, ways_fields, ways_line}
 use Rattle.pickle_json.specs.ReachReadable.{ReachLinesReadBack}
-use Rattle.pickle_json.proofs.Readable.{word, argument, head, ended, truth}
+use Rattle.pickle_json.proofs.Readable.{argument, head, ended}
 
 reach_plain : (o : Opcode) → list_all is_plain (reach_name o) ≡ true
 unfolding reach_name
@@ -51,7 +52,7 @@ nothing offset settled =
 pub reach_lines_read_back : ReachLinesReadBack
 unfolding reached_line nothing_line ways_line
 reach_lines_read_back = record {
-  reached = λ s f o. plain_lines_read_back (codes "end") (reached_fields s f o) (word (codes "end") refl) (reached s f o);
-  nothing = λ offset settled. plain_lines_read_back (codes "end") (nothing_fields offset settled) (word (codes "end") refl) (nothing offset settled);
-  ways = plain_lines_read_back (codes "end") ways_fields (word (codes "end") refl) (ended (codes "too_many_ways") refl);
+  reached = λ s f o. plain_line_reads (codes "end") (reached_fields s f o) refl (reached s f o);
+  nothing = λ offset settled. plain_line_reads (codes "end") (nothing_fields offset settled) refl (nothing offset settled);
+  ways = plain_line_reads (codes "end") ways_fields refl (ended (codes "too_many_ways") refl);
 }

@@ -2,8 +2,6 @@
 use Rattle.std.proofs.Common.{◌≡◌, ℕ, Bool, true, false, List, Option, None, Some, refl}
 use Rattle.std.specs.Prelude.{ℤ, codes, length, nat_le, nat_lt, unsigned_abs, if◌then◌else◌}
 use Rattle.std.specs.List.{list_all}
-use Rattle.std.specs.Str.{IsUtf8}
-use Rattle.std.proofs.lemmas.Str.{IsUtf8-from_ascii}
 use Rattle.pickle_ops.specs.declared.form.Form.{Form}
 use Rattle.pickle_ops.specs.declared.form.Form.TheVariants as form
 use Rattle.pickle_ops.specs.declared.opcode.Opcode.{Opcode}
@@ -18,22 +16,18 @@ use Rattle.pickle_doc.specs.declared.fault.TailFault.TheVariants as tail
 use Rattle.pickle_machine.specs.declared.refusal.Refusal.{Refusal}
 use Rattle.pickle_machine.specs.declared.refusal.Refusal.TheVariants as refusal
 use Rattle.json_lines.specs.Json.{is_plain}
-use Rattle.json.specs.Json.{boolean}
 use Rattle.json_lines.specs.Line.{field, whole, integer}
 use Rattle.json_lines.specs.Readable.{ArePlain}
-use Rattle.json_lines.proofs.Strings.{plain_ascii}
-use Rattle.json_lines.proofs.Fields.{fields_are_plain, plain_lines_read_back}
+use Rattle.json_lines.proofs.Fields.{fields_are_plain}
+use Rattle.json_lines.proofs.Nested.{word, truth, plain_line_reads}
 use Rattle.pickle_json.specs.declared.note.Note.{Note}
 use Rattle.pickle_json.specs.declared.note.Note.TheVariants as note
 use Rattle.pickle_json.specs.ItemFields.{number_name, number_fields, integer_fields, payload_fields, double_fields, lowest_first_fields, long_fields, names_fields, form_fields, arg_fields, note_fields, head_fields, rest_fields, item_fields, item_line}
 use Rattle.pickle_json.specs.EndFields.{left_fields, left_text, refusal_code, refusal_words, refusal_fields, fault_code, fault_words, fault_fields, is_of_frame, how_fields, protocol_fields, coded_fields, stopped_fields, stopped_end, refused_fields, refused_end, told_fields, place_fields, tail_fields, fault_end}
+use Rattle.pickle_json.specs.ShownFields.{shown_field, shown_fields}
 use Rattle.pickle_json.specs.Readable.{ItemLinesReadBack, EndLinesReadBack}
 
--- words of characters that stand for themselves
-pub word : (s : List ℕ) → list_all is_plain s ≡ true → IsUtf8 s
-word s h = IsUtf8-from_ascii s (plain_ascii s h)
-
-name_plain : (o : Opcode) → list_all is_plain (name_of o) ≡ true
+pub name_plain : (o : Opcode) → list_all is_plain (name_of o) ≡ true
 name_plain op.Stop = refl
 name_plain _ = refl
 
@@ -127,7 +121,7 @@ rest o marks n = fields_are_plain.joined _ _ (fields_are_plain.joined _ _ (argum
 pub item_lines_read_back : ItemLinesReadBack
 unfolding item_line
 item_lines_read_back o offset marks n =
-    plain_lines_read_back (codes "opcode") (item_fields o offset marks n) (word (codes "opcode") refl) (fields_are_plain.joined _ _ (head o offset) (rest o marks n))
+    plain_line_reads (codes "opcode") (item_fields o offset marks n) refl (fields_are_plain.joined _ _ (head o offset) (rest o marks n))
 
 -- ---- ends
 
@@ -139,11 +133,7 @@ pub ended : (how : List ℕ) → list_all is_plain how ≡ true → ArePlain (ho
 unfolding how_fields
 ended how h = fields_are_plain.texts (codes "how") how (word (codes "how") refl) (word how h)
 
-pub truth : (name : List ℕ) (b : Bool) → list_all is_plain name ≡ true → ArePlain (field name (boolean b))
-unfolding field
-truth name b h = (record { name = word name h; value = tt; flat = refl }, tt)
-
-coded : (code words : List ℕ) → list_all is_plain code ≡ true → list_all is_plain words ≡ true → ArePlain (coded_fields code words)
+pub coded : (code words : List ℕ) → list_all is_plain code ≡ true → list_all is_plain words ≡ true → ArePlain (coded_fields code words)
 unfolding coded_fields
 coded code words c w =
     fields_are_plain.joined _ _ (fields_are_plain.texts (codes "code") code (word (codes "code") refl) (word code c))
@@ -215,7 +205,7 @@ left objects marks =
     fields_are_plain.joined _ _ (fields_are_plain.wholes (codes "objects") objects (word (codes "objects") refl))
     (fields_are_plain.wholes (codes "marks") marks (word (codes "marks") refl))
 
-stopped : (kept : ℕ) (highest : Option ℕ) → ArePlain (stopped_fields kept highest)
+pub stopped : (kept : ℕ) (highest : Option ℕ) → ArePlain (stopped_fields kept highest)
 stopped kept highest =
     fields_are_plain.joined _ _ (fields_are_plain.joined _ _ (ended (codes "stopped") refl) (fields_are_plain.wholes (codes "kept") kept (word (codes "kept") refl))) (protocol highest)
 
@@ -237,11 +227,23 @@ placed f offset =
 pub fault : (f : TailFault) (offset : ℕ) (highest : Option ℕ) → ArePlain (tail_fields f offset highest)
 fault f offset highest = fields_are_plain.joined _ _ (fields_are_plain.joined _ _ (told f) (placed f offset)) (protocol highest)
 
+-- ---- the line for people
+
+shown_text : (text : List ℕ) → ArePlain (shown_field text)
+unfolding shown_field
+shown_text text = fields_are_plain.bytes (codes "text") (codes "text_hex") text (word (codes "text") refl) (word (codes "text_hex") refl)
+
+pub shown : (text : Option (List ℕ)) → ArePlain (shown_fields text)
+shown None = tt
+shown (Some text) = shown_text text
+
+-- ---- the last lines
+
 pub end_lines_read_back : EndLinesReadBack
 unfolding left_text stopped_end refused_end fault_end
 end_lines_read_back = record {
-  left = λ objects marks. plain_lines_read_back (codes "left") (left_fields objects marks) (word (codes "left") refl) (left objects marks);
-  stopped = λ kept highest. plain_lines_read_back (codes "end") (stopped_fields kept highest) (word (codes "end") refl) (stopped kept highest);
-  refused = λ r highest. plain_lines_read_back (codes "end") (refused_fields r highest) (word (codes "end") refl) (refused r highest);
-  fault = λ f offset highest. plain_lines_read_back (codes "end") (tail_fields f offset highest) (word (codes "end") refl) (fault f offset highest);
+  left = λ objects marks. plain_line_reads (codes "left") (left_fields objects marks) refl (left objects marks);
+  stopped = λ kept highest. plain_line_reads (codes "end") (stopped_fields kept highest) refl (stopped kept highest);
+  refused = λ r highest. plain_line_reads (codes "end") (refused_fields r highest) refl (refused r highest);
+  fault = λ f offset highest. plain_line_reads (codes "end") (tail_fields f offset highest) refl (fault f offset highest);
 }

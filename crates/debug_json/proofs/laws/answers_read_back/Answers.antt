@@ -2,4 +2,4 @@ use Rattle.debug_json.proofs.Readable.{answers_read_back as law}
 use Rattle.debug_json.proofs.laws.answers_read_back.Goals as goal
 
 pub returns : goal.returns
-returns c = law c.lines_read_back.ensures
+returns c = law
