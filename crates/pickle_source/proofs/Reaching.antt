@@ -20,7 +20,7 @@ use Rattle.pickle_calls.specs.Calls.{naming_at, counted_in}
 use Rattle.pickle_calls.proofs.Walking.{entry_is}
 use Rattle.pickle_source.specs.declared.act.Act.{Act}
 use Rattle.pickle_source.specs.declared.act.What.{What}
-use Rattle.pickle_source.specs.Value.{is_value}
+use Rattle.pickle_source.specs.Value.{is_short_value}
 use Rattle.pickle_source.specs.Act.{count_of, fill_of, made_as, held_of, or_held, what_of, first_of}
 use Rattle.pickle_source.specs.Tale.{protocol_at, act_at, acts_on, acts_at}
 use Rattle.pickle_source.specs.Laws.{reach_of, ReachesAreCalls, ActsComeFirst}
@@ -34,7 +34,7 @@ unless_value false w e = e
 
 made_stays : (id : ℕ) (o : Option Object) → reach_of (made_as id o) ≡ None
 made_stays id None = refl
-made_stays id (Some o) = unless_value (is_value o.kind) _ refl
+made_stays id (Some o) = unless_value (is_short_value o.kind) _ refl
 
 fill_stays : (n id : ℕ) → reach_of (fill_of n id) ≡ None
 fill_stays n id = unless_value (n == 0) _ refl

@@ -14,7 +14,7 @@ use Rattle.pickle_calls.specs.declared.event.Before.{Before}
 use Rattle.pickle_calls.specs.Event.{before_of, top_of, filled_count, event_of}
 use Rattle.pickle_source.specs.declared.act.What.{What}
 use Rattle.pickle_source.specs.declared.act.What.TheVariants as what
-use Rattle.pickle_source.specs.Value.{is_value}
+use Rattle.pickle_source.specs.Value.{is_short_value}
 
 -- how many items, pairs or members went into an object, by what is looked at before the step and after it
 abbrev pub count_of : Filling → Before → Before → ℕ
@@ -33,7 +33,7 @@ fill_of n id = if n == 0 then None else Some (what.Filled id n)
 
 abbrev pub made_as : ℕ → Option Object → Option What
 made_as id None = None
-made_as id (Some o) = if is_value o.kind then None else Some (what.Made id)
+made_as id (Some o) = if is_short_value o.kind then None else Some (what.Made id)
 
 abbrev pub made_at : List Object → ℕ → Option What
 made_at heap id = made_as id (slice_get heap id)

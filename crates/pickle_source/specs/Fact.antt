@@ -11,7 +11,7 @@ use Rattle.pickle_ops.specs.declared.object.Change.{Change}
 use Rattle.pickle_ops.specs.declared.object.Change.TheVariants as change
 use Rattle.pickle_ops.specs.Object.{Object}
 use Rattle.pickle_source.specs.declared.fact.Fact.{Fact}
-use Rattle.pickle_source.specs.Value.{is_value}
+use Rattle.pickle_source.specs.Value.{is_value, is_short_value}
 
 -- of a number that names no object
 abbrev pub no_fact : Fact
@@ -117,4 +117,4 @@ filled facts f k changes before =
 
 -- an object of this kind, of which this is known when the pickle is read, has a name in the source
 abbrev pub is_named : Kind → Fact → Bool
-is_named k fact = not (is_value k) && (fact.named || not (nat_lt fact.depth most_depth))
+is_named k fact = not (is_short_value k) && (fact.named || not (nat_lt fact.depth most_depth))

@@ -5,7 +5,7 @@ ghost use Rattle.std.specs.Option.{option_map_or};
 ghost use Rattle.pickle_calls.specs.Event.{before_of, top_of, taken_count, filled_count, event_of};
 ghost use Rattle.pickle_source.specs.Act.{count_of, changes_at, last_of, made_at, held_of, fill_of, what_of, before_those, first_of, protocol_after};
 
-use crate::value::is_value;
+use crate::value::is_short_value;
 use pickle_calls::{Before, Event, event_of};
 use pickle_machine::Machine;
 use pickle_ops::{Change, Filling, ObjId, Row};
@@ -81,7 +81,7 @@ fn made(id: ObjId, machine: &Machine) -> Option<What>
 {
     match machine.object(id) {
         Some(object) => {
-            if is_value(object.kind()) {
+            if is_short_value(object.kind()) {
                 None
             } else {
                 Some(What::Made(id))

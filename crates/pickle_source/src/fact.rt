@@ -5,10 +5,10 @@ ghost use Rattle.std.specs.Prelude.{◌≡◌, ◌-◌, ◌+◌, ◌<◌, ◌||�
 ghost use Rattle.std.specs.Option.{option_map_or};
 ghost use Rattle.std.specs.List.{list_all};
 ghost use Rattle.pickle_ops.specs.declared.object.Change.{Change};
-ghost use Rattle.pickle_source.specs.Value.{is_value};
+ghost use Rattle.pickle_source.specs.Value.{is_value, is_short_value};
 ghost use Rattle.pickle_source.specs.Fact.{no_fact, fact_at, over, deepest, change_depth, deepest_in, are_plain, key_is_plain, keys_are_plain, is_held, has_name, plain_by, depth_by, starts_named, fact_of, fits, filled, is_named};
 
-use crate::value::is_value;
+use crate::value::{is_short_value, is_value};
 use pickle_ops::{Change, Filling, Kind, ObjId, Object};
 
 /// How many brackets may stand within one another where an object is used. What is deeper has a name.
@@ -222,5 +222,5 @@ pub(crate) fn filled(
 pub fn is_named(kind: &Kind, fact: Fact) -> bool
     ensures { result ≡ is_named kind.now fact }
 {
-    !is_value(kind) && (fact.named || fact.depth >= MOST_DEPTH)
+    !is_short_value(kind) && (fact.named || fact.depth >= MOST_DEPTH)
 }

@@ -3,7 +3,7 @@
 ghost use Rattle.std.specs.Prelude.{◌≡◌, ◌&&◌, length, nat_le};
 ghost use Rattle.std.specs.List.{fold};
 ghost use Rattle.pickle_names.specs.Value.{decode_all};
-ghost use Rattle.pickle_source.specs.Value.{after_digit, after_minus, after_plus, after_point, after_e, after_l, after_byte, is_whole_end, is_long_end, is_float_end, numeral_of, is_whole, is_long, is_float, is_value};
+ghost use Rattle.pickle_source.specs.Value.{after_digit, after_minus, after_plus, after_point, after_e, after_l, after_byte, is_whole_end, is_long_end, is_float_end, numeral_of, is_whole, is_long, is_float, is_value, is_over, is_long_value, is_short_value};
 
 use pickle_calls::inner;
 use pickle_names::{Coding, read};
@@ -18,6 +18,8 @@ pub enum Numeral {
     Sign,
     /// The digit 0, alone.
     Zero,
+    /// A minus, and the digit 0.
+    Minus,
     /// Digits, of which the first is not 0.
     Digits,
     /// A point after them.
@@ -43,7 +45,14 @@ fn after_digit(read: Numeral, zero: bool) -> Numeral
     ensures { result ≡ after_digit read zero }
 {
     match read {
-        Numeral::Start | Numeral::Sign => { if zero { Numeral::Zero } else { Numeral::Digits } }
+        Numeral::Start => { if zero { Numeral::Zero } else { Numeral::Digits } }
+        Numeral::Sign => {
+            if zero {
+                Numeral::Minus
+            } else {
+                Numeral::Digits
+            }
+        }
         Numeral::Digits => Numeral::Digits,
         Numeral::Point | Numeral::Fraction => Numeral::Fraction,
         Numeral::Letter | Numeral::Exponent => Numeral::Power,
@@ -78,7 +87,7 @@ fn after_point(read: Numeral) -> Numeral
     ensures { result ≡ after_point read }
 {
     match read {
-        Numeral::Zero | Numeral::Digits => Numeral::Point,
+        Numeral::Zero | Numeral::Minus | Numeral::Digits => Numeral::Point,
         _ => Numeral::Bad,
     }
 }
@@ -88,7 +97,7 @@ fn after_e(read: Numeral) -> Numeral
     ensures { result ≡ after_e read }
 {
     match read {
-        Numeral::Zero | Numeral::Digits | Numeral::Fraction => Numeral::Letter,
+        Numeral::Zero | Numeral::Minus | Numeral::Digits | Numeral::Fraction => Numeral::Letter,
         _ => Numeral::Bad,
     }
 }
@@ -98,7 +107,7 @@ fn after_l(read: Numeral) -> Numeral
     ensures { result ≡ after_l read }
 {
     match read {
-        Numeral::Zero | Numeral::Digits => Numeral::Long,
+        Numeral::Zero | Numeral::Minus | Numeral::Digits => Numeral::Long,
         _ => Numeral::Bad,
     }
 }
@@ -129,7 +138,7 @@ fn numeral_of(line: &[u8]) -> Numeral
     read
 }
 
-/// Whether the line of INT is a decimal number that stands for itself in Python, and is not too long for it.
+/// Whether the line of INT is a decimal number that stands for itself in Python, and is not too long for it. INT makes False of `-0`.
 fn is_whole(line: &[u8]) -> bool
     ensures { result ≡ is_whole line.now }
 {
@@ -143,7 +152,7 @@ fn is_long(line: &[u8]) -> bool
     line.len() <= 4300
         && matches!(
             numeral_of(line),
-            Numeral::Zero | Numeral::Digits | Numeral::Long
+            Numeral::Zero | Numeral::Minus | Numeral::Digits | Numeral::Long
         )
 }
 
@@ -182,4 +191,38 @@ pub fn is_value(kind: &Kind) -> bool
         Kind::TextLine(line) => is_good(Coding::RawEscape, line.as_slice()),
         _ => false,
     }
+}
+
+/// How many bytes a value may have that is written wherever it is used.
+const MOST_SHORT: usize = 80;
+
+/// Whether there are more bytes than are written more than once.
+fn is_over(bytes: &[u8]) -> bool
+    ensures { result ≡ is_over bytes.now }
+{
+    bytes.len() > MOST_SHORT
+}
+
+/// Whether a value has many bytes.
+fn is_long_value(kind: &Kind) -> bool
+    ensures { result ≡ is_long_value kind.now }
+{
+    match kind {
+        Kind::Long(bytes) => is_over(bytes.as_slice()),
+        Kind::Bytes(bytes) => is_over(bytes.as_slice()),
+        Kind::IntLine(line) => is_over(line.as_slice()),
+        Kind::LongLine(line) => is_over(line.as_slice()),
+        Kind::LegacyString(bytes) => is_over(bytes.as_slice()),
+        Kind::LegacyLine(line) => is_over(line.as_slice()),
+        Kind::Text(bytes) => is_over(bytes.as_slice()),
+        Kind::TextLine(line) => is_over(line.as_slice()),
+        _ => false,
+    }
+}
+
+/// Whether an object of this kind is a plain value that stands where it is used, however often that is.
+pub(crate) fn is_short_value(kind: &Kind) -> bool
+    ensures { result ≡ is_short_value kind.now }
+{
+    is_value(kind) && !is_long_value(kind)
 }

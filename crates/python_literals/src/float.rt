@@ -7,7 +7,7 @@ ghost use Rattle.std.specs.Float.{binary64, float_is_finite};
 ghost use Rattle.std.specs.Float.Parse.{parse_float, completes_number, float_scan_step};
 ghost use Rattle.pickle_io.specs.Device.{Writes};
 ghost use Rattle.python_literals.specs.Grammar.{is_mark, has_minus, unsigned, is_float_literal, reads_float};
-ghost use Rattle.python_literals.specs.Floats.{is_negative, is_infinite, infinity_text, nan_text, word_text, bits_of, WritesDouble, WritesFloat};
+ghost use Rattle.python_literals.specs.Floats.{is_negative, is_infinite, infinity_text, nan_text, word_text, bits_of, IsDoubleText, WritesDouble, WritesFloat};
 
 use arrayvec::ArrayVec;
 use byteorder::{BigEndian, ByteOrder};
@@ -237,47 +237,45 @@ fn is_own(text: &[u8]) -> bool {
     !unsigned(text).starts_with(FIFTH_PLACE) && letter_e(text).is_none()
 }
 
-/// Writes a short text.
-#[tactic(auto, using(pickle_io::proofs::Devices::page_steps))]
-fn write_short<P: Page>(text: &[u8], page: &mut P) -> Result<(), Failed>
+/// A short text, kept.
+fn kept(text: &[u8]) -> ArrayVec<u8, 40>
     requires { length text.now ≤ 40 }
-    ensures text { Writes (P.told page.old) (P.told page.new) result text.now }
-    ensures room { OnOk result (60 ≤ P.room page.new) }
+    ensures { result.items ≡ text.now }
 {
-    page.make_room()?;
-    page.push_text(text);
-    Ok(())
-}
-
-/// Writes a literal of a float as Python spells it, where that is one, and else as `ryu` does.
-fn write_spelled<P: Page>(shown: &[u8], bits: u64, page: &mut P) -> Result<(), Failed>
-    requires read { reads_float shown.now ≡ Some (from_bits binary64 bits) }
-    requires short { length shown.now ≤ 25 }
-    ensures text { (text : List ℕ) × (reads_float text ≡ Some (from_bits binary64 bits)) × Writes (P.told page.old) (P.told page.new) result text }
-    ensures room { OnOk result (60 ≤ P.room page.new) }
-{
-    let python = respelled(shown);
-    if is_literal_of(python.as_slice(), bits) {
-        write_short(python.as_slice(), page)
-    } else {
-        write_short(shown, page)
+    let mut out = ArrayVec::new();
+    match out.try_extend_from_slice(text) {
+        Ok(()) => out,
+        Err(_) => out,
     }
 }
 
-/// Writes a literal of a finite float.
-fn write_finite<P: Page>(bits: u64, page: &mut P) -> Result<(), Failed>
+/// A literal of a float as Python spells it, where that is one, and else as `ryu` does.
+fn spelled(shown: &[u8], bits: u64) -> ArrayVec<u8, 40>
+    requires read { reads_float shown.now ≡ Some (from_bits binary64 bits) }
+    requires short { length shown.now ≤ 25 }
+    ensures { reads_float result.items ≡ Some (from_bits binary64 bits) }
+{
+    let python = respelled(shown);
+    if is_literal_of(python.as_slice(), bits) {
+        python
+    } else {
+        kept(shown)
+    }
+}
+
+/// A literal of a finite float.
+fn finite_text(bits: u64) -> ArrayVec<u8, 40>
     requires { float_is_finite (from_bits binary64 bits) ≡ true }
-    ensures text { (text : List ℕ) × (reads_float text ≡ Some (from_bits binary64 bits)) × Writes (P.told page.old) (P.told page.new) result text }
-    ensures room { OnOk result (60 ≤ P.room page.new) }
+    ensures { reads_float result.items ≡ Some (from_bits binary64 bits) }
 {
     let mut buffer = Buffer::new();
     let shown = buffer
         .format_finite(f64_from_bits_with_nan(bits))
         .as_bytes();
     if is_own(shown) {
-        write_short(shown, page)
+        kept(shown)
     } else {
-        write_spelled(shown, bits, page)
+        spelled(shown, bits)
     }
 }
 
@@ -319,22 +317,41 @@ fn word_text(bits: u64) -> &'static [u8]
     }
 }
 
-/// Writes a float by its 64 bits: a literal, or `float('inf')`, `float('-inf')`, `float('nan')` or `-float('nan')`. `Failed` where the sink fails; a
-/// beginning of the text was written then.
+/// The text of a float by its 64 bits: a literal, or `float('inf')`, `float('-inf')`, `float('nan')` or `-float('nan')`.
+pub fn float_text(bits: u64) -> ArrayVec<u8, 40>
+    ensures { IsDoubleText bits result.items }
+{
+    if f64_from_bits_with_nan(bits).is_finite() {
+        finite_text(bits)
+    } else {
+        kept(word_text(bits))
+    }
+}
+
+/// Writes a short text.
+#[tactic(auto, using(pickle_io::proofs::Devices::page_steps))]
+fn write_short<P: Page>(text: &[u8], page: &mut P) -> Result<(), Failed>
+    requires { length text.now ≤ 40 }
+    ensures text { Writes (P.told page.old) (P.told page.new) result text.now }
+    ensures room { OnOk result (60 ≤ P.room page.new) }
+{
+    page.make_room()?;
+    page.push_text(text);
+    Ok(())
+}
+
+/// Writes a float by its 64 bits, as `float_text` spells it. `Failed` where the sink fails; a beginning of the text was written then.
 pub fn write_double<P: Page>(bits: u64, page: &mut P) -> Result<(), Failed>
     ensures text { WritesDouble (P.told page.old) (P.told page.new) result bits }
     ensures room { OnOk result (60 ≤ P.room page.new) }
 {
-    if f64_from_bits_with_nan(bits).is_finite() {
-        write_finite(bits, page)
-    } else {
-        write_short(word_text(bits), page)
-    }
+    let text = float_text(bits);
+    write_short(text.as_slice(), page)
 }
 
-/// The bits by their bytes.
+/// The bits of a float by its bytes, the highest first; other than eight bytes are no number.
 #[tactic(auto, unfolding(crate::specs::Floats::bits_of))]
-fn bits_of(bytes: &[u8]) -> u64
+pub fn bits_of(bytes: &[u8]) -> u64
     ensures { result ≡ bits_of bytes.now }
 {
     if bytes.len() == 8 {

@@ -13,7 +13,7 @@ mod text;
 mod wide;
 
 pub use bytes::{write_bytearray, write_bytes};
-pub use float::{write_double, write_float};
+pub use float::{bits_of, float_text, write_double, write_float};
 pub use int::{write_int, write_long};
 pub use laws::{
     bytearrays_read_back, bytes_read_back, floats_read_back, ints_read_back, stays_one_line,
