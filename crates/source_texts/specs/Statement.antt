@@ -20,7 +20,11 @@ use Rattle.pickle_source.specs.declared.act.What.{What}
 use Rattle.pickle_source.specs.declared.act.What.TheVariants as what
 use Rattle.pickle_source.specs.Fact.{fact_at, is_named}
 use Rattle.pickle_source.specs.Act.{changes_at}
-use Rattle.source_texts.specs.Held.{held_text, changes_text}
+use Rattle.pickle_machine.specs.State.{State, stack_of}
+use Rattle.pickle_text.specs.declared.closing.Closing.{Closing}
+use Rattle.pickle_text.specs.declared.closing.Closing.TheVariants as closing
+use Rattle.pickle_text.specs.Closing.{closing_line}
+use Rattle.source_texts.specs.Held.{held_text, changes_text, then_part}
 use Rattle.source_texts.specs.Reach.{comment, assignment, made_text}
 use Rattle.source_texts.specs.Expression.{expression}
 
@@ -122,7 +126,28 @@ by_what value text modules names heap facts say a (what.Result id) = result_text
 unfoldable pub act_text : (Kind → List ℕ) → (Coding → List ℕ → List ℕ) → (List ℕ → Bool) → (List ℕ → Bool) → List Object → List Fact → (ℕ → List ℕ) → Act → List ℕ
 act_text value text modules names heap facts say a = by_what value text modules names heap facts say a a.what
 
+-- ---- where reading ends before a STOP
+
+unfoldable pub stack_front : List ℕ
+stack_front = codes "stack = ["
+
+-- what is on the stack then, from the lowest object on; marks are not shown
+unfoldable pub stack_text : (ℕ → List ℕ) → List ℕ → List ℕ
+stack_text say ids = stack_front ⧺ each (then_part say) ids ⧺ codes "]\n"
+
+-- why reading ends there, as a comment, and the stack
+unfoldable pub cut_text : (ℕ → List ℕ) → Closing → List ℕ → List ℕ
+cut_text say c ids = codes "# " ⧺ closing_line c ⧺ stack_text say ids
+
+unfoldable pub end_text : (ℕ → List ℕ) → Closing → List ℕ → List ℕ
+end_text say closing.Stopped ids = []
+end_text say c ids = cut_text say c ids
+
+-- ---- the source
+
+unfoldable pub lines_text : (Kind → List ℕ) → (Coding → List ℕ → List ℕ) → (List ℕ → Bool) → (List ℕ → Bool) → State → List Fact → (ℕ → List ℕ) → List Act → Closing → List ℕ
+lines_text value text modules names s facts say acts c = each (act_text value text modules names s.heap facts say) acts ⧺ end_text say c (stack_of s)
+
 -- `value` spells values, `text` texts, `modules` and `names` say what is the name of a module and a name
-unfoldable pub statements_text : (Kind → List ℕ) → (Coding → List ℕ → List ℕ) → (List ℕ → Bool) → (List ℕ → Bool) → List Object → List Fact → List Act → List ℕ
-statements_text value text modules names heap facts acts =
-    each (act_text value text modules names heap facts (expression value names heap facts)) acts
+unfoldable pub source_text : (Kind → List ℕ) → (Coding → List ℕ → List ℕ) → (List ℕ → Bool) → (List ℕ → Bool) → State → List Fact → List Act → Closing → List ℕ
+source_text value text modules names s facts acts c = lines_text value text modules names s facts (expression value names s.heap facts) acts c

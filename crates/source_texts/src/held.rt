@@ -38,7 +38,11 @@ pub(crate) fn write_next_parts<P: Say, S: Page>(
 }
 
 /// Writes a part before a comma.
-fn write_part_then<P: Say, S: Page>(inner: &P, id: ObjId, page: &mut S) -> Result<(), Failed>
+pub(crate) fn write_part_then<P: Say, S: Page>(
+    inner: &P,
+    id: ObjId,
+    page: &mut S,
+) -> Result<(), Failed>
     ensures { Writes (S.told page.old) (S.told page.new) result (then_part (P.says inner.now) id) }
 {
     inner.say(id, page)?;

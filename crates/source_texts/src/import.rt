@@ -4,7 +4,7 @@ ghost use Rattle.std.specs.Prelude.{◌≡◌, codes, is_some};
 ghost use Rattle.pickle_io.specs.Text.{◌⧺◌};
 ghost use Rattle.pickle_io.specs.Device.{Writes};
 ghost use Rattle.pickle_names.specs.Renamed.{renamed};
-ghost use Rattle.source_texts.specs.Import.{find_word, protocol_word, is_renamed, is_statement, from_text, find_end, found_call, found_text, import_text, found_object};
+ghost use Rattle.source_texts.specs.Import.{find_word, no_name, name_literal, protocol_word, is_renamed, is_statement, from_text, find_end, found_call, found_text, import_text, found_object};
 ghost use Rattle.source_texts.specs.Name.{member_name};
 
 use crate::expression::Say;
@@ -101,6 +101,31 @@ fn words_of_find() -> &'static str
     " = find_class("
 }
 
+/// Words of a line that is empty.
+#[tactic(auto, unfolding(crate::specs::Import::no_name))]
+fn words_of_no_name() -> &'static str
+    ensures { result.now ≡ no_name }
+{
+    "unpickle(b'')"
+}
+
+/// Writes a name in a line.
+#[tactic(auto, unfolding(crate::specs::Import::name_literal))]
+fn write_name_literal<L: Literals, S: Page>(
+    literals: &L,
+    coding: Coding,
+    bytes: &[u8],
+    page: &mut S,
+) -> Result<(), Failed>
+    ensures { Writes (S.told page.old) (S.told page.new) result (name_literal (L.text literals.now coding) bytes.now) }
+{
+    if bytes.is_empty() {
+        write_all(page, words_of_no_name().as_bytes())
+    } else {
+        literals.write_text(coding, bytes, page)
+    }
+}
+
 /// Writes the call that finds a class by two texts.
 fn write_found_call<L: Literals, S: Page>(
     literals: &L,
@@ -110,9 +135,9 @@ fn write_found_call<L: Literals, S: Page>(
     ensures { Writes (S.told page.old) (S.told page.new) result (found_call (L.text literals.now names.entry.coding) names.entry.protocol names.entry.from.now names.entry.member.now) }
 {
     write_all(page, words_of_find().as_bytes())?;
-    literals.write_text(names.coding, names.from, page)?;
+    write_name_literal(literals, names.coding, names.from, page)?;
     write_all(page, b", ")?;
-    literals.write_text(names.coding, names.member, page)?;
+    write_name_literal(literals, names.coding, names.member, page)?;
     write_find_end(names.protocol, page)
 }
 

@@ -14,4 +14,4 @@ mod statement;
 
 pub use expression::{ByName, Say, Within};
 pub use literals::Literals;
-pub use statement::write_statements;
+pub use statement::write_source;

@@ -1,24 +1,26 @@
 //! The statement of each thing that an opcode does.
 
 ghost use Rattle.std.specs.Prelude.{◌≡◌, [], codes, decimal, drop, take, slice_get, None, Some};
-ghost use Rattle.std.specs.Option.{option_map, option_map_or};
+ghost use Rattle.std.specs.Option.{option_map, option_map_or, option_to_list};
 ghost use Rattle.pickle_io.specs.Text.{◌⧺◌};
 ghost use Rattle.pickle_io.specs.Device.{Writes, each};
 ghost use Rattle.source_texts.specs.Name.{own_name};
-ghost use Rattle.source_texts.specs.Held.{held_text, changes_text};
+ghost use Rattle.pickle_machine.specs.State.{stack_of};
+ghost use Rattle.source_texts.specs.Held.{held_text, changes_text, then_part};
 ghost use Rattle.source_texts.specs.Reach.{comment, assignment, asked, made_text};
 ghost use Rattle.source_texts.specs.Expression.{expression};
-ghost use Rattle.source_texts.specs.Statement.{ending, named_at, given_text, object_lines, made_lines, set_words, set_line, method_words, fill_lines, filled_text, state_text, into_text, reached_fill, reached_object, reach_text, result_name, result_text, changes_between, act_text, statements_text};
+ghost use Rattle.source_texts.specs.Statement.{ending, named_at, given_text, object_lines, made_lines, set_words, set_line, method_words, fill_lines, filled_text, state_text, into_text, reached_fill, reached_object, reach_text, result_name, result_text, changes_between, act_text, stack_front, stack_text, cut_text, end_text, lines_text, source_text};
 
 use crate::expression::{ByName, Say, Within};
-use crate::held::{write_changes, write_held};
+use crate::held::{write_changes, write_held, write_part_then};
 use crate::literals::Literals;
 use crate::reach::{write_assignment, write_comment, write_made};
 use pickle_calls::{Event, front};
 use pickle_io::{Failed, Page, write_all, write_decimal};
 use pickle_machine::Machine;
 use pickle_ops::{Change, Filling, ObjId, Object};
-use pickle_source::{Act, Fact, What, changes_at, fact_at, is_named};
+use pickle_source::{Act, Fact, Tale, What, changes_at, fact_at, is_named};
+use pickle_text::{Closing, write_closing};
 
 /// The end of a statement: the offset of an opcode that reaches out of the pickle, or nothing.
 #[tactic(auto, unfolding(crate::specs::Statement::ending))]
@@ -409,18 +411,106 @@ fn write_acts<L: Literals, P: Say, S: Page>(
     Ok(())
 }
 
-/// Writes the statements of a pickle's source: of what its opcodes did, by what is known of the objects that the machine has.
-///
-/// `Failed` where the sink fails; a beginning of the statements was written then.
-#[tactic(auto, unfolding(crate::specs::Statement::statements_text))]
-pub fn write_statements<L: Literals, S: Page>(
+/// Words of the stack.
+#[tactic(auto, unfolding(crate::specs::Statement::stack_front))]
+fn words_of_stack() -> &'static str
+    ensures { result.now ≡ stack_front }
+{
+    "stack = ["
+}
+
+/// Writes the object that has this many below it on the stack, if there is one.
+fn write_at<P: Say, S: Page>(
+    machine: &Machine,
+    say: &P,
+    below: usize,
+    page: &mut S,
+) -> Result<(), Failed>
+    ensures { Writes (S.told page.old) (S.told page.new) result (each (then_part (P.says say.now)) (option_to_list (slice_get (stack_of machine.now.state) below))) }
+{
+    match machine.stack_at(below) {
+        Some(id) => write_part_then(say, id, page),
+        None => Ok(()),
+    }
+}
+
+/// Writes the objects of the stack, from the lowest on.
+fn write_left<P: Say, S: Page>(machine: &Machine, say: &P, page: &mut S) -> Result<(), Failed>
+    ensures { Writes (S.told page.old) (S.told page.new) result (each (then_part (P.says say.now)) (stack_of machine.now.state)) }
+{
+    for below in 0..machine.stack_len() {
+        write_at(machine, say, below, page)?;
+    }
+    Ok(())
+}
+
+/// Writes the stack as a list.
+fn write_stack<P: Say, S: Page>(machine: &Machine, say: &P, page: &mut S) -> Result<(), Failed>
+    ensures { Writes (S.told page.old) (S.told page.new) result (stack_text (P.says say.now) (stack_of machine.now.state)) }
+{
+    write_all(page, words_of_stack().as_bytes())?;
+    write_left(machine, say, page)?;
+    write_all(page, b"]\n")
+}
+
+/// Writes why reading ends before a STOP, and the stack.
+fn write_cut<P: Say, S: Page>(
+    machine: &Machine,
+    say: &P,
+    closing: Closing,
+    page: &mut S,
+) -> Result<(), Failed>
+    ensures { Writes (S.told page.old) (S.told page.new) result (cut_text (P.says say.now) closing (stack_of machine.now.state)) }
+{
+    write_all(page, b"# ")?;
+    write_closing(closing, page)?;
+    write_stack(machine, say, page)
+}
+
+/// Writes how reading ends, unless that is a STOP.
+#[tactic(auto, unfolding(crate::specs::Statement::end_text))]
+fn write_end<P: Say, S: Page>(
+    machine: &Machine,
+    say: &P,
+    closing: Closing,
+    page: &mut S,
+) -> Result<(), Failed>
+    ensures { Writes (S.told page.old) (S.told page.new) result (end_text (P.says say.now) closing (stack_of machine.now.state)) }
+{
+    match closing {
+        Closing::Stopped => Ok(()),
+        Closing::Refused(_, _) => write_cut(machine, say, closing, page),
+        Closing::Fault(_, _) => write_cut(machine, say, closing, page),
+    }
+}
+
+/// Writes all statements, and how reading ends.
+fn write_lines<L: Literals, P: Say, S: Page>(
+    literals: &L,
+    machine: &Machine,
+    facts: &[Fact],
+    say: &P,
+    acts: &[Act],
+    closing: Closing,
+    page: &mut S,
+) -> Result<(), Failed>
+    ensures { Writes (S.told page.old) (S.told page.new) result (lines_text (L.value literals.now) (L.text literals.now) (L.modules literals.now) (L.names literals.now) machine.now.state facts.now (P.says say.now) acts.now closing) }
+{
+    write_acts(literals, machine, facts, say, acts, page)?;
+    write_end(machine, say, closing, page)
+}
+
+/// Writes the same, in which each object stands by its expression.
+#[tactic(auto, unfolding(crate::specs::Statement::source_text))]
+fn write_expressed<L: Literals, S: Page>(
     literals: &L,
     machine: &Machine,
     facts: &[Fact],
     acts: &[Act],
+    closing: Closing,
     page: &mut S,
 ) -> Result<(), Failed>
-    ensures { Writes (S.told page.old) (S.told page.new) result (statements_text (L.value literals.now) (L.text literals.now) (L.modules literals.now) (L.names literals.now) machine.now.state.heap facts.now acts.now) }
+    ensures { Writes (S.told page.old) (S.told page.new) result (source_text (L.value literals.now) (L.text literals.now) (L.modules literals.now) (L.names literals.now) machine.now.state facts.now acts.now closing) }
 {
     let names = ByName { literals, machine };
     let one = Within {
@@ -465,5 +555,21 @@ pub fn write_statements<L: Literals, S: Page>(
         facts,
         inner: six,
     };
-    write_acts(literals, machine, facts, &seven, acts, page)
+    write_lines(literals, machine, facts, &seven, acts, closing, page)
+}
+
+/// Writes the source of a pickle: a statement for what each of its opcodes did, by what is known of the objects that the machine has; and where
+/// reading ended before a STOP a comment that says why, and the stack as a list.
+///
+/// `Failed` where the sink fails; a beginning of the source was written then.
+pub fn write_source<L: Literals, S: Page>(
+    literals: &L,
+    machine: &Machine,
+    tale: &Tale,
+    page: &mut S,
+) -> Result<(), Failed>
+    ensures { Writes (S.told page.old) (S.told page.new) result (source_text (L.value literals.now) (L.text literals.now) (L.modules literals.now) (L.names literals.now) machine.now.state tale.now.facts.items tale.now.acts.items tale.now.closing) }
+{
+    let (facts, acts) = (tale.facts.as_slice(), tale.acts.as_slice());
+    write_expressed(literals, machine, facts, acts, tale.closing, page)
 }

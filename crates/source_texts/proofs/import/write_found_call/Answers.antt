@@ -7,17 +7,17 @@ pub returns-in_err-write_all : goal.returns-in_err-write_all
 unfolding found_call
 returns-in_err-write_all g c = grind (arith, text_steps)
 
-pub returns-in_err-write_text : goal.returns-in_err-write_text
+pub returns-in_err-write_name_literal : goal.returns-in_err-write_name_literal
 unfolding found_call
-returns-in_err-write_text g c = grind (arith, text_steps)
+returns-in_err-write_name_literal g c = grind (arith, text_steps)
 
 pub returns-in_err-write_all-2 : goal.returns-in_err-write_all-2
 unfolding found_call
 returns-in_err-write_all-2 g c = grind (arith, text_steps)
 
-pub returns-in_err-write_text-2 : goal.returns-in_err-write_text-2
+pub returns-in_err-write_name_literal-2 : goal.returns-in_err-write_name_literal-2
 unfolding found_call
-returns-in_err-write_text-2 g c = grind (arith, text_steps)
+returns-in_err-write_name_literal-2 g c = grind (arith, text_steps)
 
 pub returns : goal.returns
 unfolding found_call
