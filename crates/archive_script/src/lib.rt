@@ -19,6 +19,6 @@ pub use gate::{
 pub use judged::{Judged, Single};
 pub use judging::judge;
 pub use laws::{zero_means_passing, zero_where_file_passes};
-pub use members::write_members;
+pub use members::{start_of, write_members};
 pub use single::{is_too_large, packed_sentence, packing_word, single_status};
 pub use tar_text::tar_sentence;

@@ -97,8 +97,8 @@ fn write_archive<S: Page>(alloc: Global, bytes: &[u8], page: &mut S) -> Result<u
     }
 }
 
-/// How many bytes the header of a packed file has.
-fn start_of(packing: Packing, bytes: &[u8]) -> usize
+/// How many bytes the header of a packed file has; 0 where it has none.
+pub fn start_of(packing: Packing, bytes: &[u8]) -> usize
     ensures value { (start : ℕ) → header_of packing bytes.now ≡ Ok start → result ≡ start }
     ensures inside { result ≤ length bytes.now }
 {

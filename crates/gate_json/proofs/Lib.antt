@@ -1,2 +1,4 @@
 -- Lemmas that the proofs of several functions cite.
 pub mod Passing
+mod Readable
+pub mod MemberLines

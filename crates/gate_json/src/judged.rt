@@ -46,7 +46,10 @@ fn write_held<P: Page>(verdict: Verdict, line: &[u8], page: &mut P) -> Result<()
 
 /// Writes the first rule that a tar archive breaks, and where.
 #[tactic(auto, unfolding(crate::specs::VerdictFields::no_tar_fields))]
-fn write_no_tar<P: Page>(refusal: tar_archive::Refusal, page: &mut P) -> Result<(), Failed>
+pub(crate) fn write_no_tar<P: Page>(
+    refusal: tar_archive::Refusal,
+    page: &mut P,
+) -> Result<(), Failed>
     ensures { Writes (P.told page.old) (P.told page.new) result (fields_text (no_tar_fields refusal)) }
 {
     write_placed(
@@ -115,7 +118,10 @@ fn write_inside<P: Page>(packing: Packing, single: &Single, page: &mut P) -> Res
 }
 
 /// Writes why a packed file does not open.
-fn write_no_packed<P: Page>(refusal: packed_stream::Refusal, page: &mut P) -> Result<(), Failed>
+pub(crate) fn write_no_packed<P: Page>(
+    refusal: packed_stream::Refusal,
+    page: &mut P,
+) -> Result<(), Failed>
     ensures { Writes (P.told page.old) (P.told page.new) result (fields_text (no_packed_fields refusal)) }
 {
     if is_too_large(refusal.why) {
@@ -132,7 +138,10 @@ fn write_no_packed<P: Page>(refusal: packed_stream::Refusal, page: &mut P) -> Re
 
 /// Writes the first rule that an archive breaks, and where.
 #[tactic(auto, unfolding(crate::specs::VerdictFields::no_archive_fields))]
-fn write_no_archive<P: Page>(refusal: zip_archive::Refusal, page: &mut P) -> Result<(), Failed>
+pub(crate) fn write_no_archive<P: Page>(
+    refusal: zip_archive::Refusal,
+    page: &mut P,
+) -> Result<(), Failed>
     ensures { Writes (P.told page.old) (P.told page.new) result (fields_text (no_archive_fields refusal)) }
 {
     write_placed("not_in_form", refusal.offset, refusal.why.sentence(), page)

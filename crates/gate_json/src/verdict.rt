@@ -66,8 +66,8 @@ fn write_refused<P: Page>(place: usize, refusal: Refusal, page: &mut P) -> Resul
     write_item(place, page)
 }
 
-/// Writes how a run ended.
-fn write_closing<P: Page>(closing: Closing, page: &mut P) -> Result<(), Failed>
+/// Writes how a run ended. `Failed` where the sink fails; a beginning of the text was written then.
+pub fn write_closing<P: Page>(closing: Closing, page: &mut P) -> Result<(), Failed>
     ensures { Writes (P.told page.old) (P.told page.new) result (fields_text (closing_fields closing)) }
 {
     match closing {

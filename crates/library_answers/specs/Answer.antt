@@ -16,9 +16,11 @@ use Rattle.json_script.specs.CallsLines as calls_lines
 use Rattle.pickle_script.specs.GateText.{WroteText}
 use Rattle.assembler_script.specs.AssemblyText.{IsAssemblyText}
 use Rattle.same_script.specs.SameText.{IsSameText}
+use Rattle.same_script.specs.SameFields.{IsSameLine}
 use Rattle.archive_script.specs.GateText.{IsGateText}
 use Rattle.gate_json.specs.GateLine.{IsGateLine}
 use Rattle.archive_script.specs.MembersText.{IsMembersText}
+use Rattle.gate_json.specs.MembersFields.{IsMembersLines}
 use Rattle.pickle_script.specs.Conversation.{Finishes}
 use Rattle.pickle_script.specs.declared.texts.written.Text.{Text}
 use Rattle.library_answers.specs.declared.fill.Written.{Written}
@@ -58,6 +60,10 @@ IsGateLineOf list bytes written status = WroteText (IsGateLine list bytes) (took
 abbrev pub IsMembersOf : List ℕ → List ℕ → ℕ → Type 0
 IsMembersOf bytes written status = WroteText (IsMembersText bytes) (took []) (took written) status
 
+-- the same as lines of JSON
+abbrev pub IsMembersLinesOf : List ℕ → List ℕ → ℕ → Type 0
+IsMembersLinesOf bytes written status = WroteText (IsMembersLines bytes) (took []) (took written) status
+
 -- these bytes are what a text of opcodes is assembled to, or the line of its first line that gives none, and this is the status
 abbrev pub IsAssemblyOf : List ℕ → List ℕ → ℕ → Type 0
 IsAssemblyOf text written status = WroteText (IsAssemblyText text) (took []) (took written) status
@@ -65,6 +71,10 @@ IsAssemblyOf text written status = WroteText (IsAssemblyText text) (took []) (to
 -- these bytes are the line that says whether two inputs make the same objects, and this is its status
 abbrev pub IsComparisonOf : Bool → List ℕ → List ℕ → List ℕ → ℕ → Type 0
 IsComparisonOf many one other written status = WroteText (IsSameText many one other) (took []) (took written) status
+
+-- the same as a line of JSON
+abbrev pub IsComparisonLineOf : Bool → List ℕ → List ℕ → List ℕ → ℕ → Type 0
+IsComparisonLineOf many one other written status = WroteText (IsSameLine many one other) (took []) (took written) status
 
 -- the longer of two inputs
 abbrev pub longer : List ℕ → List ℕ → List ℕ

@@ -1,12 +1,13 @@
-//! The table of opcodes for programs, as JSON Lines.
+//! The table of opcodes, as JSON Lines for programs and as a text for people.
 #![tactic(auto)]
 
 mod form;
 mod laws;
 mod lines;
+mod plain;
+mod row;
 mod words;
 
-pub use form::form_name;
 pub use laws::entry_lines_read_back;
 pub use lines::write_opcodes;
-pub use words::{argument_of, leaves_of, sentence_of, takes_of};
+pub use plain::write_sentences;

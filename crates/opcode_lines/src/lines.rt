@@ -3,9 +3,10 @@
 ghost use Rattle.std.specs.Prelude.{◌≡◌};
 ghost use Rattle.pickle_io.specs.Device.{Writes, each};
 ghost use Rattle.json_lines.specs.Line.{fields_text};
-ghost use Rattle.opcode_lines.specs.EntryFields.{makes_object, spelling_fields, deed_fields, entry_fields, entry_line, table_text};
+ghost use Rattle.opcode_lines.specs.EntryFields.{spelling_fields, row_fields, deed_fields, entry_fields, entry_line, table_text};
 
 use crate::form::form_name;
+use crate::row::{makes_object, object_of, row_name};
 use crate::words::{argument_of, leaves_of, sentence_of, takes_of};
 use json_lines::{begin_line, end_line, write_bool_field, write_number_field, write_text_field};
 use pickle_io::{Failed, Page};
@@ -23,32 +24,11 @@ macro_rules! all {
     ($($op:ident $record:tt)*) => { [$(Opcode::$op),*] };
 }
 
-macro_rules! makes_by {
-    (Push) => { true };
-    (Buffer) => { true };
-    (ReadOnly) => { true };
-    ((Take $taking:ident)) => { true };
-    ((Cut $cutting:ident)) => { true };
-    ((Extension $number:ident)) => { true };
-    ($($other:tt)*) => { false };
-}
-
-macro_rules! makes {
-    (() { $code:literal $name:literal $protocol:literal $form:ident $row:tt $($rest:tt)* }) => { makes_by!($row) };
-}
-
 /// How many opcodes there are.
 const COUNT: usize = opcodes!([count]);
 
 /// Every opcode, in the order of the table.
-const ALL: [Opcode; COUNT] = opcodes!([all]);
-
-/// Whether an opcode may make an object of its own.
-fn makes_object(opcode: Opcode) -> bool
-    ensures { result ≡ makes_object opcode }
-{
-    opcodes!(match opcode => makes!())
-}
+pub const ALL: [Opcode; COUNT] = opcodes!([all]);
 
 /// Writes how an opcode is written.
 fn write_spelling<P: Page>(opcode: Opcode, page: &mut P) -> Result<(), Failed>
@@ -61,13 +41,21 @@ fn write_spelling<P: Page>(opcode: Opcode, page: &mut P) -> Result<(), Failed>
     write_text_field("argument", argument_of(opcode), page)
 }
 
+/// Writes what the machine does for an opcode.
+fn write_row<P: Page>(opcode: Opcode, page: &mut P) -> Result<(), Failed>
+    ensures { Writes (P.told page.old) (P.told page.new) result (fields_text (row_fields opcode)) }
+{
+    write_text_field("row", row_name(opcode), page)?;
+    write_bool_field("makes", makes_object(opcode), page)?;
+    write_text_field("object_is", object_of(opcode), page)
+}
+
 /// Writes what an opcode does.
 fn write_deed<P: Page>(opcode: Opcode, page: &mut P) -> Result<(), Failed>
     ensures { Writes (P.told page.old) (P.told page.new) result (fields_text (deed_fields opcode)) }
 {
     write_text_field("takes", takes_of(opcode), page)?;
     write_text_field("leaves", leaves_of(opcode), page)?;
-    write_bool_field("makes", makes_object(opcode), page)?;
     write_text_field("sentence", sentence_of(opcode), page)
 }
 
@@ -76,6 +64,7 @@ fn write_fields<P: Page>(opcode: Opcode, page: &mut P) -> Result<(), Failed>
     ensures { Writes (P.told page.old) (P.told page.new) result (fields_text (entry_fields opcode)) }
 {
     write_spelling(opcode, page)?;
+    write_row(opcode, page)?;
     write_deed(opcode, page)
 }
 

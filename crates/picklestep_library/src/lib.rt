@@ -17,7 +17,7 @@ ghost use Rattle.pickle_script.specs.declared.texts.written.Text.TheVariants as 
 ghost use Rattle.json_script.specs.declared.lines.Lines.TheVariants as asked_lines;
 ghost use Rattle.std.specs.Prelude.{◌≡◌, false, None};
 ghost use Rattle.library_answers.specs.Asked.{is_many, is_loose, pickles_left, detail_of, granted_of, holes_of};
-ghost use Rattle.library_answers.specs.Answer.{IsTextOf, IsLinesOf, IsCallsOf, IsCallsLinesOf, IsGateOf, IsGateLineOf, IsMembersOf, IsAssemblyOf, IsComparisonOf, longer, IsTalkOf, Fills, FillsIn, FillsOf};
+ghost use Rattle.library_answers.specs.Answer.{IsTextOf, IsLinesOf, IsCallsOf, IsCallsLinesOf, IsGateOf, IsGateLineOf, IsMembersOf, IsMembersLinesOf, IsAssemblyOf, IsComparisonOf, IsComparisonLineOf, longer, IsTalkOf, Fills, FillsIn, FillsOf};
 ghost use Rattle.library_answers.specs.Handle.{Opens, Asks, AsksJson, AsksAgain, AsksBytes};
 
 use json_script::Lines;
@@ -197,6 +197,19 @@ pub extern "C" fn picklestep_members(
     members::fill_members(alloc, bytes, out, written)
 }
 
+/// The same as lines of JSON.
+#[unsafe(no_mangle)]
+pub extern "C" fn picklestep_members_json(
+    alloc: Global,
+    bytes: &[u8],
+    out: &mut [u8],
+    written: &mut Written,
+) -> u8
+    ensures { Fills (IsMembersLinesOf bytes.now) bytes.now out.old out.new written.new result }
+{
+    members::fill_members_lines(alloc, bytes, out, written)
+}
+
 /// The bytes that a text of opcodes is assembled to. `written` has status 1 where a line gives none: its number and the reason are put there
 /// then.
 #[unsafe(no_mangle)]
@@ -225,6 +238,21 @@ pub extern "C" fn picklestep_same(
     ensures { Fills (IsComparisonOf many one.now other.now) (longer one.now other.now) out.old out.new written.new result }
 {
     compared::fill_comparison(alloc, many, one, other, out, written)
+}
+
+/// The same as a line of JSON.
+#[unsafe(no_mangle)]
+pub extern "C" fn picklestep_same_json(
+    alloc: Global,
+    many: bool,
+    one: &[u8],
+    other: &[u8],
+    out: &mut [u8],
+    written: &mut Written,
+) -> u8
+    ensures { Fills (IsComparisonLineOf many one.now other.now) (longer one.now other.now) out.old out.new written.new result }
+{
+    compared::fill_comparison_line(alloc, many, one, other, out, written)
 }
 
 /// The answers of a conversation: those to all lines of a script, in a session of a pickle, or where `many` holds of several. `written` has

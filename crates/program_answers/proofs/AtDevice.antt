@@ -2,7 +2,7 @@
 use Rattle.std.proofs.Common.{◌≡◌, ◌≢◌, ◌⊎◌, inl, inr, ℕ, ◌<◌, ◌≤◌, Bool, true, false, List, [], ◌++◌, length, Option, None, Some, Result, Ok, Err, refl, sym, ap, subst, ◌∙◌, append_assoc, append-nil, arith}
 use Rattle.std.specs.Prelude.{MatchResult, IsErrAnd, IfErr}
 use Rattle.std.specs.List.{concat}
-use Rattle.pickle_io.specs.Device.{Told, holding, AppendsPrefix, HasFailed, Wrote, Broke}
+use Rattle.pickle_io.specs.Device.{Told, holding, AppendsPrefix, HasFailed, Writes, Wrote, Broke}
 use Rattle.pickle_io.specs.Whole.{IsWhole}
 use Rattle.pickle_io.proofs.Devices.{Wrote-trans, Broke-after, WroteAllBut-none, WroteAllBut-stopped}
 use Rattle.pickle_io.proofs.Holding.{Broke-below, nothing-held}
@@ -30,12 +30,11 @@ use Rattle.archive_script.specs.SingleText.{Says}
 use Rattle.archive_script.specs.GateText.{AnswersWith}
 use Rattle.archive_script.proofs.GateLaws.{zero_means_passing, zero_where_file_passes}
 use Rattle.gate_json.proofs.Passing.{line_passes, named_line_passes}
-use Rattle.archive_script.specs.MembersText.{IsMembersText, AnswersMembers}
 use Rattle.assembler_script.specs.AssemblyText.{IsAssemblyText, AnswersAssembly}
 use Rattle.same_objects.specs.declared.compared.Compared.{Compared}
 use Rattle.same_objects.specs.declared.compared.Compared.TheVariants as compared
 use Rattle.same_objects.specs.Same.{Compares, SameObjects}
-use Rattle.same_script.specs.SameText.{comparison_status, IsSameText, AnswersSame}
+use Rattle.same_script.specs.SameText.{comparison_status}
 use Rattle.pickle_session.specs.Allowed.{SessionState}
 use Rattle.pickle_script.specs.Conversation.{AppendsBeyond, BrokeBeyond, BrokeSince, StopsWriting}
 use Rattle.debug_json.specs.Lines.{answer_line}
@@ -49,9 +48,11 @@ use Rattle.program_answers.specs.Files.{Gives, Reports, IsRead}
 use Rattle.program_answers.specs.Skips.{StandFor}
 use Rattle.program_answers.specs.Program.{AnswersWords, Answers}
 use Rattle.program_answers.specs.Gated.{PassesText, IsGateAnswer, IsNamedAnswer, TookGate, TookNamed}
-use Rattle.program_answers.specs.Listed.{TookMembers}
+use Rattle.source_script.specs.SourceText.{IsSourceText, AnswersSource}
+use Rattle.program_answers.specs.Sourced.{TookSource}
 use Rattle.program_answers.specs.Assembled.{TookAssembly}
-use Rattle.program_answers.specs.Compared.{TookComparison}
+use Rattle.program_answers.specs.Compared.{IsSameAnswer, TookComparison}
+use Rattle.program_answers.specs.Opcodes.{IsOpcodes, TookOpcodes, opcodes_text}
 use Rattle.program_answers.specs.Device.{Took, TookText, NoneWithoutMemory, comes_last, lines_come_last, nothing, IsTextOf, IsLinesOf, is_calls_text, is_calls_lines, AnswersInput}
 
 -- ---- what was written on the page
@@ -411,18 +412,6 @@ named_took f list name bytes d e result small few t = record {
   passes = zero_took (PassesFile list bytes) (IsNamedAnswer f name list bytes) d e result (λ o is zero. named_zero f list name bytes o small few is zero) t.0;
 }
 
--- the text of the members
-pub members_took : {S : Type 0} (told : S → Told) (bytes : List ℕ) (old mid new : S) (d e : Told) (first held : List ℕ) (answer result : Result ℕ Stop)
-    → AnswersMembers bytes told old mid answer
-    → (result ≢ Err stop.Write → result ≡ answer) → (result ≢ Err stop.Write → Wrote (told mid) (told new) []) → (answer ≡ Err stop.Write → new ≡ mid)
-    → (result ≡ Err stop.Write → answer ≢ Err stop.Write → Broke (told mid) (told new) [])
-    → told old ≡ holding d first → told new ≡ holding e held → (holding d first).held ≡ 0 → (result ≢ Err stop.Write → (holding e held).held ≡ 0)
-    → TookMembers bytes d e result
-members_took told bytes old mid new d e first held answer result w passed calm untouched failed before after none all =
-    let t = says_took (IsMembersText bytes) (told old) (told mid) (told new) d e first held answer result (record { whole = w.whole; stopped = w.stopped; fits = w.fits })
-    passed calm (λ x. ap told (untouched x)) failed before after none all in
-    record { took = t.0; last = t.1 }
-
 -- the bytes of a text of opcodes
 pub assembly_took : {S : Type 0} (told : S → Told) (text : List ℕ) (old mid new : S) (d e : Told) (first held : List ℕ) (answer result : Result ℕ Stop)
     → AnswersAssembly text told old mid answer
@@ -435,34 +424,66 @@ assembly_took told text old mid new d e first held answer result w passed calm u
     passed calm (λ x. ap told (untouched x)) failed before after none all in
     record { took = t.0; last = t.1 }
 
-same_zero : (many : Bool) (one other : List ℕ) (o : Output) → IsSameText many one other o → o.status ≡ 0 → SameObjects many one other
-same_zero many one other o is zero = go is.compared is.compares (ap (λ (x : Output). x.status) (sym is.text_is) ∙ zero)
-  where
-    go : (c : Compared) → Compares many one other c → comparison_status c ≡ 0 → SameObjects many one other
-    go compared.Same h z = h
-    go (compared.FirstEnds x) h z = absurd cc
-    go (compared.OtherEnds x) h z = absurd cc
-    go (compared.Object n) h z = absurd cc
-    go compared.Results h z = absurd cc
-    go (compared.FirstGoesOn x) h z = absurd cc
-    go (compared.OtherGoesOn x) h z = absurd cc
-    go compared.Order h z = absurd cc
-
--- the line about two pickles: its status is 0 only where they make the same objects
-pub comparison_took : {S : Type 0} (told : S → Told) (many : Bool) (one other : List ℕ) (old mid new : S) (d e : Told) (first held : List ℕ) (answer result : Result ℕ Stop)
-    → AnswersSame many one other told old mid answer
+-- the source of a pickle
+pub source_took : {S : Type 0} (told : S → Told) (many loose : Bool) (bytes : List ℕ) (old mid new : S) (d e : Told) (first held : List ℕ) (answer result : Result ℕ Stop)
+    → AnswersSource many loose bytes told old mid answer
     → (result ≢ Err stop.Write → result ≡ answer) → (result ≢ Err stop.Write → Wrote (told mid) (told new) []) → (answer ≡ Err stop.Write → new ≡ mid)
     → (result ≡ Err stop.Write → answer ≢ Err stop.Write → Broke (told mid) (told new) [])
     → told old ≡ holding d first → told new ≡ holding e held → (holding d first).held ≡ 0 → (result ≢ Err stop.Write → (holding e held).held ≡ 0)
-    → TookComparison many one other d e result
-comparison_took told many one other old mid new d e first held answer result w passed calm untouched failed before after none all =
-    let t = says_took (IsSameText many one other) (told old) (told mid) (told new) d e first held answer result
-    (record { whole = w.whole; stopped = w.stopped; fits = w.fits }) passed calm (λ x. ap told (untouched x)) failed before after none all in
-    record {
-      took = t.0;
-      last = t.1;
-      same = zero_took (SameObjects many one other) (IsSameText many one other) d e result (λ o is zero. same_zero many one other o is zero) t.0;
-    }
+    → TookSource many loose bytes d e result
+source_took told many loose bytes old mid new d e first held answer result w passed calm untouched failed before after none all =
+    let t = says_took (IsSourceText many loose bytes) (told old) (told mid) (told new) d e first held answer result (record { whole = w.whole; stopped = w.stopped; fits = w.fits })
+    passed calm (λ x. ap told (untouched x)) failed before after none all in
+    record { took = t.0; last = t.1 }
+
+zero_same : (many : Bool) (one other : List ℕ) (c : Compared) → Compares many one other c → comparison_status c ≡ 0 → SameObjects many one other
+zero_same many one other compared.Same h z = h
+zero_same many one other (compared.FirstEnds x) h z = absurd cc
+zero_same many one other (compared.OtherEnds x) h z = absurd cc
+zero_same many one other (compared.Object n) h z = absurd cc
+zero_same many one other compared.Results h z = absurd cc
+zero_same many one other (compared.FirstGoesOn x) h z = absurd cc
+zero_same many one other (compared.OtherGoesOn x) h z = absurd cc
+zero_same many one other compared.Order h z = absurd cc
+
+same_zero : (f : Format) (many : Bool) (one other : List ℕ) (o : Output) → IsSameAnswer f many one other o → o.status ≡ 0 → SameObjects many one other
+same_zero format.Text many one other o is zero = zero_same many one other is.compared is.compares (ap (λ (x : Output). x.status) (sym is.text_is) ∙ zero)
+same_zero format.Json many one other o is zero = zero_same many one other is.compared is.compares (ap (λ (x : Output). x.status) (sym is.line_is) ∙ zero)
+
+-- the line about two pickles: its status is 0 only where they make the same objects
+pub comparison_took : (f : Format) (many : Bool) (one other : List ℕ) (d e : Told) (result : Result ℕ Stop)
+    → TookText (IsSameAnswer f many one other) d e result × NoneWithoutMemory d e result → TookComparison f many one other d e result
+comparison_took f many one other d e result t = record {
+  took = t.0;
+  last = t.1;
+  same = zero_took (SameObjects many one other) (IsSameAnswer f many one other) d e result (λ o is zero. same_zero f many one other o is zero) t.0;
+}
+
+-- the table of opcodes
+says_opcodes : {A E : Type 0} (f : Format) (old new : Told) (written : Result A E) (answer : Result ℕ Stop) → Writes old new written (opcodes_text f)
+    → MatchResult written (λ _. answer ≡ Ok 0) (λ _. answer ≡ Err stop.Write) → Says (IsOpcodes f) old new answer × IfErr answer (λ e. e ≡ stop.Write)
+says_opcodes f old new (Ok x) answer w is =
+    rw is (record { whole = (record { text = opcodes_text f; status = 0 }, refl, w, refl); stopped = tt; fits = λ e. absurd cc }, tt)
+says_opcodes f old new (Err x) answer w is =
+    rw is (record { whole = tt; stopped = (record { text = opcodes_text f; status = 0 }, refl, w); fits = λ e. absurd cc }, refl)
+
+only_write : (answer result : Result ℕ Stop) → IfErr answer (λ e. e ≡ stop.Write) → (result ≢ Err stop.Write → result ≡ answer) → IfErr result (λ e. e ≡ stop.Write)
+only_write answer (Ok status) only passed = tt
+only_write answer (Err stop.Write) only passed = refl
+only_write answer (Err stop.Read) only passed = subst (λ (r : Result ℕ Stop). IfErr r (λ e. e ≡ stop.Write)) (sym (passed (λ e. absurd cc))) only
+only_write answer (Err stop.TooLarge) only passed = subst (λ (r : Result ℕ Stop). IfErr r (λ e. e ≡ stop.Write)) (sym (passed (λ e. absurd cc))) only
+only_write answer (Err stop.Memory) only passed = subst (λ (r : Result ℕ Stop). IfErr r (λ e. e ≡ stop.Write)) (sym (passed (λ e. absurd cc))) only
+
+pub opcodes_took : {A E : Type 0} (f : Format) (old mid new d e : Told) (first held : List ℕ) (written : Result A E) (answer result : Result ℕ Stop)
+    → Writes old mid written (opcodes_text f) → MatchResult written (λ _. answer ≡ Ok 0) (λ _. answer ≡ Err stop.Write)
+    → (result ≢ Err stop.Write → result ≡ answer) → (result ≢ Err stop.Write → Wrote mid new []) → (answer ≡ Err stop.Write → new ≡ mid)
+    → (result ≡ Err stop.Write → answer ≢ Err stop.Write → Broke mid new [])
+    → old ≡ holding d first → new ≡ holding e held → (holding d first).held ≡ 0 → (result ≢ Err stop.Write → (holding e held).held ≡ 0)
+    → TookOpcodes f d e result
+opcodes_took f old mid new d e first held written answer result w is passed calm untouched failed before after none all =
+    let s = says_opcodes f old mid written answer w is in
+    let t = says_took (IsOpcodes f) old mid new d e first held answer result s.0 passed calm untouched failed before after none all in
+    record { took = t.0; stops = only_write answer result s.1 passed }
 
 -- ---- a conversation
 

@@ -15,13 +15,15 @@ use Rattle.program_answers.specs.declared.task.CallsOptions.{CallsOptions}
 use Rattle.program_answers.specs.declared.task.GivenFile.{GivenFile}
 use Rattle.program_answers.specs.declared.task.Format.{Format}
 use Rattle.program_answers.specs.declared.task.Format.TheVariants as format
+use Rattle.program_answers.specs.declared.task.Word.{Word}
+use Rattle.program_answers.specs.declared.task.Word.TheVariants as word
 use Rattle.program_answers.specs.declared.task.Usage.{Usage}
 use Rattle.program_answers.specs.declared.task.Usage.TheVariants as usage
 use Rattle.pickle_further.specs.declared.way.Pickles.{Pickles}
 use Rattle.pickle_further.specs.declared.way.Pickles.TheVariants as pickles
 use Rattle.pickle_calls.specs.declared.naming.Detail.{Detail}
 use Rattle.pickle_calls.specs.declared.naming.Detail.TheVariants as detail
-use Rattle.program_answers.specs.CommandLine.{Matches, IsCommand, matches_of, FitsCalls, FitsMemo, GivesReading, HasCallsOptions, HasDetail, HasFormat, HasHoles, HasInput, HasText, HasReading, IsMemory, IsNamed, IsUsed, IsWindow, NamesTask, more_of, most_records, program, skips_of}
+use Rattle.program_answers.specs.CommandLine.{Matches, IsCommand, matches_of, FitsCalls, FitsMemo, GivesReading, HasCallsOptions, HasDetail, HasFormat, HasHoles, HasInput, HasText, HasReading, IsMemory, IsNamed, IsAsked, IsUsed, IsWindow, NamesTask, more_of, name_of, most_records, program, skips_of}
 
 -- ---- a subcommand
 
@@ -196,6 +198,9 @@ used_on name rows input h = record { rows = rows; used = refl; input_is = h }
 abbrev pub used_as : (name other : Text) (rows : List Row) (input : GivenFile) → name ≡ other → HasInput rows input → IsUsed other (matches_of name rows) input
 used_as name other rows input same h = record { rows = rows; used = ap (λ (n : Text). matches_of n rows) same; input_is = h }
 
+pub asked_as : (name : Text) (rows : List Row) (f : Format) → name ≡ codes "opcodes" → HasFormat rows f → IsAsked (codes "opcodes") (matches_of name rows) f
+asked_as name rows f same h = record { rows = rows; used = ap (λ (n : Text). matches_of n rows) same; format_is = h }
+
 abbrev name_in : Matches → Text
 name_in None = []
 name_in (Some m) = m.0
@@ -229,12 +234,31 @@ pub no_same_task : (rows : List Row) → first_of (codes "OTHER") rows ≡ None 
 no_same_task rows none t =
     t.other_is (same_name (codes "same") rows t) (subst (λ (r : List Row). first_of (codes "OTHER") r ≡ None) (sym (same_rows (codes "same") rows t)) none)
 
--- and without a file none at all
-pub no_file : (name : Text) (rows : List Row) → first_of (codes "FILE") rows ≡ None → NamesTask (matches_of name rows) → ⊥
-no_file name rows none t =
-    let there : first_of (codes "FILE") rows ≡ Some t.file = subst (λ (r : List Row). first_of (codes "FILE") r ≡ Some t.file) (same_rows name rows t) t.file_is in
-    let bad : None ≡ Some t.file = sym none ∙ there in
+-- a command of another name is another one
+pub unlike : {A : Type 0} (one other : Text) → bytes_eq one other ≡ false → one ≡ other → A
+unlike one other differ e =
+    let bad : true ≡ false = sym ((bytes_eq-Decides one other).1 e) ∙ differ in
     absurd cc
+
+named_opcodes : (w : Word) → name_of w ≡ codes "opcodes" → w ≡ word.Opcodes
+named_opcodes word.List e = unlike (codes "list") (codes "opcodes") refl e
+named_opcodes word.Objects e = unlike (codes "objects") (codes "opcodes") refl e
+named_opcodes word.Calls e = unlike (codes "calls") (codes "opcodes") refl e
+named_opcodes word.Debug e = unlike (codes "debug") (codes "opcodes") refl e
+named_opcodes word.Form e = unlike (codes "form") (codes "opcodes") refl e
+named_opcodes word.Gate e = unlike (codes "gate") (codes "opcodes") refl e
+named_opcodes word.Reach e = unlike (codes "reach") (codes "opcodes") refl e
+named_opcodes word.Members e = unlike (codes "members") (codes "opcodes") refl e
+named_opcodes word.Assemble e = unlike (codes "assemble") (codes "opcodes") refl e
+named_opcodes word.Same e = unlike (codes "same") (codes "opcodes") refl e
+named_opcodes word.Source e = unlike (codes "source") (codes "opcodes") refl e
+named_opcodes word.Opcodes e = refl
+
+-- and without a file none of all others but `opcodes`
+pub no_file : (w : Word) (rows : List Row) → w ≢ word.Opcodes → first_of (codes "FILE") rows ≡ None → NamesTask (matches_of (name_of w) rows) → ⊥
+no_file w rows other none t =
+    t.file_is (λ e. other (named_opcodes w (sym (same_name (name_of w) rows t) ∙ e)))
+    (subst (λ (r : List Row). first_of (codes "FILE") r ≡ None) (sym (same_rows (name_of w) rows t)) none)
 
 -- the matches are those of a command that was used
 pub named_some : {E : Type 0} (m : Matches) (name other : Text) (rows : List Row) (r : Result (Option Task) E) → m ≡ Some (name, rows) → name ≡ other

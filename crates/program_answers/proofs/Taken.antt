@@ -1,5 +1,6 @@
 -- All words that clap takes name a task, but where the options of `calls` do not fit.
-use Rattle.std.proofs.Common.{◌≡◌, ◌∙◌, ◌&&◌, ◌||◌, ◌⊎◌, inl, inr, not, ℕ, ◌≤◌, Bool, cond, true, false, nat_lt, nat_le, ltb-true, leb-true, pos, List, [], ◌∷◌, ◌++◌, length, find, Option, Some, None, option_map, option_and_then, bytes_eq, codes, slice_get, refl, sym, ap, subst, arith}
+use Rattle.std.proofs.Common.{◌≡◌, ◌≢◌, ◌∙◌, ◌&&◌, ◌||◌, ◌⊎◌, inl, inr, not, ℕ, ◌≤◌, Bool, cond, true, false, nat_lt, nat_le, ltb-true, leb-true, pos, List, [], ◌∷◌, ◌++◌, length, find, Option, Some, None, option_map, option_and_then, bytes_eq, codes, slice_get, refl, sym, ap, subst, arith}
+use Rattle.std.specs.Prelude.{MatchBool, ⊤}
 use Rattle.std.specs.List.{list_all, list_any}
 use Rattle.std.specs.Option.{option_map_or}
 use Rattle.std.specs.Str.Parse.{digits_value, starts_with_minus, without_leading_plus}
@@ -25,6 +26,7 @@ use Rattle.clap.proofs.ValueTestLemmas.{accepts-Accepts}
 use Rattle.clap.proofs.WalkLemmas.{both}
 use Rattle.program_answers.specs.declared.task.Word.TheVariants as word
 use Rattle.program_answers.specs.CommandLine.{FitsOptions, IsCommand, IsCount, IsWindow, NamesTask, file_rule, files_rule, first_rule, full_rule, json_rule, list_rule, other_rule, whole_rule, many_rule, memo_rule, extensions_rule, persistent_rule, buffers_rule, most_records, program, save_rule, skip_rule, unframed_rule, window_rule}
+use Rattle.program_answers.proofs.Named.{unlike}
 use Rattle.program_answers.proofs.Walked.{Each, Keeps, KeepsDefault, enters, enters_rows, found_each, level_is_valid, level_keeps, no_help, required}
 
 -- ---- a row
@@ -267,12 +269,23 @@ window_read rows all = go (find (λ r. bytes_eq r.id (codes "window")) rows) ref
 
 -- ---- the commands
 
+-- but for `opcodes` a command of this name has a FILE
+abbrev GivesFile : Text → List Row → Type 0
+GivesFile name rows = MatchBool (bytes_eq name (codes "opcodes")) ⊤ (is_given (codes "FILE") rows ≡ true)
+
 pub record IsOurs (sub : Shape) : Type 0 where
   pub command : IsCommand sub.name
   pub suits : Each Suits sub.rules
-  pub file : (rows : List Row) → list_all (λ a. not a.required || is_given a.id rows) sub.rules ≡ true → is_given (codes "FILE") rows ≡ true
+  pub file : (rows : List Row) → list_all (λ a. not a.required || is_given a.id rows) sub.rules ≡ true → GivesFile sub.name rows
   pub list : sub.name ≡ codes "gate" → (rows : List Row) → list_all (λ a. not a.required || is_given a.id rows) sub.rules ≡ true → is_given (codes "LIST") rows ≡ true
   pub other : sub.name ≡ codes "same" → (rows : List Row) → list_all (λ a. not a.required || is_given a.id rows) sub.rules ≡ true → is_given (codes "OTHER") rows ≡ true
+
+gives_file : (name : Text) (rows : List Row) → GivesFile name rows → name ≢ codes "opcodes" → is_given (codes "FILE") rows ≡ true
+gives_file name rows gives other = go (bytes_eq name (codes "opcodes")) refl gives
+  where
+    go : (b : Bool) → bytes_eq name (codes "opcodes") ≡ b → MatchBool b ⊤ (is_given (codes "FILE") rows ≡ true) → is_given (codes "FILE") rows ≡ true
+    go true e g = absurd (other ((bytes_eq-Decides name (codes "opcodes")).0 e))
+    go false e g = g
 
 unnegated : (b x : Bool) → ((b && false) || x) ≡ true → x ≡ true
 unnegated true x e = e
@@ -300,15 +313,13 @@ names_task a words needed ours taken fits =
     let all = level_keeps Fine e.sub [] e.rest false (each_keeps e.sub.args_override_self e.sub.rules o.suits)
     (each_default e.sub.rules o.suits) refl e.passes in
     let given = all_given e.sub rows (level_is_valid e.sub [] e.rest false e.passes) in
-    let file = given_first (codes "FILE") rows all (o.file rows given) in
     let window = window_read rows all in
     record {
       name = e.sub.name;
       rows = rows;
       used = enters_rows (built a) _ e;
       command = o.command;
-      file = file.0;
-      file_is = file.1;
+      file_is = λ other. is_some_not (given_first (codes "FILE") rows all (gives_file e.sub.name rows (o.file rows given) other));
       list_is = λ is. is_some_not (given_first (codes "LIST") rows all (o.list is rows given));
       other_is = λ is. is_some_not (given_first (codes "OTHER") rows all (o.other is rows given));
       window = window.0;
@@ -373,12 +384,6 @@ help_suits = record { no_count = refl; gives = refl; window = λ e. absurd cc }
 or_false : (b : Bool) → (b || false) ≡ true → b ≡ true
 or_false true e = refl
 or_false false e = e
-
--- a command of another name is another one
-unlike : {A : Type 0} (one other : Text) → bytes_eq one other ≡ false → one ≡ other → A
-unlike one other differ e =
-    let bad : true ≡ false = sym ((bytes_eq-Decides one other).1 e) ∙ differ in
-    absurd cc
 
 -- `help` is none of them
 help_is_none : (name : Text) → (bytes_eq (codes "help") name || false) ≡ true → (not (bytes_eq name (codes "help")) || false) ≡ true → ⊥
@@ -448,7 +453,7 @@ ours name = (
               (
                 (λ t called. record {
                   command = (word.Members, refl);
-                  suits = (file_suits, (help_suits, tt));
+                  suits = (file_suits, (json_suits, (help_suits, tt)));
                   file = λ rows e. (both _ _ e).0;
                   list = unlike (codes "members") (codes "gate") refl;
                   other = unlike (codes "members") (codes "same") refl;
@@ -464,12 +469,30 @@ ours name = (
                   (
                     (λ t called. record {
                       command = (word.Same, refl);
-                      suits = (file_suits, (many_suits, (other_suits, (help_suits, tt))));
+                      suits = (file_suits, (many_suits, (other_suits, (json_suits, (help_suits, tt)))));
                       file = λ rows e. (both _ _ e).0;
                       list = unlike (codes "same") (codes "gate") refl;
                       other = λ is rows e. (both _ _ (both _ _ e).1).0;
                     }),
-                    ((λ t called. absurd (help_is_none name t called)), tt),
+                    (
+                      (λ t called. record {
+                        command = (word.Source, refl);
+                        suits = (file_suits, (many_suits, (unframed_suits, (help_suits, tt))));
+                        file = λ rows e. (both _ _ e).0;
+                        list = unlike (codes "source") (codes "gate") refl;
+                        other = unlike (codes "source") (codes "same") refl;
+                      }),
+                      (
+                        (λ t called. record {
+                          command = (word.Opcodes, refl);
+                          suits = (json_suits, (help_suits, tt));
+                          file = λ rows e. tt;
+                          list = unlike (codes "opcodes") (codes "gate") refl;
+                          other = unlike (codes "opcodes") (codes "same") refl;
+                        }),
+                        ((λ t called. absurd (help_is_none name t called)), tt),
+                      ),
+                    ),
                   ),
                 ),
               ),

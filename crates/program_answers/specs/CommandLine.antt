@@ -133,22 +133,28 @@ abbrev pub reach_app : App
 reach_app = with_rule granted_app json_rule
 
 abbrev pub members_app : App
-members_app = with_rule (new_app (codes "members")) file_rule
+members_app = with_rule (with_rule (new_app (codes "members")) file_rule) json_rule
 
 abbrev pub assemble_app : App
 assemble_app = with_rule (new_app (codes "assemble")) file_rule
 
 abbrev pub same_app : App
-same_app = with_rule (on_file (codes "same")) other_rule
+same_app = with_rule (with_rule (on_file (codes "same")) other_rule) json_rule
+
+abbrev pub source_app : App
+source_app = frames_app (codes "source")
+
+abbrev pub opcodes_app : App
+opcodes_app = with_rule (new_app (codes "opcodes")) json_rule
 
 abbrev pub wants_subcommand : App → App
 wants_subcommand a = record a { top = record a.top { subcommand_required = true } }
 
 abbrev pub program : App
 program =
-    with_subcommand (with_subcommand (with_subcommand (with_subcommand (with_subcommand (with_subcommand (with_subcommand (with_subcommand (with_subcommand (with_subcommand (wants_subcommand
+    with_subcommand (with_subcommand (with_subcommand (with_subcommand (with_subcommand (with_subcommand (with_subcommand (with_subcommand (with_subcommand (with_subcommand (with_subcommand (with_subcommand (wants_subcommand
     (new_app (codes "picklestep"))) list_app.top) (json_app (codes "objects")).top) calls_app.top) debug_app.top)
-    form_app.top) gate_app.top) reach_app.top) members_app.top) assemble_app.top) same_app.top
+    form_app.top) gate_app.top) reach_app.top) members_app.top) assemble_app.top) same_app.top) source_app.top) opcodes_app.top
 
 -- ---- the task that matches name
 
@@ -257,6 +263,12 @@ pub record HasOptions (rows : List Row) (options : Options) : Type 0 where
   pub window_is : IsWindow (one_of (codes "window") rows) options.window
   pub format_is : HasFormat rows options.format
 
+-- the subcommand of this name was used, which is done on no file, and its answer is written so
+pub record IsAsked (name : Text) (matches : Matches) (f : Format) : Type 0 where
+  pub rows : List Row
+  pub used : matches ≡ Some (name, rows)
+  pub format_is : HasFormat rows f
+
 abbrev pub IsNamed : Matches → Task → Type 0
 IsNamed matches (task.List input options) = (u : IsUsed (codes "list") matches input) × HasListOptions u.rows options
 IsNamed matches (task.Objects input f) = (u : IsUsed (codes "objects") matches input) × HasFormat u.rows f
@@ -264,10 +276,12 @@ IsNamed matches (task.Calls input options) = (u : IsUsed (codes "calls") matches
 IsNamed matches (task.Form input f) = (u : IsUsed (codes "form") matches input) × HasFormat u.rows f
 IsNamed matches (task.Gate input options) = (u : IsUsed (codes "gate") matches input) × HasGateOptions u.rows options
 IsNamed matches (task.Reach input granted f) = (u : IsUsed (codes "reach") matches input) × (HasGranted u.rows granted × HasFormat u.rows f)
-IsNamed matches (task.Members input) = IsUsed (codes "members") matches input
+IsNamed matches (task.Members input f) = (u : IsUsed (codes "members") matches input) × HasFormat u.rows f
 IsNamed matches (task.Assemble input) = IsUsed (codes "assemble") matches input
-IsNamed matches (task.Same input other) = (u : IsUsed (codes "same") matches input) × HasText (codes "OTHER") u.rows (string_bytes other)
+IsNamed matches (task.Source input) = IsUsed (codes "source") matches input
+IsNamed matches (task.Same input other f) = (u : IsUsed (codes "same") matches input) × (HasText (codes "OTHER") u.rows (string_bytes other) × HasFormat u.rows f)
 IsNamed matches (task.Debug input options) = (u : IsUsed (codes "debug") matches input) × HasOptions u.rows options
+IsNamed matches (task.Opcodes f) = IsAsked (codes "opcodes") matches f
 
 -- ---- the matches that name a task
 
@@ -297,18 +311,20 @@ name_of word.Reach = codes "reach"
 name_of word.Members = codes "members"
 name_of word.Assemble = codes "assemble"
 name_of word.Same = codes "same"
+name_of word.Source = codes "source"
+name_of word.Opcodes = codes "opcodes"
 
 abbrev pub IsCommand : Text → Type 0
 IsCommand name = (w : Word) × (name ≡ name_of w)
 
--- one of the commands was used, with a FILE, of `gate` with a LIST, of `same` with an OTHER, a window that is none or within the bounds, and options of `calls` that fit
+-- one of the commands was used, but for `opcodes` with a FILE, of `gate` with a LIST, of `same` with an OTHER, a window that is none or within the bounds,
+-- and options of `calls` that fit
 pub record NamesTask (matches : Matches) : Type 0 where
   pub name : Text
   pub rows : List Row
   pub used : matches ≡ Some (name, rows)
   pub command : IsCommand name
-  pub file : Text
-  pub file_is : first_of (codes "FILE") rows ≡ Some file
+  pub file_is : name ≢ codes "opcodes" → first_of (codes "FILE") rows ≢ None
   pub list_is : name ≡ codes "gate" → first_of (codes "LIST") rows ≢ None
   pub other_is : name ≡ codes "same" → first_of (codes "OTHER") rows ≢ None
   pub window : Option ℕ
@@ -323,10 +339,12 @@ IsBounded (task.Calls input options) = ⊤
 IsBounded (task.Form input f) = ⊤
 IsBounded (task.Gate input options) = ⊤
 IsBounded (task.Reach input granted f) = ⊤
-IsBounded (task.Members input) = ⊤
+IsBounded (task.Members input f) = ⊤
 IsBounded (task.Assemble input) = ⊤
-IsBounded (task.Same input other) = ⊤
+IsBounded (task.Same input other f) = ⊤
+IsBounded (task.Source input) = ⊤
 IsBounded (task.Debug input options) = IfSome options.window (λ n. (1 ≤ n) × (n ≤ most_records))
+IsBounded (task.Opcodes f) = ⊤
 
 -- the words are refused where memory runs out
 abbrev pub IsMemory : Usage → Type 0

@@ -121,19 +121,6 @@ AnswersInput Is source source' old new result = WasNotRead source source' old ne
 
 -- ---- the text that a task asks for
 
--- the file that a task is done on
-abbrev pub input_of : Task → GivenFile
-input_of (task.List input options) = input
-input_of (task.Objects input f) = input
-input_of (task.Calls input options) = input
-input_of (task.Form input f) = input
-input_of (task.Gate input options) = input
-input_of (task.Reach input granted f) = input
-input_of (task.Members input) = input
-input_of (task.Assemble input) = input
-input_of (task.Same input other) = input
-input_of (task.Debug input options) = input
-
 -- the text of a listing, which may be a whole one
 abbrev pub listing_text : Bool → Text
 listing_text true = text.Whole
@@ -154,13 +141,15 @@ abbrev pub is_calls : CallsOptions → List ℕ → Output → Type 0
 is_calls options = is_calls_as options.format options
 
 -- a conversation asks for no text, the gate for those of files by another, the members of an archive are told of no pickle, a text of opcodes is
--- none, and what is the same is told of two
+-- none, what is the same is told of two, and the table of opcodes of none
 abbrev pub asks_for_text : Task → Bool
 asks_for_text (task.Gate input options) = false
-asks_for_text (task.Members input) = false
+asks_for_text (task.Members input f) = false
 asks_for_text (task.Assemble input) = false
-asks_for_text (task.Same input other) = false
+asks_for_text (task.Same input other f) = false
+asks_for_text (task.Source input) = false
 asks_for_text (task.Debug input options) = false
+asks_for_text (task.Opcodes f) = false
 asks_for_text _ = true
 
 -- the device took so of the text that is asked for, in the mode that is asked for, of all bytes of the source; a report, the form and what is reached
@@ -176,10 +165,12 @@ AnswersTask (task.Form input f) source source' old new result =
 AnswersTask (task.Reach input granted f) source source' old new result =
     AnswersInput (is_said f (text.Reach granted) (lines.Reach granted) false false) source source' old new result × NoneWithoutMemory old new result
 AnswersTask (task.Gate input options) source source' old new result = ⊤
-AnswersTask (task.Members input) source source' old new result = ⊤
+AnswersTask (task.Members input f) source source' old new result = ⊤
 AnswersTask (task.Assemble input) source source' old new result = ⊤
-AnswersTask (task.Same input other) source source' old new result = ⊤
+AnswersTask (task.Same input other f) source source' old new result = ⊤
+AnswersTask (task.Source input) source source' old new result = ⊤
 AnswersTask (task.Debug input options) source source' old new result = ⊤
+AnswersTask (task.Opcodes f) source source' old new result = ⊤
 
 -- of all bytes of a file that was opened
 pub record AnswersOpened (t : Task) {F O : Type 0} (r : Reports F O) (file : Option (List ℕ)) (old new : Told) (result : Result ℕ Stop) : Type 0 where
@@ -188,8 +179,8 @@ pub record AnswersOpened (t : Task) {F O : Type 0} (r : Reports F O) (file : Opt
   pub opened_is : (r.file opened).remaining ≡ file
   pub answers : AnswersTask t (r.file opened) (r.file left) old new result
 
--- of all bytes of the file that it names; or this could not be opened, and nothing was written
-abbrev pub AnswersFile : Task → {F O : Type 0} → Reports F O → F → Told → Told → Result ℕ Stop → Type 0
-AnswersFile t r files old new result =
-    (IsErrAnd result (IsShut r files (string_bytes (input_of t).file)) × (new ≡ old))
-    ⊎ AnswersOpened t r (r.bytes_of files (string_bytes (input_of t).file)) old new result
+-- of all bytes of this file; or it could not be opened, and nothing was written
+abbrev pub AnswersFile : Task → GivenFile → {F O : Type 0} → Reports F O → F → Told → Told → Result ℕ Stop → Type 0
+AnswersFile t input r files old new result =
+    (IsErrAnd result (IsShut r files (string_bytes input.file)) × (new ≡ old))
+    ⊎ AnswersOpened t r (r.bytes_of files (string_bytes input.file)) old new result

@@ -3,8 +3,10 @@ pub mod Device
 pub mod Files
 pub mod Gated
 pub mod Listed
+pub mod Opcodes
 pub mod Assembled
 pub mod Compared
+pub mod Sourced
 pub mod Program
 pub mod Skips
 pub mod Talk

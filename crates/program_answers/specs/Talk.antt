@@ -25,7 +25,9 @@ use Rattle.program_answers.specs.Files.{Gives, Reports, IsRead, IsUnread}
 use Rattle.program_answers.specs.Gated.{GatesTask}
 use Rattle.program_answers.specs.Assembled.{AssemblesFile}
 use Rattle.program_answers.specs.Compared.{ComparesFiles}
+use Rattle.program_answers.specs.Sourced.{SourcesFile}
 use Rattle.program_answers.specs.Listed.{ListsFile}
+use Rattle.program_answers.specs.Opcodes.{TookOpcodes}
 
 -- ---- what is saved
 
@@ -140,27 +142,29 @@ TalksOfFile input options r files files' source source' old new result =
 
 -- ---- a task
 
--- the text that it asks for was answered of the file that it names; nothing was read of the input, and nothing saved
-pub record WritesText (t : Task) {F O : Type 0} (r : Reports F O) (files files' : F) (source source' : Gives)
+-- the text that it asks for was answered of this file; nothing was read of the input, and nothing saved
+pub record WritesText (t : Task) (input : GivenFile) {F O : Type 0} (r : Reports F O) (files files' : F) (source source' : Gives)
     (old new : Told) (result : Result ℕ Stop) : Type 0 where
-  pub answers : AnswersFile t r files old new result
+  pub answers : AnswersFile t input r files old new result
   pub unread : source' ≡ source
   pub unsaved : files' ≡ files
 
 abbrev pub CarriesOut : Task → {F O : Type 0} → Reports F O → F → F → Gives → Gives → Told → Told → Result ℕ Stop → Type 0
 CarriesOut (task.List input options) r files files' source source' old new result =
-    WritesText (task.List input options) r files files' source source' old new result
+    WritesText (task.List input options) input r files files' source source' old new result
 CarriesOut (task.Objects input f) r files files' source source' old new result =
-    WritesText (task.Objects input f) r files files' source source' old new result
+    WritesText (task.Objects input f) input r files files' source source' old new result
 CarriesOut (task.Calls input pickles) r files files' source source' old new result =
-    WritesText (task.Calls input pickles) r files files' source source' old new result
-CarriesOut (task.Form input f) r files files' source source' old new result = WritesText (task.Form input f) r files files' source source' old new result
+    WritesText (task.Calls input pickles) input r files files' source source' old new result
+CarriesOut (task.Form input f) r files files' source source' old new result = WritesText (task.Form input f) input r files files' source source' old new result
 CarriesOut (task.Reach input granted f) r files files' source source' old new result =
-    WritesText (task.Reach input granted f) r files files' source source' old new result
+    WritesText (task.Reach input granted f) input r files files' source source' old new result
 CarriesOut (task.Gate input options) r files files' source source' old new result =
     GatesTask input options r files old new result × ((source' ≡ source) × (files' ≡ files))
-CarriesOut (task.Members input) r files files' source source' old new result = ListsFile input r files old new result × ((source' ≡ source) × (files' ≡ files))
+CarriesOut (task.Members input f) r files files' source source' old new result = ListsFile f input r files old new result × ((source' ≡ source) × (files' ≡ files))
 CarriesOut (task.Assemble input) r files files' source source' old new result = AssemblesFile input r files old new result × ((source' ≡ source) × (files' ≡ files))
-CarriesOut (task.Same input other) r files files' source source' old new result =
-    ComparesFiles input (string_bytes other) r files old new result × ((source' ≡ source) × (files' ≡ files))
+CarriesOut (task.Source input) r files files' source source' old new result = SourcesFile input r files old new result × ((source' ≡ source) × (files' ≡ files))
+CarriesOut (task.Same input other f) r files files' source source' old new result =
+    ComparesFiles f input (string_bytes other) r files old new result × ((source' ≡ source) × (files' ≡ files))
 CarriesOut (task.Debug input options) r files files' source source' old new result = TalksOfFile input options r files files' source source' old new result
+CarriesOut (task.Opcodes f) r files files' source source' old new result = TookOpcodes f old new result × ((source' ≡ source) × (files' ≡ files))

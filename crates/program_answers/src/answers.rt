@@ -2,7 +2,7 @@
 //! speak of the device.
 
 ghost use Rattle.std.specs.Prelude.{◌≡◌, ◌≢◌, true, Err};
-ghost use Rattle.program_answers.specs.Device.{NoneWithoutMemory, comes_last, lines_come_last, IsTextOf, IsLinesOf, is_said, AnswersInput, AnswersTask, AnswersFile, is_calls_text, is_calls_lines, is_calls, asks_for_text, listing_text, device_of, input_of as asked_input};
+ghost use Rattle.program_answers.specs.Device.{NoneWithoutMemory, comes_last, lines_come_last, IsTextOf, IsLinesOf, is_said, AnswersInput, AnswersTask, AnswersFile, is_calls_text, is_calls_lines, is_calls, asks_for_text, listing_text, device_of};
 ghost use Rattle.program_answers.specs.Files.{gives, reports};
 
 use crate::files::{Files, open_file};
@@ -137,24 +137,6 @@ fn answer_calls<R: Source, K: Sink + Drop>(
     }
 }
 
-/// The file that a task is done on.
-fn input_of(task: &Task) -> &GivenFile
-    ensures { result.now ≡ asked_input task.now }
-{
-    match task {
-        Task::List(input, _) => input,
-        Task::Objects(input, _) => input,
-        Task::Calls(input, _) => input,
-        Task::Form(input, _) => input,
-        Task::Gate(input, _) => input,
-        Task::Reach(input, _, _) => input,
-        Task::Members(input) => input,
-        Task::Assemble(input) => input,
-        Task::Same(input, _) => input,
-        Task::Debug(input, _) => input,
-    }
-}
-
 /// The text of a listing, which may be a whole one.
 fn listing_text(whole: bool) -> Text
     ensures { result ≡ listing_text whole }
@@ -202,26 +184,29 @@ fn answer_task<R: Source, K: Sink + Drop>(
             answer_said(alloc, *format, text, lines, false, false, source, page)
         }
         Task::Gate(_, _) => unreachable!(),
-        Task::Members(_) => unreachable!(),
+        Task::Members(_, _) => unreachable!(),
         Task::Assemble(_) => unreachable!(),
-        Task::Same(_, _) => unreachable!(),
+        Task::Same(_, _, _) => unreachable!(),
+        Task::Source(_) => unreachable!(),
         Task::Debug(_, _) => unreachable!(),
+        Task::Opcodes(_) => unreachable!(),
     }
 }
 
-/// Opens the file that such a task is done on, and answers the task as `answer_task` does. The stops are those of `open_file` too.
+/// Opens the file that such a task is to be done on, and answers the task as `answer_task` does. The stops are those of `open_file` too.
 pub fn answer_file<K: Sink + Drop, F: Files>(
     alloc: Global,
     task: &Task,
+    input: &GivenFile,
     files: &F,
     page: &mut Buffered<K>,
 ) -> Result<u8, Stop>
     requires text { asks_for_text task.now ≡ true }
     requires handed { (⟦<Buffered<K> as Sink>⟧.told page.old).held ≡ 0 }
-    ensures answers { AnswersFile task.now (reports F.bytes_of F.refuses F.Opened.remaining F.Opened.failures F.took F.loses) files.now
+    ensures answers { AnswersFile task.now input.now (reports F.bytes_of F.refuses F.Opened.remaining F.Opened.failures F.took F.loses) files.now
         (K.told (device_of page.old)) (K.told (device_of page.new)) result }
     ensures handed { result ≢ Err Stop.Write → (⟦<Buffered<K> as Sink>⟧.told page.new).held ≡ 0 }
 {
-    let mut source = open_file(files, input_of(task).file.as_str())?;
+    let mut source = open_file(files, input.file.as_str())?;
     answer_task(alloc, task, &mut source, page)
 }

@@ -2,7 +2,7 @@
 
 ghost use Rattle.std.specs.Prelude.{◌≡◌, IfOk, false, codes};
 ghost use Rattle.clap.specs.Words.{rule_of, app_of, new_app};
-ghost use Rattle.program_answers.specs.CommandLine.{file_rule, files_rule, many_rule, unframed_rule, first_rule, memo_rule, full_rule, skip_rule, window_rule, save_rule, json_rule, whole_rule, list_rule, other_rule, extensions_rule, persistent_rule, buffers_rule, on_file, frames_app, json_app, list_app, detailed_app, calls_app, debug_app, form_app, listed_app, gate_app, granted_app, reach_app, members_app, assemble_app, same_app, wants_subcommand, program};
+ghost use Rattle.program_answers.specs.CommandLine.{file_rule, files_rule, many_rule, unframed_rule, first_rule, memo_rule, full_rule, skip_rule, window_rule, save_rule, json_rule, whole_rule, list_rule, other_rule, extensions_rule, persistent_rule, buffers_rule, on_file, frames_app, json_app, list_app, detailed_app, calls_app, debug_app, form_app, listed_app, gate_app, granted_app, reach_app, members_app, assemble_app, same_app, source_app, opcodes_app, wants_subcommand, program};
 
 use clap::{Arg, ArgAction, Command};
 use std::alloc::{AllocError, Global};
@@ -356,7 +356,8 @@ fn members_command<'a>(alloc: Global) -> Result<Command<'a>, AllocError>
         .about(
             "Prints the members of FILE, if it is an archive in the form that writers write, else where it is not and why",
         )
-        .arg(file_argument(alloc))
+        .arg(file_argument(alloc))?
+        .arg(json_argument(alloc))
 }
 
 /// The command that writes the pickle of a text of opcodes.
@@ -380,7 +381,28 @@ fn same_command<'a>(alloc: Global) -> Result<Command<'a>, AllocError>
         "Says whether the pickles in FILE and OTHER make the same objects in the same order, else how they differ",
         MANY_OF_SAME,
     )?
-    .arg(other_argument(alloc))
+    .arg(other_argument(alloc))?
+    .arg(json_argument(alloc))
+}
+
+/// The command that prints the source of a pickle.
+fn source_command<'a>(alloc: Global) -> Result<Command<'a>, AllocError>
+    ensures { IfOk result (λ c. app_of c ≡ source_app) }
+{
+    with_frames(
+        alloc,
+        "source",
+        "Prints the pickle in FILE as statements of Python, which do what loading it does",
+    )
+}
+
+/// The command that prints the table of opcodes.
+fn opcodes_command<'a>(alloc: Global) -> Result<Command<'a>, AllocError>
+    ensures { IfOk result (λ c. app_of c ≡ opcodes_app) }
+{
+    Command::new(alloc, "opcodes")
+        .about("Prints the table of all opcodes, with what each does")
+        .arg(json_argument(alloc))
 }
 
 /// The program's command line, which has no commands yet.
@@ -411,5 +433,7 @@ pub fn command_line<'a>(alloc: Global) -> Result<Command<'a>, AllocError>
         .subcommand(reach_command(alloc)?)?
         .subcommand(members_command(alloc)?)?
         .subcommand(assemble_command(alloc)?)?
-        .subcommand(same_command(alloc)?)
+        .subcommand(same_command(alloc)?)?
+        .subcommand(source_command(alloc)?)?
+        .subcommand(opcodes_command(alloc)?)
 }

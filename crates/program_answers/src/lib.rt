@@ -11,9 +11,11 @@ mod debug;
 mod files;
 mod gate;
 mod members;
+mod opcodes;
 mod output;
 mod save;
 mod skip_file;
+mod source;
 mod stored;
 mod task;
 

@@ -1,6 +1,6 @@
 //! What the words of the command line ask for.
 
-ghost use Rattle.std.specs.Prelude.{◌≡◌, ◌≤◌, IsTrue, ℕ, [], Option, Some, None, Ok, IfOk, IfErr, IfSome, map, drop, option_map, true, codes};
+ghost use Rattle.std.specs.Prelude.{◌≡◌, ◌≢◌, ◌≤◌, IsTrue, ℕ, [], Option, Some, None, Ok, IfOk, IfErr, IfSome, map, drop, option_map, true, codes};
 ghost use Rattle.std.specs.String.{string_bytes};
 ghost use Rattle.clap.specs.Words.{found_of, first_of, one_of, rows_of, fault_of, subcommand_of, subcommand_rows_of, takes};
 ghost use Rattle.pickle_script.specs.GivenHoles.{holes_of};
@@ -31,7 +31,7 @@ pub struct GivenFile {
     pub unframed: bool,
 }
 
-/// What the program is asked to do, each with the file that it is done on.
+/// What the program is asked to do, each with the file that it is done on; the table of opcodes needs none.
 #[derive(Drop, Debug)]
 pub enum Task {
     /// List the opcodes, for people or for programs.
@@ -48,14 +48,18 @@ pub enum Task {
     Gate(GivenFile, GateOptions),
     /// Print whether a loader of the file reaches something that was given this besides, for people or for programs.
     Reach(GivenFile, Granted, Format),
-    /// Print the members of the archive in writers' form that the file is.
-    Members(GivenFile),
+    /// Print the members of the archive in writers' form that the file is, for people or for programs.
+    Members(GivenFile, Format),
     /// Write the bytes of the opcodes that stand in the text that the file is.
     Assemble(GivenFile),
-    /// Print whether the pickles in the file make the same objects as those in another, which has this name.
-    Same(GivenFile, String),
+    /// Print whether the pickles in the file make the same objects as those in another, which has this name, for people or for programs.
+    Same(GivenFile, String, Format),
+    /// Print the source of the pickle in the file, as statements of Python.
+    Source(GivenFile),
     /// Read commands from standard input and answer each.
     Debug(GivenFile, Options),
+    /// Print the table of opcodes, for people or for programs.
+    Opcodes(Format),
 }
 
 /// The commands of the program.
@@ -81,6 +85,10 @@ pub enum Word {
     Assemble,
     /// Compares two files.
     Same,
+    /// Prints the source of a pickle.
+    Source,
+    /// Prints the table of opcodes.
+    Opcodes,
 }
 
 /// What an answer is written as.
@@ -450,6 +458,10 @@ fn word_of(name: &str) -> Option<Word>
         Some(Word::Assemble)
     } else if name == "same" {
         Some(Word::Same)
+    } else if name == "source" {
+        Some(Word::Source)
+    } else if name == "opcodes" {
+        Some(Word::Opcodes)
     } else {
         None
     }
@@ -514,7 +526,7 @@ fn same_task(
     ensures none { result ≡ Ok None → NamesTask (matches_of (codes "same") (rows_of (found_of found.now))) → ⊥ }
 {
     match text_of(alloc, found, "OTHER")? {
-        Some(other) => Ok(Some(Task::Same(input, other))),
+        Some(other) => Ok(Some(Task::Same(input, other, format_of(found)))),
         None => Ok(None),
     }
 }
@@ -538,20 +550,33 @@ fn task_of_word(
         Word::Form => Ok(Some(Task::Form(input, format_of(found)))),
         Word::Gate => gate_task(alloc, input, found),
         Word::Reach => Ok(Some(Task::Reach(input, granted_of(found), format_of(found)))),
-        Word::Members => Ok(Some(Task::Members(input))),
+        Word::Members => Ok(Some(Task::Members(input, format_of(found)))),
         Word::Assemble => Ok(Some(Task::Assemble(input))),
         Word::Same => same_task(alloc, input, found),
+        Word::Source => Ok(Some(Task::Source(input))),
+        Word::Opcodes => Ok(Some(Task::Opcodes(format_of(found)))),
     }
 }
 
-/// The task of a command that was used; no answer where it was used on no file.
+/// The task of a command that was used on no file; no answer where it needs one.
+fn fileless_task(word: Word, found: &ArgMatches<'_>) -> Option<Task>
+    ensures some { IfSome result (IsNamed (matches_of (name_of word) (rows_of (found_of found.now)))) }
+    ensures none { result ≡ None → word ≢ Word.Opcodes }
+{
+    match word {
+        Word::Opcodes => Some(Task::Opcodes(format_of(found))),
+        _ => None,
+    }
+}
+
+/// The task of a command that was used; no answer where it was used on no file, and needs one.
 fn used_task(alloc: Global, word: Word, found: &ArgMatches<'_>) -> Result<Option<Task>, AllocError>
     ensures some { IfOk result (λ r. IfSome r (IsNamed (matches_of (name_of word) (rows_of (found_of found.now))))) }
     ensures none { result ≡ Ok None → NamesTask (matches_of (name_of word) (rows_of (found_of found.now))) → ⊥ }
 {
     match given_input(alloc, found)? {
         Some(input) => task_of_word(alloc, word, input, found),
-        None => Ok(None),
+        None => Ok(fileless_task(word, found)),
     }
 }
 

@@ -1,1 +1,2 @@
-pub mod SameTexts
+-- Lemmas that the proofs of several functions cite.
+pub mod Ends

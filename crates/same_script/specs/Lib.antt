@@ -1,1 +1,2 @@
 pub mod SameText
+pub mod SameFields

@@ -1,8 +1,7 @@
 -- The line that says whether two pickles make the same objects, or how they differ.
 -- Source: own.
-use Rattle.std.specs.Prelude.{◌≡◌, ◌≢◌, ℕ, Bool, List, codes, Result, Err, IfOk, IfErr}
+use Rattle.std.specs.Prelude.{◌≡◌, ℕ, Bool, List, codes}
 use Rattle.pickle_io.specs.Text.{◌⧺◌}
-use Rattle.pickle_io.specs.Device.{Told}
 use Rattle.pickle_text.specs.Words.{id_text}
 use Rattle.pickle_text.specs.Column.{newline}
 use Rattle.pickle_text.specs.Closing.{closing_line}
@@ -11,9 +10,6 @@ use Rattle.pickle_text.specs.declared.closing.Closing.{Closing}
 use Rattle.same_objects.specs.declared.compared.Compared.{Compared}
 use Rattle.same_objects.specs.declared.compared.Compared.TheVariants as compared
 use Rattle.same_objects.specs.Same.{Compares}
-use Rattle.pickle_script.specs.GateText.{WroteText, StopsGate}
-use Rattle.pickle_script.specs.declared.stop.Stop.{Stop}
-use Rattle.pickle_script.specs.declared.stop.Stop.TheVariants as stop
 
 -- which of them is not read to its end, and how its run ends
 unfoldable pub ends_line : List ℕ → Closing → List ℕ
@@ -70,9 +66,3 @@ pub record IsSameText (many : Bool) (one other : List ℕ) (o : Output) : Type 0
   pub compared : Compared
   pub compares : Compares many one other compared
   pub text_is : o ≡ comparison_output compared
-
--- what is answered where that was to be written to a sink, of which `told` says what it reports
-pub record AnswersSame (many : Bool) (one other : List ℕ) {S : Type 0} (told : S → Told) (old new : S) (answer : Result ℕ Stop) : Type 0 where
-  pub whole : IfOk answer (WroteText (IsSameText many one other) (told old) (told new))
-  pub stopped : IfErr answer (StopsGate (IsSameText many one other) (told old) (told new))
-  pub fits : answer ≢ Err stop.TooLarge

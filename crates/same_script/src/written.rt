@@ -3,7 +3,8 @@
 ghost use Rattle.std.specs.Prelude.{◌≡◌, ◌≤◌, length};
 ghost use Rattle.pickle_io.specs.Device.{Writes};
 ghost use Rattle.pickle_doc.specs.Document.{size_limit};
-ghost use Rattle.same_script.specs.SameText.{ends_line, follow_words, goes_on_line, object_words, object_line, order_words, same_words, results_words, first_word, second_word, comparison_line, comparison_status, AnswersSame};
+ghost use Rattle.archive_script.specs.SingleText.{Says};
+ghost use Rattle.same_script.specs.SameText.{ends_line, follow_words, goes_on_line, object_words, object_line, order_words, same_words, results_words, first_word, second_word, comparison_line, comparison_status, IsSameText};
 
 use pickle_io::{Failed, Page, write_all};
 use pickle_script::Stop;
@@ -111,7 +112,7 @@ fn write_compared<S: Page>(compared: Compared, page: &mut S) -> Result<(), Faile
 }
 
 /// The status of an answer: 0 where they make the same, else 1.
-fn status_of(compared: Compared) -> u8
+pub(crate) fn status_of(compared: Compared) -> u8
     ensures { result ≡ comparison_status compared }
 {
     match compared {
@@ -134,7 +135,7 @@ pub fn write_comparison<S: Page>(
 ) -> Result<u8, Stop>
     requires one { length one.now ≤ size_limit }
     requires other { length other.now ≤ size_limit }
-    ensures { AnswersSame many one.now other.now S.told page.old page.new result }
+    ensures { Says (IsSameText many one.now other.now) (S.told page.old) (S.told page.new) result }
 {
     let compared = same_objects(alloc, many, one, other)?;
     write_compared(compared, page)?;

@@ -8,8 +8,5 @@ returns-in_err-write_text_field g c = grind (arith, fields_steps)
 pub returns-in_err-write_text_field-2 : goal.returns-in_err-write_text_field-2
 returns-in_err-write_text_field-2 g c = grind (arith, fields_steps)
 
-pub returns-in_err-write_bool_field : goal.returns-in_err-write_bool_field
-returns-in_err-write_bool_field g c = grind (arith, fields_steps)
-
 pub returns : goal.returns
 returns g c = grind (arith, fields_steps)
