@@ -29,13 +29,15 @@ def _parser() -> argparse.ArgumentParser:
     parser.add_argument('--many', action='store_true', help='FILE has several pickles that follow one another')
     parser.add_argument('--unframed', action='store_true', help='ignore the lengths of frames, so that a pickle that was cut off is read to the cut')
     parser.add_argument('--first', metavar='N', type=_count, help='read only the first N opcodes, and print the stack after them')
-    parser.add_argument('--full', action='store_true', help='print long texts, lists and dictionaries whole')
+    parser.add_argument('--full', action='store_true', help='print long texts, lists and dictionaries whole, by the proved program (with --first by Python)')
     return parser
 
 
 def main(arguments: List[str]) -> int:
     """Writes the source of a pickle. The status is 1 where reading ended early, and 2 where there is no answer."""
     options = _parser().parse_args(arguments)
+    if options.full and options.first is None:
+        return _by_program(options)
     try:
         with Waiting():
             answer = source(given(options.file)[0], full=options.full, many=options.many, unframed=options.unframed, first=options.first)
@@ -44,3 +46,10 @@ def main(arguments: List[str]) -> int:
         print(f'picklestep: {reason(error)}', file=sys.stderr)
         return 2
     return 0 if answer.end.is_stopped or answer.end.how == 'part' else 1
+
+
+def _by_program(options: argparse.Namespace) -> int:
+    """The same by the program, which shows everything whole, and whose answer is proved."""
+    from ..answering import main as answer
+    modes = [mode for mode, is_given in (('--many', options.many), ('--unframed', options.unframed)) if is_given]
+    return answer(['source', *modes, '--', options.file])
