@@ -1,10 +1,11 @@
-"""The table of opcodes: the code, name and argument of each, and what it does. tools/make_opcodes.py makes this file of the definitions."""
+"""The table of opcodes: the code, name and argument of each, and what it does. tools/make_opcodes.py makes the rows of what the program answers."""
 
 from __future__ import annotations
 
+import math
 from typing import Dict, Iterable, NamedTuple, Tuple
 
-__all__ = ['BY_CODE', 'BY_NAME', 'OpcodeInfo', 'TABLE', 'codes_of', 'of_kinds', 'of_rows']
+__all__ = ['BY_CODE', 'BY_NAME', 'OpcodeInfo', 'TABLE', 'codes_of', 'of_kinds', 'of_rows', 'spellings_of']
 
 
 class OpcodeInfo(NamedTuple):
@@ -216,6 +217,26 @@ def of_kinds(*kinds: str) -> Tuple[str, ...]:
     ('EMPTY_LIST', 'LIST', 'INST')
     """
     return tuple(info.name for info in TABLE if info.kind in kinds)
+
+
+def spellings_of(name: str) -> Tuple[str, ...]:
+    """The names of the opcodes that mean the same as one of them with the same argument: the shortest first, and last the one whose argument is a line.
+    Of an opcode without an argument there are none.
+
+    >>> spellings_of('BINUNICODE'), spellings_of('PUT')
+    (('SHORT_BINUNICODE', 'BINUNICODE', 'BINUNICODE8'), ('BINPUT', 'LONG_BINPUT', 'PUT'))
+    """
+    return tuple(info.name for info in sorted(TABLE, key=_width) if info.argument and _meaning(info) == _meaning(BY_NAME[name]))
+
+
+def _meaning(info: OpcodeInfo) -> Tuple[str, str, bool]:
+    """What opcodes with an argument have in common that mean the same with the same one. (LONG1 and LONG4 hold bytes, and BININT a number.)"""
+    return info.row, info.kind, info.form.startswith('bytes')
+
+
+def _width(info: OpcodeInfo) -> float:
+    """How many bytes a number takes, or a length; a line takes the most."""
+    return min((int(letter) for letter in info.form if letter.isdigit()), default=math.inf)
 
 
 def codes_of(names: Iterable[str]) -> Tuple[bytes, ...]:

@@ -6,15 +6,13 @@ from typing import Optional
 
 from . import library
 from .addresses import content_in
-from .errors import NotConverted, ProgramError
+from .errors import NotConverted
 from .short_records import SameAnswer
 from .sources import Input, Source
 from .tasks import modes
+from .verdicts import same_answer
 
 __all__ = ['require_same', 'same', 'same_bytes']
-
-# The line of pickles that make the same.
-_SAME = 'the same objects'
 
 
 def same(one: Source, other: Source, *, many: bool = False, timeout: Optional[float] = None, memory: Optional[int] = None) -> SameAnswer:
@@ -37,11 +35,8 @@ def same_bytes(one: bytes, other: bytes, many: bool = False, timeout: Optional[f
     if answer is None:
         from .program import run_program
         with Input(one) as first, Input(other) as second:
-            answer = run_program(['same', *modes(many), first.path, second.path], [*first.files, *second.files], timeout=timeout, memory=memory)
-    if not answer.endswith(b'\n'):
-        raise ProgramError('the program gave no whole answer')
-    text = answer.decode('ascii').rstrip('\n')
-    return SameAnswer(text == _SAME, text)
+            answer = run_program(['same', '--json', *modes(many), first.path, second.path], [*first.files, *second.files], timeout=timeout, memory=memory)
+    return same_answer(answer)
 
 
 def require_same(one: bytes, made: bytes, many: bool = False) -> None:

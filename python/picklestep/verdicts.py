@@ -1,19 +1,19 @@
-"""The lines of `form --json`, `reach --json` and `gate --json`, read. docs/reference/json.md has their fields."""
+"""The lines of `form --json`, `reach --json`, `gate --json`, `members --json` and `same --json`, read. docs/reference/json.md has their fields."""
 
 from __future__ import annotations
 
 import os
-from typing import TYPE_CHECKING, Callable, Optional
+from typing import TYPE_CHECKING, Callable, List, Optional, Tuple
 
 from .errors import ProgramError
-from .listed import Fields, argument_of, check_whole, content_of, fields_of, shown_argument, words_of
+from .listed import Fields, argument_of, check_whole, content_of, fields_in, fields_of, shown_argument, words_of
 from .opens import BETWEEN
 from .sources import LIMIT
 
 if TYPE_CHECKING:
-    from .short_records import GateAnswer, OtherForm, ReachAnswer
+    from .short_records import GateAnswer, Member, OtherForm, ReachAnswer, SameAnswer
 
-__all__ = ['IN_FORM', 'gate_answer', 'line_refused', 'other_form', 'reach_answer']
+__all__ = ['IN_FORM', 'gate_answer', 'line_refused', 'members_of', 'other_form', 'reach_answer', 'same_answer', 'why_unlisted']
 
 # What is said of a pickle that is in the form.
 IN_FORM = b'{"kind":"end","how":"in_form"}\n'
@@ -23,6 +23,9 @@ _UNSEEN = {'archive': ('an archive', 'it is not looked at'), 'container': ('a co
            'same_names': ('not looked at', 'two names that differ in case alone'),
            'unclear_names': ('not looked at', 'two names for one file, or a name with an empty part, . or ..'),
            'two_kinds': ('not looked at', 'a loader may take the archive itself for something else'), 'too_large': ('not looked at', f'it unpacks to more than {LIMIT} bytes')}
+# What `same` says, and of which file.
+_COMPARED = {'same': 'the same objects', 'results': 'another result', 'order': 'other calls, or in another order'}
+_FILES = {'first': 'first', 'other': 'second'}
 
 
 def other_form(line: bytes) -> Optional[OtherForm]:
@@ -110,3 +113,58 @@ def gate_answer(line: bytes, text: Callable[[], str]) -> GateAnswer:
     member = member if packed is None else f'{packed}{BETWEEN}{member}'
     offset = int(fields['offset']) if 'offset' in fields else None
     return GateAnswer(how == 'passes', fields['text'] if 'text' in fields else text(), kind, reason, offset, member, 'behind_header' in fields)
+
+
+def members_of(lines: bytes) -> Tuple[List[Member], Fields]:
+    """The members that the lines of `members --json` name, and the fields of the line behind them: `how` is 'whole' where they are all. Raises
+    ProgramError where the lines are not whole.
+
+    >>> line = b'{"kind":"member","name":"a.pkl","offset":35,"size":9,"method":"deflated","packed":5}\\n'
+    >>> found, end = members_of(line + b'{"kind":"end","how":"whole"}\\n')
+    >>> found, end['how']
+    ([Member(name='a.pkl', offset=35, size=9, deflated=5, address='')], 'whole')
+    """
+    from .short_records import Member
+    *found, end = fields_in(check_whole(lines))
+    return [Member(os.fsdecode(content_of(each, 'name')), int(each['offset']), int(each['size']), int(each['packed']) if 'packed' in each else None)
+            for each in found], end
+
+
+def why_unlisted(end: Fields) -> str:
+    """Why a file has no members that all readers find, as `members` says it, by the fields of its last line.
+
+    >>> why_unlisted({'how': 'not_in_form', 'offset': 3, 'words': 'a name that is not plain'})
+    'not in form: 3: a name that is not plain'
+    """
+    if end['how'] == 'too_large':
+        return f'it unpacks to more than {LIMIT} bytes: it is not looked at'
+    return f'not in form: {end["offset"]}: {end["words"]}'
+
+
+def same_answer(line: bytes) -> SameAnswer:
+    """What the line of `same --json` says. Raises ProgramError where it is not whole.
+
+    >>> same_answer(b'{"kind":"same","how":"object","object":3}\\n').text
+    'another object #3'
+    >>> same_answer(b'{"kind":"same","how":"other_ends","end":{"kind":"end","how":"fault","code":"F1","words":"ended","offset":0,"of_frame":false}}\\n').text
+    'second: fault: F1 ended at 0'
+    """
+    from .short_records import SameAnswer
+    if not (line.startswith(b'{"kind":"same"') and line.endswith(b'}\n')):
+        raise ProgramError('the program gave no whole answer')
+    fields = fields_of(line)
+    return SameAnswer(fields['how'] == 'same', _compared(fields))
+
+
+def _compared(fields: Fields) -> str:
+    how = fields['how']
+    if how == 'object':
+        return f'another object #{fields["object"]}'
+    if how in _COMPARED:
+        return _COMPARED[how]
+    file = _FILES[how.partition('_')[0]]
+    return f'{file}: {_ended(fields["end"])}' if 'end' in fields else f'{file}: bytes follow behind the pickle'
+
+
+def _ended(end: Fields) -> str:
+    return f'refused: item {end["item"]}: {words_of(end)}' if end['how'] == 'refused' else f'{end["how"]}: {words_of(end)}'

@@ -411,12 +411,12 @@ class WordsOfThePackage(OpenerCase):
 
     def test_mend(self) -> None:
         before = Path('two.zip').read_bytes()
-        self.assertEqual(self.say(functools.partial(mend, ['two.zip > a.pkl', 'out.pkl']))[:2], (0, 'it is whole\nsaved out.pkl: the pickle alone, and no container\n'))
+        self.assertEqual(self.say(functools.partial(mend, ['two.zip > a.pkl', '--save', 'out.pkl']))[:2], (0, 'it is whole\nsaved out.pkl: the pickle alone, and no container\n'))
         self.assertEqual(Path('out.pkl').read_bytes(), HOSTILE)
         for out in ('two.zip', 'two.zip > a.pkl', 'two.zip > new.pkl'):
-            self.assertEqual(self.say(functools.partial(mend, ['two.zip > a.pkl', out]))[::2],
+            self.assertEqual(self.say(functools.partial(mend, ['two.zip > a.pkl', '--save', out]))[::2],
                              (2, f"picklestep: opened 'two.zip > a.pkl' (25 bytes)\npicklestep: cannot write {out}: nothing is written into a container\n"))
-        self.assertEqual(self.say(functools.partial(mend, ['alone.pkl', 'two.zip > a.pkl']))[0], 2)
+        self.assertEqual(self.say(functools.partial(mend, ['alone.pkl', '--save', 'two.zip > a.pkl']))[0], 2)
         self.assertEqual(Path('two.zip').read_bytes(), before)
         self.assertEqual(sorted(os.listdir()), ['alone.pkl', 'one.pkl.gz', 'out.pkl', 'two.zip'])
 

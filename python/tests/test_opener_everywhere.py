@@ -49,10 +49,10 @@ ASKS: Dict[str, Callable[[Any], Any]] = {
 OF_OTHERS = {'assemble', 'members', 'pickles_in'}
 # Words, with what stands behind the file.
 WORDS: Dict[str, List[str]] = {
-    'calls': [], 'convert': ['--protocol', '0', '--save', 'out'], 'debug': [], 'diff': ['none.pkl'], 'form': [], 'list': [], 'mend': ['out'], 'objects': [],
+    'calls': [], 'convert': ['--protocol', '0', '--save', 'out'], 'debug': [], 'diff': ['none.pkl'], 'form': [], 'list': [], 'mend': ['--save', 'out'], 'objects': [],
     'optimize': ['--save', 'out'], 'reach': [], 'same': ['none.pkl'], 'shell': ['--batch', 'script'], 'size': [], 'source': [], 'view': ['--export', 'out', '--force']}
-# Those that print the name, or are asked in another way: here, and in test_opener.py.
-WORDS_OF_OTHERS = {'assemble', 'dap', 'gate', 'members', 'policy', 'rename', 'scan'}
+# Those that print the name, that are asked in another way, here and in test_opener.py, or that have no file.
+WORDS_OF_OTHERS = {'assemble', 'dap', 'gate', 'members', 'opcodes', 'policy', 'rename', 'scan'}
 
 
 class EverywhereCase(OpenerCase):
@@ -190,7 +190,7 @@ class Saves(EverywhereCase):
         self.file('text', TEXT)
         before = sorted(os.listdir())
         for file in ('alone.pkl', 'one.pkl.gz', 'two.zip > a.pkl'):
-            for words in (['debug', file, '--save', 'X'], ['mend', file, 'X'], ['optimize', file, '--save', 'X'], ['convert', file, '--protocol', '0', '--save', 'X'],
+            for words in (['debug', file, '--save', 'X'], ['mend', file, '--save', 'X'], ['optimize', file, '--save', 'X'], ['convert', file, '--protocol', '0', '--save', 'X'],
                           ['size', file, '--svg', 'X'], ['view', file, '--export', 'X'], ['assemble', 'text', '--save', 'X']):
                 with self.subTest(words):
                     status, _, errors = self.word(*('two.zip > b.pkl' if word == 'X' else word for word in words))
@@ -213,7 +213,7 @@ class Saves(EverywhereCase):
         self.assertEqual(Path('alone.pkl').read_bytes(), HONEST)
 
     def test_what_is_saved(self) -> None:
-        for words in (['optimize', 'one.pkl.gz', '--save', 'out.gz'], ['convert', 'one.pkl.gz', '--protocol', '2', '--save', 'out.gz'], ['mend', 'one.pkl.gz', 'out.gz']):
+        for words in (['optimize', 'one.pkl.gz', '--save', 'out.gz'], ['convert', 'one.pkl.gz', '--protocol', '2', '--save', 'out.gz'], ['mend', 'one.pkl.gz', '--save', 'out.gz']):
             status, out, _ = self.word(*words)
             self.assertEqual((status, out.splitlines()[-1]), (0, 'saved out.gz: the pickle alone, and no container'))
         status, _, errors = self.word('debug', 'one.pkl.gz', '--save', 'out.gz')

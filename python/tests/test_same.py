@@ -85,7 +85,8 @@ class Same(unittest.TestCase):
         with tempfile.TemporaryDirectory() as folder:
             for name, data in (('a', b'K\x05.'), ('b', b'J\x05\0\0\0.'), ('c', b'N.')):
                 Path(folder, name).write_bytes(data)
-            for words, status, text in ((('a', 'b'), 0, f'{_SAME}\n'), (('a', 'c'), 1, f'{_other(0)}\n'), (('--many', 'b', 'a'), 0, f'{_SAME}\n'), (('a', 'none'), 2, '')):
+            for words, status, text in ((('a', 'b'), 0, f'{_SAME}\n'), (('a', 'c'), 1, f'{_other(0)}\n'), (('--many', 'b', 'a'), 0, f'{_SAME}\n'), (('a', 'none'), 2, ''),
+                                        (('--json', 'a', 'b'), 0, '{"kind":"same","how":"same"}\n'), (('a', 'c', '--json'), 1, '{"kind":"same","how":"object","object":0}\n')):
                 run = subprocess.run([sys.executable, '-m', 'picklestep', 'same', *words], cwd=folder, env=environment(), capture_output=True, text=True, timeout=600)
                 self.assertEqual((run.returncode, run.stdout), (status, text), run.stderr)
 

@@ -19,12 +19,12 @@ from typing import Dict, List, Optional, Tuple, Union
 import picklestep
 from evasions import tries, with_hole, wrapper
 from picklestep import library
-from picklestep.member_lines import members_of
 from picklestep.scan import Judge, Limits, Options, look, passing
 from picklestep.scan.blobs import Blob, Budget, BytesBlob, FileBlob
 from picklestep.scan.canonical import Form, NotCanonical, archives, outlines, zips
 from picklestep.scan.names import Names
 from picklestep.scan.results import from_json, to_json
+from picklestep.verdicts import members_of
 from scan_support import HOSTILE, MODELS, Made, ScanCase, closing, entry, local, looks_at, notes_of, zip_of
 from test_large_archives import Record, state_of, write_as_torch
 from test_scan_honest import changed
@@ -210,7 +210,7 @@ class Large(ScanCase):
         assert members is not None
         for ranges, are in (([(40, 60_000)], True), ([(40, 70_031)], True), ([(40, 70_032)], False), ([(30, 60_000)], False), ([(40, 50), (60, 70)], False),
                             ([(40, 50), (70_062, 70_063)], True), ([], True)):
-            self.assertEqual(outlines._are_contents(ranges, members_of(members.decode('ascii'))), are, ranges)
+            self.assertEqual(outlines._are_contents(ranges, members_of(members)[0]), are, ranges)
 
 
 class Whole(ScanCase):

@@ -289,7 +289,7 @@ class Alone(InChromium):
             self.assertEqual(self.texts('#name'), [name])
         self.members(path)
         self.browser.click('#as-pickle')
-        self.browser.wait("document.querySelector('#closing').textContent.includes('begins like a container: zip archive')")
+        self.browser.wait("document.querySelector('#closing').textContent.includes('begins like a container: a zip archive')")
         self.give(self.file('a.pickle.gz', gzip.compress(gzip.compress(SYSTEM))))
         self.assertEqual((self.texts('#name'), self.texts('#where')[0][:9]), (['a.pickle'], 'at 0 of 6'))
         packed = io.BytesIO()
@@ -305,13 +305,13 @@ class Alone(InChromium):
         self.assertEqual(self.texts('#name'), ['data.pkl'])
         self.members(path)
         self.browser.click('#as-pickle')
-        self.browser.wait("document.querySelector('#closing').textContent.includes('begins like a container: tar archive')")
+        self.browser.wait("document.querySelector('#closing').textContent.includes('begins like a container: a tar archive')")
         # The checksum of this header is not right, and bytes stand behind this archive, so there is no member to show.
         self.assertEqual(self.members(behind), [])
         self.assertIn('picklestep scan looks at all of them (not in form: ', self.texts('#members-note')[0])
         self.assertEqual(self.members(self.file('c.tar', b'a'.ljust(257, b'\0') + b'ustar\x0000'.ljust(255, b'\0') + bytes(1024))), [])
         self.browser.click('#as-pickle')
-        self.browser.wait("document.querySelector('#closing').textContent.includes('begins like a container: tar archive')")
+        self.browser.wait("document.querySelector('#closing').textContent.includes('begins like a container: a tar archive')")
         self.assertEqual((self.requests(), self.browser.errors()), ([], []))
 
     def test_what_cannot_be_opened_is_said(self) -> None:

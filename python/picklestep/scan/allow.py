@@ -90,10 +90,10 @@ def read_lines(words: Iterable[str], with_needed: bool = True) -> List[str]:
     return [text for _, text, _ in placed_lines(words, with_needed)]
 
 
-def placed_lines(words: Iterable[str], with_needed: bool = True) -> Iterator[Tuple[str, str, Line]]:
+def placed_lines(words: Iterable[str], with_needed: bool = True, files: Optional[List[_File]] = None) -> Iterator[Tuple[str, str, Line]]:
     """The lines of the given sets and files, and of the lists that these include, each list once: where each is, its text, and what it says. A word
     that names a set means the set; `./torch` means a file of that name. `with_needed` is unset where a set means its own names, without those of the
-    sets that it needs.
+    sets that it needs. The files that are read, but for those of sets, are added to `files`.
 
     Raises OSError where a file cannot be read, and NoList where one is no list.
     """
@@ -104,7 +104,10 @@ def placed_lines(words: Iterable[str], with_needed: bool = True) -> Iterator[Tup
         if os.path.realpath(path) in taken:
             continue
         taken.add(os.path.realpath(path))
-        for place, text, line in lines_of(wanted.content(), wanted.word if wanted.by is None or wanted.is_set else str(path), wanted.is_set):
+        content = wanted.content()
+        if files is not None and not wanted.is_set:
+            files.append(_File.of(str(path), content))
+        for place, text, line in lines_of(content, wanted.word if wanted.by is None or wanted.is_set else str(path), wanted.is_set):
             if line is not None and not line.is_include:
                 yield place, text, line
             elif line is not None and (with_needed or not wanted.is_set):
@@ -116,14 +119,51 @@ def read_names(words: Iterable[str], with_needed: bool = True) -> Names:
     return Names(read_lines(words, with_needed), is_checked=True)
 
 
+class _File(NamedTuple):
+    """A file that was read: its path, where that led, and the digest of what stood there. (Most are read again and again, and seldom changed.)"""
+
+    path: str
+    real: str
+    digest: bytes
+
+    @classmethod
+    def of(cls, path: str, content: bytes) -> _File:
+        return cls(path, os.path.realpath(path), _digest(content))
+
+    def is_as_read(self) -> bool:
+        """Whether the same stands there. (What is no file, as a pipe, is read once.)"""
+        try:
+            if os.path.realpath(self.path) != self.real or not os.path.isfile(self.real):
+                return False
+            with open(self.path, 'rb') as file:
+                return _digest(file.read()) == self.digest
+        except OSError:
+            return False
+
+
+def _digest(content: bytes) -> bytes:
+    from hashlib import blake2b  # (most runs have no lists)
+    return blake2b(content).digest()
+
+
+_Given = Tuple[Tuple[str, ...], Tuple[str, ...]]
+# The names of the words and lines that were given, with the files that were read for them. So many are kept at most.
+_kept: Dict[_Given, Tuple[Tuple[_File, ...], Names]] = {}
+_MOST_KEPT = 16
+
+
 def names_of(words: Sequence[str], lines: Sequence[str]) -> Names:
-    """What sets and files have, with lines beside them. What comes of the package's own sets alone is kept."""
-    return _names_of_sets(tuple(words), tuple(lines)) if all(word in SETS for word in words) else Names([*read_lines(words), *lines])
-
-
-@lru_cache(maxsize=16)
-def _names_of_sets(words: Tuple[str, ...], lines: Tuple[str, ...]) -> Names:
-    return Names([*read_lines(words), *lines])
+    """What sets and files have, with lines beside them. It is kept as long as the same stands in all files."""
+    given = tuple(words), tuple(lines)
+    files, names = _kept.get(given, ((), None))
+    if names is not None and all([file.is_as_read() for file in files]):
+        return names
+    read: List[_File] = []
+    names = Names([*(text for _, text, _ in placed_lines(words, files=read)), *lines])
+    if len(_kept) >= _MOST_KEPT:
+        _kept.clear()
+    _kept[given] = tuple(read), names
+    return names
 
 
 @lru_cache(maxsize=None)

@@ -215,6 +215,8 @@ STORES: Tuple[Container, ...] = (
     Container('Django cache', 'stores.django_cache:look_into', sign=rb'[\x80FINGJKML].{0,126}?\.x', known_by=_is_django_cache,
               is_pickles=True),
 )
+# (what is said of a file that has such an ending or beginning, and is of another kind, ends with who writes this one)
+assert all(each.writers for each in (*CONTAINERS, *STORES) if each.endings or each.tar_ending or each.begun)
 
 # --- What is asked of all of them ---
 

@@ -33,7 +33,7 @@ _MOST_LINES = 200_000
 _MOST_NAMES = 1_000
 _FILLS = ('append', 'set', 'add')
 # No list lets this pass, which Python 2 wrote for some instances.
-_INST = 'inst '
+_INST = 'inst'
 
 
 def verdicts(pickle: Pickle, opcodes: Blob, lists: Sequence[Names], more: Sequence[str], budget: Budget) -> Tuple[Verdict, ...]:
@@ -148,10 +148,10 @@ def _refused(entries: bytes, at: int, part: Blob, answer: GateAnswer, not_there:
         if answer.passes or answer.offset is None:
             return
         yield answer
-        granted = lines.done(at, answer).granted
-        if not granted or answer.reason.startswith(_INST):
+        done = lines.done(at, answer)
+        if not done.granted or done.what == _INST:
             return
-        entries += text_of([granted])
+        entries += text_of([done.granted])
         last, answer = answer, _ask(entries, part, budget)
         if answer.offset == last.offset:  # (no list allows it)
             return
@@ -189,6 +189,7 @@ class _Lines:
         found = self._all().get(self._offset(at, answer))
         if found is not None:
             return found[0]
+        # (a line of `gate --json` has what stands there as words alone)
         what, number = answer.reason.partition(' ')[0], answer.reason.rpartition('#')[2]
         return self._done_with(what, 'fill' if what in _FILLS else what, int(number)) if what in CHANGES else _Done(what, '', '')
 

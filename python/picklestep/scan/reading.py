@@ -12,7 +12,7 @@ from ..errors import OutOfMemory, PicklestepError, ProgramError, TimedOut
 from ..hints import OLD_TORCH
 from ..listed import whole_lines
 from ..patterns import pattern
-from ..reaches import CHANGES, EVENTS, IMPORTS, Fields, end_of, name_of, plainly_in, said_in, text_of
+from ..reaches import CHANGES, EVENTS, HEADINGS, IMPORTS, Fields, end_of, name_of, plainly_in, said_in, text_of
 from ..records import End, Extension, Global, Name, Ref
 from ..verdicts import IN_FORM
 from .blobs import CHUNK, Blob, Budget, FileBlob, Spooled, spooled
@@ -24,8 +24,8 @@ from .results import OF_ARGUMENTS, OF_OFFSETS, ODD, Call, Import, Pickle, Place
 
 __all__ = ['Asked', 'Enough', 'Summary', 'begun_module', 'calls_in_form', 'calls_words', 'is_odd_name', 'is_plain_name', 'is_worked_out', 'shown_name', 'why_unread']
 
-# The heading of what a loader does that goes on where the lines ended.
-_GOES_ON = 'a loader may go on'
+# How the loader treats frames that goes on right where the lines ended.
+_GOES_ON = 'ignored'
 
 # These lines name what they import or call.
 _WITH_NAME = ('import', 'inst', 'call', 'new')
@@ -230,17 +230,17 @@ class Summary:
             self._take_end()
         if 'text' not in fields:
             raise ProgramError('the program is of an earlier version than the package')
-        self._part = text_of(fields)[:-1]
-        self._is_over = self._is_over and self._part == _GOES_ON
+        self._part = HEADINGS[fields['frames']]
+        self._is_over = self._is_over and fields['frames'] == _GOES_ON
         if self._lines is not None:
             self._lines.append(text_of(fields))
 
     def _take_end(self) -> None:
         """Keeps how the strict reading ended."""
-        self.end = end_of(self._closing)
-        if self._offset_of is not None and self.end.offset is not None:
-            from ..texts import with_offset
-            self.end = with_offset(self.end, self._offset_of(self.end.offset))
+        closing = self._closing
+        if self._offset_of is not None:
+            closing = {kind: {**fields, 'offset': self._place(int(fields['offset']))} if 'offset' in fields else fields for kind, fields in closing.items()}
+        self.end = end_of(closing)
 
     def _found_by(self, fields: Fields) -> '_Found':
         """What a line is counted by. It is kept with the first line of its kind about its name."""

@@ -11,9 +11,10 @@ import mmap
 from typing import Any, Iterable, Iterator, List, NamedTuple, Optional, Sequence, Tuple
 
 from ... import library
-from ...member_lines import NO_MEMBERS, members_of
+from ...errors import ProgramError
 from ...short_records import Member
 from ...sources import LIMIT
+from ...verdicts import members_of
 from ..blobs import STEPS_OF_A_MEMBER, Blob, Budget
 from .formed import answer_of_program, content_of
 from .forms import NotKnown, wrong
@@ -26,7 +27,7 @@ _MOST_READ = 64 << 20
 MOST_AROUND = 64 << 20
 # Fewer bytes of a member are not left out.
 FEW = 512
-_WORDS = ('members',)
+_WORDS = ('members', '--json')
 Range = Tuple[int, int]
 
 
@@ -39,11 +40,12 @@ def named_members(blob: Blob, contents: Iterable[Range], budget: Optional[Budget
     answer = _answer(blob, outline, budget)
     if answer is None:
         return None
-    text = answer.decode('ascii')
-    if text.startswith(NO_MEMBERS):
-        offset, _, reason = text[len(NO_MEMBERS[0]):].strip().partition(': ')
-        wrong(reason, int(offset))
-    found = list(members_of(text))
+    try:
+        found, end = members_of(answer)
+    except (ProgramError, ValueError) as error:
+        raise NotKnown('the program does not say which members it has') from error
+    if end['how'] != 'whole':
+        wrong(end.get('words', 'it unpacks to too much'), int(end.get('offset', -1)))
     if budget is not None:
         budget.count(STEPS_OF_A_MEMBER * len(found))
     if outline is not None and not _are_contents(outline.left_out, found):

@@ -11,11 +11,11 @@ import secrets
 from contextlib import closing
 from dataclasses import replace
 from itertools import takewhile
-from typing import Any, Iterator, List, Optional, Sequence
+from typing import Iterator, List, Optional, Sequence
 
 from ...errors import PicklestepError
 from ...program import Process, time_to_wait
-from ...reaches import EVENTS, Fields, plainly_in
+from ...reaches import EVENTS, Fields, plainly_in, renumbered_fields, said_in
 from ...texts import renumbered
 from ..blobs import Budget, BytesBlob, Limits, spooled
 from ..reading import Asked, Enough, Summary, calls_words
@@ -35,8 +35,6 @@ _MEMORY_OF_A_BYTE = 4096
 
 # Lines with numbers that go on from pickle to pickle in another way than those of objects.
 _COUNTED = ('buffer', 'readonly')
-# Fields that are numbers of objects, beside those that end in `_object`.
-_NUMBERED = ('object', 'callee', 'of')
 
 
 def answers(contents: Sequence[bytes], is_whole: Sequence[bool], budget: Budget, keep_lines: bool = False,
@@ -122,16 +120,8 @@ def _lowered(fields: Fields, start: int, count: int) -> Fields:
     """
     if not start:
         return fields
-    said = renumbered(fields['text'].partition(': ')[2], lambda number: number - count)
-    return {**_moved(fields, count), 'offset': int(fields['offset']) - start, 'text': f'{int(fields["offset"]) - start:5}: {said}'}
-
-
-def _moved(value: Any, count: int, name: str = '') -> Any:
-    if isinstance(value, dict):
-        return {key: _moved(each, count, key) for key, each in value.items()}
-    if isinstance(value, list):
-        return [_moved(each, count) for each in value]
-    return int(value) - count if name in _NUMBERED or name.endswith('_object') else value
+    offset, said = int(fields['offset']) - start, renumbered(said_in(fields), lambda number: number - count)
+    return {**renumbered_fields(fields, lambda number: int(number) - count), 'offset': offset, 'text': f'{offset:5}: {said}'}
 
 
 # The answer about each pickle that imports and calls nothing.

@@ -9,8 +9,9 @@ cachelib (Flask) writes the time as a pickle too, or as four bytes, and then the
 from __future__ import annotations
 
 import zlib
-from typing import TYPE_CHECKING, Optional
+from typing import TYPE_CHECKING, Optional, Sequence
 
+from ...opcodes import BY_CODE, BY_NAME, codes_of, of_kinds, of_rows
 from ..begins import HEAD
 from ..containers import Held
 from ..walk import walk
@@ -22,11 +23,12 @@ __all__ = ['end_of_expiry', 'look_into']
 
 _MOST_OF_EXPIRY = 128
 
-# What is before a number, what it is made by, and what is behind it.
-_BEFORE, _BEHIND = ('PROTO', 'FRAME'), ('PUT', 'BINPUT', 'MEMOIZE', 'STOP')
-_NUMBERS = ('NONE', 'INT', 'BININT', 'BININT1', 'BININT2', 'LONG', 'LONG1', 'FLOAT', 'BINFLOAT')
+# What is before a number (PROTO and FRAME), what it is made by, and what is behind it.
+_BEFORE, _BEHIND = of_rows('protocol', 'nothing'), of_rows('put', 'memoize', 'stop')
+_NUMBERS = ('INT', *of_kinds('none', 'int', 'long-line', 'float', 'float-line'))
 
-_BEGINS = tuple(bytes([code]) for code in b'\x80FINGJKML')
+# (What protocol 2 has for them comes behind PROTO.)
+_BEGINS = codes_of(('PROTO', *(name for name in _NUMBERS if BY_NAME[name].protocol < 2)))
 
 # `zlib.compress` writes an `x` first.
 _STOP_AND_ZLIB = b'.x'
@@ -43,16 +45,11 @@ def end_of_expiry(head: bytes) -> Optional[int]:
     way = walk(head[:_MOST_OF_EXPIRY], 0)
     if not way.stops or not head.startswith(_STOP_AND_ZLIB, way.end - 1):
         return None
-    return way.end if _is_number(head[:way.end]) and _unpacks(head[way.end:]) else None
+    return way.end if _is_number([BY_CODE[head[at]].name for at in way.passed]) and _unpacks(head[way.end:]) else None
 
 
-def _is_number(pickle: bytes) -> bool:
-    """Whether a pickle holds a plain number or None and nothing else."""
-    import pickletools
-    try:
-        names = [opcode.name for opcode, _, _ in pickletools.genops(pickle)]
-    except ValueError:
-        return False
+def _is_number(names: Sequence[str]) -> bool:
+    """Whether a pickle of these opcodes holds a plain number or None and nothing else."""
     rest = [name for name in names if name not in _BEFORE]
     return len(rest) > 1 and rest[0] in _NUMBERS and all(name in _BEHIND for name in rest[1:])
 

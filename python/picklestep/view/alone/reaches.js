@@ -86,7 +86,7 @@ class Reaches {
     const ends = {
       heading: ({ text }) => { heading = text; },
       ending: (fields) => { this.isOfFrame = Boolean(fields.of_frame); },
-      begins: ({ like }) => this.behind.push(`begins like a container: ${like.slice(like.indexOf(' ') + 1)} (picklestep scan looks into it)`),
+      begins: ({ like }) => this.behind.push(`begins like a container: ${like} (picklestep scan looks into it)`),
       warning: ({ text }) => this.behind.push(text),
       counts: ({ imports, calls }) => { this.counts = [imports, calls]; },
     };
