@@ -9,12 +9,13 @@ import json
 from typing import Any, Callable, Dict, Iterable, Iterator, List, Optional, Sequence, Tuple, TypeVar, Union
 
 from . import made
+from .errors import Refused
 from .listed import Fields, argument_of, shown_argument, words_of
 from .records import End, Ref
 from .session_records import Changed, Changer, Item, Made, Mark, Ran, Step, Stored, Where
 
-__all__ = ['EDITS', 'ITEM', 'Entry', 'Memo', 'REFUSED', 'Stack', 'element_at', 'elements_in', 'item_of', 'made_of', 'ran_of', 'read', 'refusal_in',
-           'refusal_of', 'shown_text', 'starts_of', 'step_of', 'text_of', 'where_of']
+__all__ = ['EDITS', 'ITEM', 'Entry', 'Memo', 'REFUSED', 'Stack', 'element_at', 'elements_in', 'item_of', 'made_of', 'ran_of', 'read', 'refused_by',
+           'shown_text', 'starts_of', 'step_of', 'text_of', 'where_of']
 
 # An entry of the stack.
 Entry = Union[Ref, Mark]
@@ -39,12 +40,20 @@ _STOPPED = End('stopped')
 
 # --- Refusals ---
 
-def refusal_of(fields: Fields) -> str:
-    """What a line was refused for, as `debug` prints it behind `refused: `.
+def refused_by(fields: Fields) -> Refused:
+    """Why a line was refused, by the answer to it.
 
-    >>> refusal_of({'kind': 'refused', 'code': 'C9', 'words': 'no such item', 'edit': 'E1'})
-    'C9 E1 no such item'
+    >>> refused = refused_by({'kind': 'refused', 'code': 'C9', 'words': 'no such item', 'edit': 'E1'})
+    >>> refused.text, refused.code, refused.inner
+    ('C9 E1 no such item', 'C9', 'E1')
     """
+    end = fields.get('end', {})
+    inner = end['code'] if end.get('how') == 'refused' else fields.get('edit', fields.get('fault', ''))
+    return Refused(_refusal_of(fields), fields['code'], inner, _refusal_in(end))
+
+
+def _refusal_of(fields: Fields) -> str:
+    """What a line was refused for, as `debug` prints it behind `refused: `."""
     code, words = fields['code'], fields['words']
     written = _REFUSALS.get(code)
     return f'{code} {words if written is None else written(words, fields)}'
@@ -59,13 +68,8 @@ _REFUSALS: Dict[str, Callable[[str, Fields], str]] = {
     'V2': lambda words, fields: f'no item at offset {fields["offset"]}'}
 
 
-def refusal_in(fields: Fields) -> str:
-    """Why an opcode is refused, by the answer to a step or a run; nothing where none was.
-
-    >>> refusal_in({'kind': 'ran', 'place': 3, 'how': 'refused', 'code': 'S2', 'words': 'stack underflow'})
-    'S2 stack underflow'
-    """
-    end = fields.get('end', {}) if fields['kind'] == 'refused' else fields
+def _refusal_in(end: Fields) -> str:
+    """Why an opcode is refused, by how a run ended; nothing where none is."""
     return words_of(end) if end.get('how') == 'refused' else ''
 
 
@@ -86,7 +90,7 @@ def ran_of(fields: Fields) -> Ran:
     """
     how = fields['how']
     why = 'end' if how in ('stopped', 'fault') else how
-    return Ran(fields['place'], why, why if how == 'breakpoint' else f'{why}, {_end_text(fields)}', refusal_in(fields))
+    return Ran(fields['place'], why, why if how == 'breakpoint' else f'{why}, {_end_text(fields)}', _refusal_in(fields), fields.get('code', ''))
 
 
 class Stack:
@@ -330,5 +334,5 @@ _TEXTS: Dict[str, Callable[[Fields], Iterable[str]]] = {
     'ran': lambda fields: [f'at {fields["place"]}: {ran_of(fields).text}'],
     'memo': lambda fields: [' '.join(['memo', *(f'{entry["memo"]}=#{entry["object"]}' for entry in fields['entries'])])],
     'items': lambda fields: map(item_text, fields['items']), 'objects': lambda fields: map(made.line_of, fields['objects']),
-    'object': lambda fields: [made.line_of(fields)], 'refused': lambda fields: [f'refused: {refusal_of(fields)}'],
+    'object': lambda fields: [made.line_of(fields)], 'refused': lambda fields: [f'refused: {_refusal_of(fields)}'],
     'nothing': lambda fields: [], 'quit': lambda fields: []}

@@ -2,33 +2,41 @@
 
 from __future__ import annotations
 
+import contextlib
 import os
 from array import array
 from bisect import bisect_left, bisect_right
-from itertools import chain
+from itertools import chain, islice
 from pathlib import Path
 from typing import Any, Callable, Dict, Iterator, List, NamedTuple, Optional, Set, Tuple
 
+from . import library
 from .addresses import is_in
 from .answers import Calls
-from .errors import Refused
-from .lines import Lines, OpcodeLines, cut_text, silent
+from .errors import ProgramError, Refused
+from .lines import CUT, cut_text, silent
+from .listed import text_of, whole_lines
 from .object_lines import ObjectLines, ObjectsAsked
+from .opcode_lines import OpcodeLines
 from .pickle_lines import add_items, read_all, read_answers
 from .reaches import CALLS, IMPORTS, Fields, fields_of, said_in
 from .records import Reach, Ref
+from .searching import Sought
 from .session import SHIFTS, Session
+from .session_records import Where
 from .sources import Input, Source
-from .tasks import modes
+from .tasks import Asked, modes
 from .wording import shown
 
-__all__ = ['MOST_EXACT', 'MOST_TEXT', 'Document', 'Done', 'Fields', 'Reaches', 'around', 'in_a_line', 'places_edited']
+__all__ = ['MOST_EXACT', 'MOST_TEXT', 'Document', 'Done', 'Fields', 'Reaches', 'places_edited']
 
 # Up to this many objects, with texts of this many bytes, are asked of the session at each step. Above that they are shown as they are at the end.
 MOST_EXACT = 20_000
 MOST_TEXT = 1 << 24
 # The most bytes of a line of `calls` that are shown.
 _MOST_SAID = 4000
+# So many marks are open before the lines that are shown of a listing, one after another: each has four blanks for each of them.
+_MOST_MARKS = 1 << 26
 # How closing lines begin that say that not all of a file was read.
 _OF_CONTAINER = 'begins like a container: '
 _WARNING = 'warning: '
@@ -95,13 +103,6 @@ class Reaches:
         return self.text(at) if at < len(self.offsets) and self.offsets[at] == offset else ''
 
 
-def _with_reaches(lines: OpcodeLines, final: ObjectLines, calls: bytes, is_part: bool) -> Tuple[OpcodeLines, ObjectLines, Reaches]:
-    """What the program says, with what is reached."""
-    reaches = Reaches(Calls(calls), is_part)
-    lines.closing += reaches.behind
-    return lines, final, reaches
-
-
 def _counted(kinds: List[str]) -> Tuple[int, int]:
     return sum(map(IMPORTS.__contains__, kinds)), sum(map(CALLS.__contains__, kinds))
 
@@ -138,8 +139,6 @@ class Document:
         self._undone: List[Done] = []
         self.version = 0
         self.place = 0
-        self._content: Tuple[int, bytes] = (0, b'')
-        self._codes: Optional[bytes] = None  # of all opcodes, where they are known before the pickle is read
         try:
             self._read()
         except BaseException:
@@ -154,46 +153,51 @@ class Document:
     # --- The pickle as it is ---
 
     def _read(self) -> None:
-        """Reads the listing, the objects, and what is imported and called."""
-        if not self._read_at_once():
-            if self._edits or self.version:
-                self._content = self.version + 1, self.session.bytes()
-                with Input(self._content[1]) as given:
-                    self._read_from(given)
-            else:
-                self._read_from(self.session._given())
+        """Reads the opcodes, the objects, and what is imported and called."""
+        is_as_it_was = not self._edits and not self.version
+        content = self.session.bytes()
+        lines = self._begun(content) if is_as_it_was else self._no_lines(content)
+        self._take(*self._lists(lines, self.session.where(), self._progress, is_as_it_was))
         self.version += 1
         self._heap: Optional[ObjectLines] = None
         self.edited = places_edited(self._edits)
-
-    def _read_at_once(self) -> bool:
-        """Reads what the library says of a small pickle as the edits leave it. False where the program is to be asked: there is no library, or the
-        listing ends before its last opcode."""
-        with self.session._asked() as asked:
-            answers = read_answers(asked.in_process, self._options, self._codes)
-        if answers is None or len(answers[0]) < self.session.where().places:
-            return False
-        self._take(*_with_reaches(*answers), len(answers[0]))
-        return True
-
-    def _read_from(self, given: Input) -> None:
-        self._take(*self._lists(given, self.session.where().places, self._codes, self._progress))
 
     def _take(self, lines: OpcodeLines, final: ObjectLines, reaches: Reaches, listed: int) -> None:
         """Keeps what the program says."""
         self.lines, self._final, self.reaches, self.listed = lines, final, reaches, listed
         here = self.session.where().place
-        self._makers = self.lines.makers
-        self._makers.finish(final.readonly_count, self._makes_object)
+        lines.makers.finish(final.readonly_count, self._makes_object)
         self.session.goto(here)
 
-    def _lists(self, given: Input, places: int, codes: Optional[bytes], progress: Callable[[str], None]) -> Tuple[OpcodeLines, ObjectLines, Reaches, int]:
-        """What the program says of an input of so many opcodes, and of how many of them `list` has a line. The session is not asked."""
-        answers = read_all(given, self._options, progress, codes)
-        listed = len(answers[0])
-        if listed < places:
-            add_items(answers[0], given, self._options)
-        return (*_with_reaches(*answers), listed)
+    def _no_lines(self, content: bytes) -> OpcodeLines:
+        """The lines of opcodes before any was read. The session is asked for what they say, so they are asked for no more once it has other edits."""
+        return OpcodeLines(content, self.items)
+
+    def _begun(self, content: bytes) -> OpcodeLines:
+        """The same of the pickle as it was at first, of which some may have been read."""
+        return self._no_lines(content)
+
+    def items(self, first: int, stop: int) -> List[Fields]:
+        """The fields of opcodes from a place on before another, as the session has them."""
+        found: List[Fields] = self.session._talk.fields(b'items %d %d' % (first, stop))['items']
+        return found
+
+    def _lists(self, lines: OpcodeLines, where: Where, progress: Callable[[str], None], is_as_it_was: bool = False
+               ) -> Tuple[OpcodeLines, ObjectLines, Reaches, int]:
+        """What the program says of a pickle, in which a session is somewhere, and of how many opcodes `list` has a line. The session is not asked."""
+        with contextlib.ExitStack() as files:
+            def given() -> Input:
+                return self.session._given() if is_as_it_was else files.enter_context(Input(lines.content))
+
+            read = (read_answers(lambda words: library.answer(words, lines.content), lines, self._options)
+                    or read_all(given(), lines, self._options, progress))
+            reaches = Reaches(Calls(read.calls), read.is_part)
+            lines.closing += reaches.behind
+            lines.ends_at = where.end.offset
+            listed = len(lines)
+            if listed < where.places:
+                add_items(lines, given(), self._options)
+        return lines, read.objects, reaches, listed
 
     def _makes_object(self, place: int, number: int) -> bool:
         """Whether the opcode at a place makes the object of this number. It moves the session."""
@@ -248,11 +252,11 @@ class Document:
 
     def numbers_before(self, place: int) -> int:
         """How many objects the opcodes before a place make."""
-        return self._makers.before(place)
+        return self.lines.makers.before(place)
 
     def maker(self, number: int) -> Optional[int]:
         """The place of the opcode that makes an object, if there is such an object."""
-        return self._makers.place(number) if 0 <= number < len(self._final) else None
+        return self.lines.makers.place(number) if 0 <= number < len(self._final) else None
 
     # --- Objects ---
 
@@ -285,11 +289,11 @@ class Document:
 
     def made_before(self, place: int) -> Tuple[int, int]:
         """How many objects were made before a place, and how many at all."""
-        return min(self._makers.before(place), len(self._final)), len(self._final)
+        return min(self.lines.makers.before(place), len(self._final)), len(self._final)
 
     def offset_of_maker(self, number: int) -> Optional[int]:
         """The offset of the opcode that made an object."""
-        return self.lines.offset(self._makers.place(number)) if number < len(self._makers) else None
+        return self.lines.offset(self.lines.makers.place(number)) if number < len(self.lines.makers) else None
 
     def final_brief(self, number: int) -> str:
         """An object as it is at the end, in a line."""
@@ -298,31 +302,28 @@ class Document:
     # --- Searches ---
 
     def find(self, text: str, after: int) -> Optional[int]:
-        """The place that a search finds: an offset, a name or a text. What an argument holds is found, also where its line does not have it whole."""
-        if text.isdecimal() and len(self.lines) and int(text) <= self.lines.offset(len(self.lines) - 1):
+        """The place that a search finds: that of an offset, or the next opcode with a text in its name, its argument or its note, or with a number that is
+        no offset here; where there is none up to the end, the first from the start."""
+        count = len(self.lines)
+        if text.isdecimal() and count and int(text) <= self.lines.offset(count - 1):
             return self.lines.place_of(int(text))
-        if not text:
-            return None
-        data = text.encode('utf-8', 'surrogatepass')
-        cut = next(chain(self.cut_with(data, after + 1, 1), self.cut_with(data, 0, 1)), None)
-        places = [self.lines.find(in_a_line(data), after), self.lines.find(in_a_line(data, b''), after), cut]
-        ahead = [(place - after - 1) % len(self.lines) for place in places if place is not None]
-        return (after + 1 + min(ahead)) % len(self.lines) if ahead else None
+        ahead = (Sought(text).places(self.lines, place, 1, in_names=True) for place in (after + 1, 0))
+        return next(chain.from_iterable(ahead), None) if text else None
 
-    def cut_with(self, text: bytes, place: int, step: int) -> Iterator[int]:
-        """The places whose arguments are not whole in their lines and hold a text, from a place on, forwards or backwards."""
-        for at in around(self.lines, b' bytes more', place, step):
-            end = self.lines.offset(at + 1) if at + 1 < len(self.lines) else None
-            if self.content().find(text, self.lines.offset(at) + 1, end) >= 0:
-                yield at
+    def first_lines(self, count: int) -> List[str]:
+        """The first lines of `list`, so many or all, with long texts cut. Raises ProgramError where there is hardly more in them than blanks for marks."""
+        count = min(count, len(self.lines))
+        if self.lines.marks_before(count) > _MOST_MARKS:
+            raise ProgramError('too many marks are open at once to be shown')
+        with Asked(self.lines.content, None, None) as asked, contextlib.closing(asked.blocks(['list', *self._options])) as blocks:
+            rows = [cut_text(line, CUT) for line in islice(_of_opcodes(blocks), min(count, self.listed))]
+        return rows + [text_of(self.lines.at(place)) for place in range(len(rows), count)]
 
     # --- Edits ---
 
     def content(self) -> bytes:
         """The bytes of the pickle as it is."""
-        if self._content[0] != self.version:
-            self._content = self.version, self.session.bytes()
-        return self._content[1]
+        return self.lines.content
 
     def _changed(self, edits: List[Done], undone: List[Done], back: Callable[[], object]) -> None:
         """Reads the pickle after the session's edits became these. Where that fails, `back` is called, and all is as it was."""
@@ -349,21 +350,9 @@ class Document:
         self.session.save(path)
 
 
-def in_a_line(text: bytes, escaped: bytes = b"\\'") -> bytes:
-    """A text as the program writes it in quotes; with nothing that is escaped as it is typed, but for what is no sign of ASCII."""
-    return b''.join(b'\\x%02x' % byte if not 0x20 <= byte <= 0x7e else b'\\%c' % byte if byte in escaped else b'%c' % byte for byte in text)
-
-
-def around(lines: Lines, text: bytes, place: int, step: int) -> Iterator[int]:
-    """The places whose lines hold a text, from a place on, forwards or backwards."""
-    if step > 0:
-        at = lines.start(min(place, len(lines))) - 1
-        while (at := lines.text.find(text, at + 1)) >= 0:
-            yield lines.number_at(at)
-    else:
-        at = lines.start(max(0, place + 1))
-        while (at := lines.text.rfind(text, 0, at)) >= 0:
-            yield lines.number_at(at)
+def _of_opcodes(blocks: Iterator[bytes]) -> Iterator[str]:
+    """The lines of opcodes in a listing."""
+    return (line for lines in whole_lines(blocks) for line in lines.decode('ascii').split('\n') if line.lstrip(' ')[:1].isdigit())
 
 
 def places_edited(edits: List[Done]) -> Set[int]:

@@ -6,15 +6,18 @@ No records are made of them, as `made` does: most objects are plain, and many ar
 from __future__ import annotations
 
 import json
+import struct
+from collections import defaultdict
+from itertools import accumulate, islice
 from operator import itemgetter
 from sys import intern, maxsize
-from typing import Any, Iterable, Iterator, List, Optional, Sequence, Tuple
+from typing import Any, Callable, DefaultDict, Dict, Iterable, Iterator, List, NamedTuple, Optional, Sequence, Tuple
 
 from .listed import Fields, whole_lines
 from .long_lines import shortened
 
-__all__ = ['ADDED', 'APPENDED', 'Holder', 'KEY', 'STATE', 'VALUE', 'fields_of_tails', 'flat', 'head_of', 'holders_of', 'is_holder', 'short_lines',
-           'short_tails', 'tails_in', 'tails_of']
+__all__ = ['ADDED', 'APPENDED', 'Held', 'Holder', 'KEY', 'PART', 'STATE', 'VALUE', 'by_beginning', 'fields_of_tails', 'flat', 'held_in',
+           'holders_of', 'is_holder', 'put_into', 'short_lines', 'short_tails', 'tails_in', 'tails_of', 'values_of']
 
 _HEAD, _TAIL = '{"kind":"object","object":', ',"is":"'
 _TAIL_BEGINS, _TAIL_BETWEEN = '{"is":"', ',{"is":"'
@@ -23,6 +26,8 @@ _PUT, _BETWEEN = {'list': '{"kind":"append","value":', 'set"': '{"kind":"add","v
 _PARTS, _CHANGES, _ENDS = ',"parts":[', ',"changes":[', '}]}'
 # How each number came into an object that was made before.
 APPENDED, ADDED, STATE, KEY, VALUE = b'+', b'&', b'!', b'[', b'='
+# The sign of what an object was made of.
+PART = b'('
 _SIGNS = {'append': APPENDED, 'add': ADDED, 'state': STATE, 'set': KEY + VALUE}
 _SIGNS_OF = {'list': APPENDED, 'set': ADDED, 'dict': KEY + VALUE}
 _NOTHING: Tuple[int, ...] = ()
@@ -72,6 +77,101 @@ def fields_of_tails(tails: Sequence[str]) -> List[Fields]:
     return found
 
 
+def by_beginning(tails: Iterable[str]) -> Dict[str, List[str]]:
+    """Second parts of lines, by how they begin: those of one kind can be read at once.
+
+    >>> dict(by_beginning(['none"}', 'int","argument":7}', 'int","argument":8}']))
+    {'none"}': ['none"}'], 'int","argument":': ['int","argument":7}', 'int","argument":8}']}
+    """
+    found: DefaultDict[str, List[str]] = defaultdict(list)
+    for tail in tails:
+        found[tail[:_BEGINNING]].append(tail)
+    return found
+
+
+def values_of(beginning: str, tails: Sequence[str]) -> Optional[Sequence[Any]]:
+    """The values of plain objects whose second parts begin alike, as `by_beginning` says it: numbers, texts or floats. None where these are to be read
+    one by one.
+
+    >>> values_of('int","argument":', ['int","argument":7}', 'int","argument":8}']), values_of('tuple"}', ['tuple"}'])
+    ([7, 8], None)
+    """
+    read = _READERS.get(beginning)
+    try:
+        return None if read is None else read(tails)
+    except ValueError:  # (one of them was changed: its line has more than an argument)
+        return None
+
+
+def _between(begin: str, end: str) -> Callable[[str], str]:
+    """What takes from a second part what is between these."""
+    return itemgetter(slice(len(begin), -len(end)))
+
+
+_OF_INT, _OF_TEXT, _OF_FLOAT = _between('int","argument":', '}'), _between('text","argument":', '}'), _between('float","argument_f8_hex":"', '"}')
+
+
+def _ints(tails: Sequence[str]) -> Sequence[Any]:
+    return _list_of(map(_OF_INT, tails))
+
+
+def _texts(tails: Sequence[str]) -> Sequence[Any]:
+    return _list_of(map(_OF_TEXT, tails))
+
+
+def _floats(tails: Sequence[str]) -> Sequence[Any]:
+    return struct.unpack(f'>{len(tails)}d', bytes.fromhex(''.join(map(_OF_FLOAT, tails))))
+
+
+# So many letters of a second part say who reads it.
+_BEGINNING = 16
+_READERS = {'int","argument":': _ints, 'text","argument"': _texts, 'float","argument': _floats}
+
+
+def _list_of(texts: Iterable[str]) -> List[Any]:
+    """Texts of JSON, read at once."""
+    found: List[Any] = json.loads(f'[{",".join(texts)}]')
+    return found
+
+
+def put_into(kind: str, tails: Sequence[str]) -> Optional[List[List[int]]]:
+    """The numbers of what was put into containers of a kind, by their second parts. Keys and values of a dictionary take turns. None where one of them was
+    filled in another way, or made of something.
+
+    >>> put_into('dict', ['dict","changes":[{"kind":"set","key":1,"value":2},{"kind":"set","key":3,"value":2}]}'])
+    [[1, 2, 3, 2]]
+    >>> put_into('list', ['list","changes":[{"kind":"append","value":4}]}', 'list","parts":[1]}']), put_into('int', ['int","argument":7}'])
+    (None, None)
+    """
+    signs = _FILLED.get(kind)
+    if signs is None:
+        return None
+    left = ','.join(tails).encode('ascii').translate(None, signs.deleted).replace(signs.head, b'[').replace(signs.before, b'')
+    try:
+        return _list_of((left.decode('ascii'),))
+    except ValueError:  # (of anything else a letter is left, or a comma)
+        return None
+
+
+class _Signs(NamedTuple):
+    """Lines of containers without these signs have brackets, commas and numbers; and what is left of the beginning of a line, and before each number or
+    pair. (To delete signs takes a fraction of the time in which texts are replaced.)"""
+
+    deleted: bytes
+    head: bytes
+    before: bytes
+
+    @classmethod
+    def of(cls, kind: str, letter: bytes, before: bytes) -> _Signs:
+        """Those of a kind. A letter stays, which says how something was put in: `[{"kind":"append","value":4}]` leaves `[pp,4]`, and no other change does."""
+        sign = _PUT[f'{kind}"'[:4]]
+        deleted = bytes(set(f'{sign}{_BETWEEN}}}'.encode('ascii')).difference(b',', letter))
+        return cls(deleted, f'{kind}"{_CHANGES}'.encode('ascii').translate(None, deleted), before)
+
+
+_FILLED = {'list': _Signs.of('list', b'p', b'pp,'), 'set': _Signs.of('set', b'd', b'ddd,'), 'dict': _Signs.of('dict', b'y', b',y')}
+
+
 def flat(tail: str) -> str:
     """The second part of the line of a container that is filled in one way, with the numbers of what is put in as one array `put`, where keys and values
     take turns. (An object for each of them takes most of the time.) Any other is as it was.
@@ -105,16 +205,6 @@ def is_holder(tail: str) -> bool:
     return tail[-2:] == ']}'
 
 
-def head_of(tail: str) -> str:
-    """The second part of the line of an object that holds others, without them.
-
-    >>> head_of('inst","module":"a","name":"b","parts":[1],"changes":[{"kind":"state","value":4}]}')
-    'inst","module":"a","name":"b"}'
-    """
-    at = tail.find(_PARTS)
-    return tail[:at if at >= 0 else tail.index(_CHANGES)] + '}'
-
-
 def holders_of(first: int, tails: Sequence[str]) -> Iterator[Holder]:
     """The objects among those of second parts that hold others. The first of all has this number.
 
@@ -131,6 +221,51 @@ def holders_of(first: int, tails: Sequence[str]) -> Iterator[Holder]:
             yield first + at, kind, fields['parts'], b'', _NOTHING
         else:
             yield (first + at, kind, fields.get('parts', _NOTHING), *_put_by(fields['changes']))
+
+
+class Held(NamedTuple):
+    """What objects hold: of each that holds others which of the objects it is, and how many it holds; of all these a sign, and the number."""
+
+    owners: List[int]
+    counts: List[int]
+    signs: bytes
+    numbers: List[int]
+
+
+# How an array begins in a line. In a text a backslash stands before the quote.
+_ARRAY, _NO_ARRAY, _BACKSLASH = b'":[', b'\\":[', ord('\\')
+# How each sign is written in an array of changes, with the comma before it.
+_WORDS = ((b',{"kind":"set","key":', KEY), (b',{"kind":"append","value":', APPENDED), (b',{"kind":"add","value":', ADDED),
+          (b',{"kind":"state","value":', STATE), (_BETWEEN.encode('ascii'), VALUE))
+# (What is left of commas stands before a part.)
+_TO_SIGNS, _TO_COMMAS = bytes.maketrans(b',', PART), bytes.maketrans(APPENDED + ADDED + STATE + KEY + VALUE + b'\n', b',,,,, ')
+
+
+def held_in(lines: bytes) -> Held:
+    """What objects among lines hold, of which nothing else is read.
+
+    >>> line = b'{"kind":"object","object":%d,"is":"list","parts":[1,2],"changes":[{"kind":"append","value":4}]}\\n'
+    >>> held_in(b'{"kind":"object","object":6,"is":"none"}\\n' + line % 7 + line % 8)
+    Held(owners=[1, 2], counts=[3, 3], signs=b'((+((+', numbers=[1, 2, 4, 1, 2, 4])
+    """
+    pieces = lines.split(_ARRAY)
+    if _BACKSLASH in [piece[-1] for piece in islice(pieces, len(pieces) - 1)]:
+        pieces = lines.replace(_NO_ARRAY, b'').split(_ARRAY)
+    if len(pieces) == 1:
+        return Held([], [], b'', [])
+    arrays = b',' + b'\n,'.join([piece[:piece.index(b']')] for piece in islice(pieces, 1, None)])
+    for word, sign in _WORDS:
+        arrays = arrays.replace(word, sign)
+    signs = arrays.translate(_TO_SIGNS, b'0123456789}')
+    numbers: List[int] = json.loads(f'[{arrays[1:].translate(_TO_COMMAS, b"}").decode("ascii")}]')
+    counts = [*map(len, signs.split(b'\n'))]
+    owners = [*accumulate([piece.count(b'\n') for piece in islice(pieces, len(pieces) - 1)])]
+    if len(set(owners)) < len(owners):  # (some have parts and changes, one after the other)
+        held: Dict[int, int] = {}
+        for owner, count in zip(owners, counts):
+            held[owner] = held.get(owner, 0) + count
+        owners, counts = [*held], [*held.values()]
+    return Held(owners, counts, signs.replace(b'\n', b''), numbers)
 
 
 def _put_by(changes: List[Any]) -> Tuple[bytes, List[int]]:

@@ -18,7 +18,7 @@ from .addresses import check_out, opened_in
 from .answers import Calls, Listing
 from .arguments import ArgumentValue, encoded
 from .conversation import Entry, Memo, Stack, read
-from .errors import ProgramError, Refused, TimedOut
+from .errors import ProgramError, TimedOut
 from .listed import Fields
 from .listing_records import Object
 from .made import object_of
@@ -75,7 +75,7 @@ class _Talk(abc.ABC):
     def _note(self, line: bytes, answer: Fields) -> None:
         """Keeps the edits that are not undone, each with the place that it was made at. Raises Refused where the line was."""
         if answer['kind'] == 'refused':
-            raise Refused(conversation.refusal_of(answer), conversation.refusal_in(answer))
+            raise conversation.refused_by(answer)
         if answer['kind'] == 'edited':
             words = line.split()
             words[1] = b'%d' % answer['place']

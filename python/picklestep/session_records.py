@@ -60,7 +60,7 @@ class Shown:
 @dataclass(frozen=True, **SLOTS)
 class Ran:
     """Where a session's `run` stopped, and why: 'end', 'breakpoint' or 'refused'. `text` is the program's words for it, and `refusal` why the opcode
-    there is refused, if it is.
+    there is refused, if it is. `code` is the code of the refusal, or of the fault at the end, or ''.
 
     >>> import picklestep
     >>> with picklestep.Session(b'N0g5\\n.') as session:
@@ -73,6 +73,7 @@ class Ran:
     why: str
     text: str
     refusal: str = field(default='', repr=False, compare=False)
+    code: str = field(default='', repr=False, compare=False)
 
 
 @dataclass(frozen=True, **SLOTS)

@@ -6,7 +6,6 @@ import collections
 import contextlib
 import pickle
 import pickletools
-import random
 import tempfile
 import unittest
 from pathlib import Path
@@ -51,8 +50,8 @@ class Documents(unittest.TestCase):
         """Each object is made by the opcode that the document names: the session has one object more behind it."""
         for path in sorted(DATA.glob('sklearn_tree.pkl')):
             with opened(path) as document, Session(path) as session:
-                for number in range(len(document._makers)):
-                    session.goto(document._makers.place(number))
+                for number in range(len(document.lines.makers)):
+                    session.goto(document.lines.makers.place(number))
                     self.assertEqual(len(session.objects()), number)
                     session.step()
                     self.assertEqual(len(session.objects()), number + 1)
@@ -127,7 +126,7 @@ class Documents(unittest.TestCase):
         with opened(pickle.dumps(['x' * 3_000_000, b'\0' * 3_000_000, 'y'], 4)) as document:
             argument = document.lines.at(4).argument
             self.assertTrue(argument.startswith("'xxx") and argument.endswith("bytes more'"), argument[-40:])
-            self.assertLess(len(document.lines.text) + len(document._final.text), 8000)
+            self.assertLess(document.lines.size - len(document.content()) + len(document._final.text), 8000)
             self.assertEqual(document.final_brief(1), f"text '{'x' * (CUT - 9)} .. {3_000_000 - CUT + 9} bytes more'")
 
 
@@ -204,27 +203,6 @@ class Opening(unittest.TestCase):
         document.close()
         self.assertIn('list: 300,004 lines', texts)
         self.assertEqual([word for word in ('list', 'objects') if any(text.startswith(f'{word}: ') for text in texts)], ['list', 'objects'])
-
-
-class Cutting(unittest.TestCase):
-    """Lines that come in blocks of any size."""
-
-    def test_blocks(self) -> None:
-        rng = random.Random(37)
-        text = ''.join(f"#{at} text '{'x#' * rng.choice((1, 300, 5000))}' (#1 #2)\n" for at in range(50)).encode('ascii')
-        whole = lines.Lines()
-        lines._Cutter(whole).feed(text)
-        for _ in range(30):
-            into, at = lines.Lines(), 0
-            cutter = lines._Cutter(into)
-            while at < len(text):
-                size = rng.choice((1, 7, 400, 9000, 100_000))
-                cutter.feed(text[at:at + size])
-                at += size
-            self.assertEqual(into.text, whole.text)
-            self.assertEqual([*map(into.start, range(51))], [*map(whole.start, range(51))])
-            self.assertEqual([into.number_at(into.start(at)) for at in range(50)], [*range(50)])
-        self.assertTrue(all(whole.raw(at).endswith("' (#1 #2)") for at in range(50)))
 
 
 class Saving(unittest.TestCase):

@@ -4,6 +4,7 @@ from __future__ import annotations
 
 import errno
 import os
+import pickle
 import pickletools
 import random
 import struct
@@ -41,7 +42,11 @@ class Words(unittest.TestCase):
 
     def test_a_run_that_is_refused(self) -> None:
         with Session(b'NN0g5\n.') as session:
-            self.assertEqual(session.run(), Ran(3, 'refused', 'refused, S3 no memo entry 5'))
+            ran = session.run()
+        self.assertEqual((ran, ran.refusal, ran.code), (Ran(3, 'refused', 'refused, S3 no memo entry 5'), 'S3 no memo entry 5', 'S3'))
+        for data, code in ((b'N', 'F1'), (b'N.', '')):
+            with Session(data) as session:
+                self.assertEqual(session.run().code, code)
 
     def test_questions(self) -> None:
         with Session(LIST) as session:
@@ -133,8 +138,11 @@ class Refusals(unittest.TestCase):
         before = session.where(), session.stack(), session.bytes()
         with self.assertRaises(Refused) as caught:
             action()
-        self.assertEqual(caught.exception.code, code)
-        self.assertTrue(caught.exception.text.startswith(code + ' '))
+        for error in (caught.exception, pickle.loads(pickle.dumps(caught.exception))):
+            self.assertEqual(error.code, code)
+            self.assertTrue(error.text.startswith(' '.join(filter(None, (code, error.inner))) if code in ('C9', 'X8') else f'{code} '))
+            self.assertEqual(bool(error.inner), code in ('C3', 'C9', 'X8'))
+            self.assertEqual(error.refusal.partition(' ')[0], error.inner if code == 'C3' else '')
         self.assertEqual((session.where(), session.stack(), session.bytes()), before)
 
     def test_moving(self) -> None:

@@ -495,8 +495,8 @@ class Words(unittest.TestCase):
                     with contextlib.suppress(WordError):
                         shell.obey(line)
                     with self.subTest(name, line=line), Shell(shell.pickle.content(), '', many=True) as fresh:
-                        self.assertEqual(shell.pickle.lines.makers.codes, fresh.pickle.lines.makers.codes)
-                        self.assertEqual(shell.pickle.lines.text, fresh.pickle.lines.text)
+                        self.assertEqual(shell.pickle.lines.codes, fresh.pickle.lines.codes)
+                        self.assertEqual(*[[*map(each.pickle.lines.at, range(len(each.pickle.lines)))] for each in (shell, fresh)])
                         self.assertEqual(shell.pickle._final.text, fresh.pickle._final.text)
                         self.assertEqual(shell.pickle.reaches.answer.text, fresh.pickle.reaches.answer.text)
                         self.assertEqual(shell.pickle.lines.closing, fresh.pickle.lines.closing)
@@ -535,7 +535,11 @@ class Words(unittest.TestCase):
             with self.subTest(line), Shell(b'NN.RNN.'[:4] + b'N.', '', many=True) as shell:
                 shell.obey(line)
                 self.assertEqual(shell.pickle.content(), left)
-                self.assertEqual(len(shell.pickle.lines.makers.codes), len(shell.pickle.lines))
+                self.assertEqual(len(shell.pickle.lines), shell.pickle.session.where().places)
+        frame = b'\x95\x01\0\0\0\0\0\0\0'
+        with Shell(b'N0R' + frame + b'N.', '', unframed=True) as shell:  # (`list` does not come to this frame, of which `calls` is told)
+            shell.obey('insert 1 NONE')
+            self.assertEqual((shell.pickle.content(), shell.obey('list 4').split('\n')[0]), (b'NN0R' + frame + b'N.', '        4     4: FRAME 1'))
 
     def test_what_a_step_changed(self) -> None:
         shell = self.shell(b']q\x00K\x01a}K\x02Nsb.')
@@ -657,7 +661,7 @@ class Words(unittest.TestCase):
         for frame in (b'\x95\x07\0\0\0\0\0\0\0NN.', b'\x95\x01\0\0\0\0\0\0\0K\x01.', b'\x95\x03\0\0\0\0\0\0\0N\x95\1\0\0\0\0\0\0\0..'):
             with self.subTest(frame):
                 said = self.shell(b'\x80\x04' + frame).obey('run')
-                self.assertRegex(said, r'the end: F[678] .*\n\(What is .*`picklestep shell --unframed FILE`.*`picklestep mend FILE OUT`')
+                self.assertRegex(said, r'the end: F[678] .*\n\(What is .*`picklestep shell --unframed FILE`.*`picklestep mend FILE --save OUT`')
 
     def test_unframed(self) -> None:
         """A pickle that was cut off is stepped to the cut, and what is imported up to there is renamed. That reading ends there is said."""

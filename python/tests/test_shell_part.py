@@ -15,7 +15,7 @@ from typing import Any, List, Tuple
 from unittest import mock
 
 from picklestep import Session
-from picklestep.lines import OpcodeLines
+from picklestep.opcode_lines import OpcodeLines
 from picklestep import first
 from picklestep.shell.command import main
 from picklestep.shell.opened import Opened
@@ -75,7 +75,7 @@ class Part(unittest.TestCase):
                 self.assertTrue(MOST // 2 < count <= MOST, count)
                 self.assertTrue(data.startswith(part.pickle.content()))
                 self.assertEqual(len(part.pickle.content()) + part.pickle.rest_size, len(data))
-                self.assertEqual([*part.pickle.lines.all()], [*whole.pickle.lines.all()][:count])
+                self.assertEqual(*[[*map(each.pickle.lines.at, range(count))] for each in (part, whole)])
                 self.assertEqual(len(part.pickle.content()), whole.pickle.lines.offset(count))
                 for line in looks:
                     self.assertEqual(part.obey(line), whole.obey(line), line)
@@ -229,7 +229,7 @@ class Part(unittest.TestCase):
         shown = shell.obey('where'), shell.obey('break'), shell.pickle.content(), shell.pickle.edits_made
         session = shell.pickle.session
         for where, error in ((Opened, KeyboardInterrupt()), (Opened, MemoryError()), (OpcodeLines, KeyboardInterrupt())):
-            name = '_read' if where is Opened else 'add'
+            name = '_read' if where is Opened else 'take'
             with self.subTest(name), mock.patch.object(where, name, side_effect=error), self.assertRaises((KeyboardInterrupt, WordError)):
                 shell.obey('whole')
             self.assertEqual((shell.obey('where'), shell.obey('break'), shell.pickle.content(), shell.pickle.edits_made), shown)

@@ -165,6 +165,16 @@ class Unread(unittest.TestCase):
                 shell.obey(line)
             self.assertEqual(shell.pickle.session.where().place, shell.pickle.session.where().places)
 
+    def test_offsets(self) -> None:
+        """They are known once the pickle is read, which a line with one waits for."""
+        data = pickle.dumps(list(range(300)), 4)
+        self._enter(Opened, 'is_read', False)
+        for line, place in (('goto @204', 100), ('goto @205', 101), (f'goto @{len(data) + 1}', 308)):
+            with self.subTest(line), Shell(data, '') as shell:
+                for word in ('goto 90', 'insert 100 NONE', line):
+                    shell.obey(word)
+                self.assertEqual(shell.pickle.session.where().place, place)
+
     def test_reading_fails(self) -> None:
         """All edits since the last reading are taken back, and breaks are at their opcodes."""
         data = pickle.dumps(list(range(300)), 4)

@@ -116,7 +116,7 @@ class Adapter:
             self.complain(str(error), seq, command[:_MOST_COMMAND])
             return
         except Refused as error:
-            self.complain(f'refused: {plainly(error.text)}', seq, command)
+            self.complain(f'refused: {plainly(error.text, error.code, error.inner)}', seq, command)
             return
         except (OSError, PicklestepError) as error:
             self.complain(reason(error), seq, command)
@@ -184,7 +184,7 @@ class Adapter:
         moves, variables = self._moves, self._variables
         assert moves is not None and variables is not None
         variables.forget()
-        self._after = partial(moves.stopped, 'step', '', begin)
+        self._after = partial(moves.stopped, 'step', None, begin)
 
     def _configured(self, arguments: Arguments) -> Fields:
         moves = self._moves

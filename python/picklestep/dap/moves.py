@@ -40,7 +40,7 @@ class Moves:
         self._is_ending = is_ending
         self._waiting = waiting
         self._paused_from: Optional[int] = None  # where it began to go, where it was paused and the editor does not know that yet
-        self._refused = ''  # why the opcode is refused at which it has stopped
+        self._refused: Optional[Refused] = None  # why the opcode is refused at which it has stopped
         self.requests: Dict[str, Callable[[Arguments], Fields]] = {
             'threads': self._threads, 'pause': self._pause, 'stackTrace': self._stack_trace, 'gotoTargets': self._goto_targets, 'exceptionInfo': self._exception_info}
 
@@ -49,18 +49,30 @@ class Moves:
     def move(self, command: str, arguments: Arguments) -> None:
         """Does a request after which the pickle is somewhere else, and tells where."""
         begin = self._target.here().place
-        reason, why = 'step', ''
+        reason = 'step'
+        refused: Optional[Refused] = None
         try:
             with self._asking():
                 reason, why = MOVES[command](self, arguments)
+                # (the shell answers a text: why the opcode there is refused, the session says)
+                refused = self._refusal() if why.startswith(REFUSED) else None
         except _Paused:
             self._paused_from = begin
             return
         except Refused as error:
-            why = REFUSED + error.refusal if error.refusal else error.text
+            refused = error if error.refusal else None
         except (RequestError, WordError, PicklestepError) as error:
             self._target.say(str(error), 'stderr')
-        self.stopped(reason, why, begin)
+        self.stopped(reason, refused, begin)
+
+    def _refusal(self) -> Optional[Refused]:
+        """Why the opcode is refused that is next, if it is."""
+        try:
+            self._target.pickle.session.step()
+        except Refused as error:
+            return error if error.refusal else None
+        self._target.pickle.session.back()
+        return None
 
     @contextlib.contextmanager
     def _asking(self) -> Iterator[None]:
@@ -85,19 +97,19 @@ class Moves:
     def paused(self) -> Optional[Callable[[], None]]:
         """What tells the editor where a run was paused, if one was that it does not know of."""
         begin, self._paused_from = self._paused_from, None
-        return None if begin is None else partial(self.stopped, 'pause', '', begin)
+        return None if begin is None else partial(self.stopped, 'pause', None, begin)
 
-    def stopped(self, reason: str, why: str = '', begin: int = -1) -> None:
-        """Tells where the pickle is, after it moved from a place."""
+    def stopped(self, reason: str, refused: Optional[Refused] = None, begin: int = -1) -> None:
+        """Tells where the pickle is, after it moved from a place, and why the opcode there is refused, if it is."""
         where = self._target.here()
-        self._refused = why[len(REFUSED):] if why.startswith(REFUSED) else ''
+        self._refused = refused
         hit = [point for point in self._target.shell.breaks if where.place != begin and is_hit(self._target.pickle, point, where.place)]
-        reason = 'exception' if self._refused else self._breakpoints.reason(hit) if hit else reason
+        reason = 'exception' if refused else self._breakpoints.reason(hit) if hit else reason
         ends = {0: 'You are at the start.', where.places: f'You are at {self._target.pickle.end_text}.'}
-        said = f'The next opcode is refused: {plainly(self._refused)}' if self._refused else ends.get(where.place, '')
+        said = f'The next opcode is refused: {plainly(refused.refusal, refused.inner)}' if refused else ends.get(where.place, '')
         self._target.send('stopped', {
             'reason': reason, 'threadId': THREAD, 'allThreadsStopped': True, **({'description': said} if said else {}),
-            **({'text': self._refused} if self._refused else {}), **({'hitBreakpointIds': self._breakpoints.numbers(hit)} if hit else {})})
+            **({'text': refused.refusal} if refused else {}), **({'hitBreakpointIds': self._breakpoints.numbers(hit)} if hit else {})})
 
     def _next(self, arguments: Arguments) -> 'tuple[str, str]':
         place = self._target.here().place
@@ -159,9 +171,10 @@ class Moves:
         return {'targets': [{'id': place, 'label': f'opcode {place}', 'line': line, 'instructionPointerReference': self._target.address(place)}]}
 
     def _exception_info(self, arguments: Arguments) -> Fields:
-        if not self._refused:
+        refused = self._refused
+        if refused is None:
             raise RequestError('the next opcode is not refused')
-        return {'exceptionId': self._refused.partition(' ')[0], 'description': plainly(self._refused), 'breakMode': 'always'}
+        return {'exceptionId': refused.inner, 'description': plainly(refused.refusal, refused.inner), 'breakMode': 'always'}
 
 
 MOVES: 'Dict[str, Callable[[Moves, Arguments], tuple[str, str]]]' = {

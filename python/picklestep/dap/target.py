@@ -138,7 +138,7 @@ class Target:
         """The lines of the listing, each with what its opcode imports or calls."""
         pickle = self.pickle
         count = min(len(pickle.lines), MOST_LISTED)
-        rows = pickle.lines.text[:pickle.lines.start(count)].decode('ascii').split('\n')[:-1]
+        rows = pickle.first_lines(count)
         for at, offset in enumerate(pickle.reaches.offsets):
             place = pickle.lines.place_of(offset)
             if place >= count:

@@ -128,7 +128,7 @@ class Variables:
         row = self._rows.get((arguments.number('variablesReference'), arguments.text('name')))
         if row is None or row.place is None:
             raise RequestError('this is no opcode, and no object that an opcode makes')
-        now = self._target.pickle.lines.at(row.place).name
+        now = self._target.pickle.lines.name(row.place)
         try:
             edit = of_value(self._target.pickle, of_words('replace', row.place, arguments.text('value')), now)
         except EditError as error:

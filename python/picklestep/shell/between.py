@@ -9,23 +9,24 @@ at the end, plain ones stay, and those that nothing behind the edits can change.
 from __future__ import annotations
 
 import sys
-from bisect import bisect_right
+from bisect import bisect_left, insort
 from typing import Any, Dict, List, NamedTuple, Optional, Protocol, Sequence, Tuple, Union
 
 from ..arguments import ArgumentValue, encoded
 from ..document import MOST_EXACT, MOST_TEXT, Done, Reaches
-from ..lines import CODE_BY_NAME, CUT, Line, Makers, OpcodeLines, cut_text
+from ..lines import CODE_BY_NAME, Makers
+from ..listed import Fields, Line, fields_of
 from ..object_lines import ObjectLines, read_objects
-from ..listed import Fields
-from ..opcodes import TABLE
-from ..printed import offset_of
+from ..opcode_lines import OpcodeLines, Shown, Window
+from ..opcodes import BY_CODE, TABLE
 from ..records import Ref
+from ..searching import with_key
+from ..session import SHIFTS
 from ..session_records import Mark
 from ..tasks import listing, objects
-from ..texts import behind_word, end_of_line, frame_length, line_of, mark_in, moved_line, with_mark
 from ..values import PLAIN_KINDS
 
-__all__ = ['MOST_EDITS', 'Between', 'Objects', 'Put', 'Unknown', 'is_known_edit', 'line_put']
+__all__ = ['MOST_EDITS', 'Between', 'Objects', 'Put', 'Unknown', 'is_known_edit', 'opcode_put']
 
 # So many edits are looked at.
 MOST_EDITS = 100
@@ -42,8 +43,8 @@ _PUTS = {'insert': 1, 'replace': 1, 'delete': 0}
 # What changes an object that is not right below a mark, or puts one on the stack that was below others; and what pushes an object and takes none.
 _NEAR = [CODE_BY_NAME[name] for name in ('APPEND', 'SETITEM', 'BUILD', 'POP', 'DUP')]
 _PUSHES = frozenset(each.code for each in TABLE if not each.takes and each.leaves not in ('', 'mark'))
-_GETS = [(CODE_BY_NAME[name], name.encode('ascii')) for name in ('GET', 'BINGET', 'LONG_BINGET')]
-_POP, _FRAME, _READONLY = (CODE_BY_NAME[name] for name in ('POP', 'FRAME', 'READONLY_BUFFER'))
+_GETS = [CODE_BY_NAME[name] for name in ('GET', 'BINGET', 'LONG_BINGET')]
+_POP, _READONLY = CODE_BY_NAME['POP'], CODE_BY_NAME['READONLY_BUFFER']
 
 
 class Unknown(Exception):
@@ -51,40 +52,25 @@ class Unknown(Exception):
 
 
 class Put(NamedTuple):
-    """What an edit puts: its line in a listing of it alone, its bytes, and its object alone. Of what goes all are empty."""
+    """What an edit puts: its opcode alone, and its object alone. Of what goes both are empty."""
 
-    line: str
-    data: bytes
+    lines: OpcodeLines
     object: ObjectLines
 
     @classmethod
     def of(cls, word: str, name: str, values: Sequence[ArgumentValue], raw: Optional[bytes]) -> Put:
         """What an edit puts that pushes a plain value."""
         if word == 'delete':
-            return cls('', b'', ObjectLines())
-        data = bytes_put(name, values, raw)
-        return cls(line_put(name, values, raw), data, read_objects([objects(data).json]))
+            return cls(OpcodeLines(b'', lambda first, stop: ()), ObjectLines())
+        lines = opcode_put(name, values, raw)
+        return cls(lines, read_objects([objects(lines.content).json]))
 
 
-def bytes_put(name: str, values: Sequence[ArgumentValue], raw: Optional[bytes]) -> bytes:
-    """The opcode that an edit puts, by the values of its argument or its bytes."""
-    return bytes([CODE_BY_NAME[name]]) + (encoded(name, values) if raw is None else raw)
-
-
-def line_put(name: str, values: Sequence[ArgumentValue], raw: Optional[bytes]) -> str:
-    """The same, as a listing shows it."""
-    return cut_text(listing(bytes_put(name, values, raw)).text.partition('\n')[0], CUT)
-
-
-class _Piece(NamedTuple):
-    """Places that follow one another: from one on of those that were read, or the one that was put there; and how far offsets moved."""
-
-    place: int
-    offset: int
-    old: int
-    length: int
-    shift: int
-    put: Optional[Put]
+def opcode_put(name: str, values: Sequence[ArgumentValue], raw: Optional[bytes]) -> OpcodeLines:
+    """The opcode that an edit puts, by the values of its argument or its bytes, as if it were a pickle."""
+    data = bytes([CODE_BY_NAME[name]]) + (encoded(name, values) if raw is None else raw)
+    json = listing(data).json
+    return OpcodeLines(data, lambda first, stop: [fields_of(json[:json.index(b'\n')])]).read([json])
 
 
 def is_known_edit(code: int, edit: str, name: str) -> bool:
@@ -97,6 +83,9 @@ _VALUE_CODES = frozenset(CODE_BY_NAME[name] for name in _VALUES)
 
 class Stepped(Protocol):
     """The session, as far as it is asked. It raises Unknown where that would take long, or an opcode is refused."""
+
+    def items(self, first: int, stop: int) -> List[Fields]:
+        """The fields of opcodes from a place on before another."""
 
     def reach(self, place: int) -> int:
         """Steps over the opcode at a place, and answers up to which place it has stepped."""
@@ -114,18 +103,13 @@ class Between:
     def __init__(self, lines: OpcodeLines, final: ObjectLines, reaches: Reaches, edits: Sequence[Done], codes: bytes, session: Stepped) -> None:
         self._lines, self._final, self._reaches, self._session = lines, final, reaches, session
         self._stack: Optional[Tuple[Union[Ref, Mark], ...]] = None
-        self._pieces = _pieces_after(lines, edits)
-        if not self._pieces:
-            raise Unknown
-        self._places = [piece.place for piece in self._pieces]
-        begins = self._pieces[0].put is None and not self._pieces[0].old
-        self._first = self._pieces[0].length if begins else 0
-        old = [piece for piece in self._pieces if piece.put is None]
-        ends = {0, *(piece.old for piece in old), *(piece.old + piece.length for piece in old), len(lines)} - {0, len(lines)}
-        self._edited = sorted(ends if begins else {0, *ends})
+        self._put, self._gone = _put_and_gone(len(lines), edits)
+        self._places = sorted(self._put)
+        self._first = min([*self._places, *self._gone, len(codes)])
+        self._window = Window(session.items)
         self.makers = Makers(codes)
         self.makers.finish(final.readonly_count, lambda place, number: False)
-        self._codes = codes
+        self.codes = codes
         self._is_same = _are_same(lines, final, edits)
         self._made = lines.makers.before(self._first)
         self._stays: Dict[int, bool] = {}
@@ -133,7 +117,7 @@ class Between:
         self.sure = 0
 
     def __len__(self) -> int:
-        return len(self._codes)
+        return len(self.codes)
 
     def __getattr__(self, name: str) -> Any:
         raise Unknown(name)
@@ -141,74 +125,79 @@ class Between:
     @staticmethod
     def is_known_after(lines: OpcodeLines, listed: int, reaches: Reaches, edits: Sequence[Done], codes: bytes) -> bool:
         """Whether something is known after these edits."""
-        return (listed == len(lines) and behind_word(lines.closing, 'refused') is None and not reaches.is_part
+        return (listed == len(lines) and not lines.is_refused and not reaches.is_part
                 and len(edits) <= MOST_EDITS and _READONLY not in codes
                 and codes.find(_POP, min(edit.place for edit in edits)) < 0)
 
     # --- Opcodes ---
 
-    def _piece(self, place: int) -> _Piece:
-        if not 0 <= place < len(self._codes):
+    def _old(self, place: int) -> int:
+        """Where an opcode was that stands at a place; of one that was put there, where the next one was that was there before. Raises Unknown where there is
+        none."""
+        if not 0 <= place < len(self.codes):
             raise Unknown
-        return self._pieces[bisect_right(self._places, place) - 1]
+        old = _behind(self._gone, place - bisect_left(self._places, place))
+        if old >= len(self._lines):
+            raise Unknown
+        return old
+
+    def _put_at(self, place: int) -> Optional[OpcodeLines]:
+        """The opcode that was put at a place, if one was."""
+        put = self._put.get(place)
+        return None if put is None else put.lines
 
     def offset(self, place: int) -> int:
         """The offset of an opcode."""
-        piece = self._piece(place)
-        return piece.offset if piece.put is not None else self._lines.offset(piece.old + place - piece.place) + piece.shift
-
-    def raw(self, place: int) -> str:
-        """The line of an opcode."""
-        piece = self._piece(place)
-        if place >= max(self.sure, self._first):
-            self.sure = self._session.reach(place)
-        if piece.put is not None:
-            line = moved_line(piece.put.line, piece.offset, self._marks(place))
-            return _whole(line, line)
-        was = self._lines.raw(piece.old + place - piece.place)
-        offset = offset_of(was)
-        if self._codes[place] == _FRAME:
-            self._frame(offset, frame_length(was))
-        mark = mark_in(was) if self._codes[place] not in _VALUE_CODES else None
-        line = was if mark is None else with_mark(was, self._moved(mark))
-        return _whole(moved_line(line, offset + piece.shift), was if piece.shift else '')
+        old = self._old(place)
+        more = sum(len(self._put[at].lines.content) for at in self._places[:bisect_left(self._places, place)])
+        return self._lines.offset(old) + more - sum(self._lines.end(at) - self._lines.offset(at) for at in self._gone[:bisect_left(self._gone, old)])
 
     def at(self, place: int) -> Line:
-        """An opcode."""
-        return line_of(self.raw(place))
+        """The line of an opcode."""
+        if place >= max(self.sure, self._first):
+            self.sure = self._session.reach(place)
+        old, offset = self._old(place), self.offset(place)
+        mark, key = (None, None) if place in self._put else self._lines.note(old)
+        return self.shown(place).line(offset, self._lines.marks(old), None if mark is None else self._moved(mark), key)
 
-    def _marks(self, place: int) -> int:
-        """The marks that are open before an opcode that was put: as many as before the next one that was there."""
-        at = bisect_right(self._places, place)
-        while at < len(self._pieces) and self._pieces[at].put is not None:
-            at += 1
-        if at == len(self._pieces):
-            raise Unknown
-        return line_of(self._lines.raw(self._pieces[at].old)).marks
+    def whole(self, place: int) -> Optional[Fields]:
+        """The fields of an opcode, where its line has all of its argument."""
+        return self.shown(place).whole(self.at(place))
+
+    def name(self, place: int) -> str:
+        """The name of an opcode."""
+        return BY_CODE[self.codes[place]].name
+
+    def marks(self, place: int) -> int:
+        """How many marks are open before an opcode."""
+        return self.at(place).marks
+
+    def shown(self, place: int) -> Shown:
+        """What is shown of an opcode."""
+        if self._is_long(place):
+            put = self._put_at(place)
+            return self._lines.shown(self._old(place)) if put is None else put.shown(0)
+        return Shown.of(self._window.at(place, self._is_long, len(self.codes)))
+
+    def _is_long(self, place: int) -> bool:
+        put = self._put_at(place)
+        return self._lines.is_long(self._old(place)) if put is None else put.is_long(0)
 
     def _moved(self, offset: int) -> int:
         """The offset of an opcode that was at one."""
-        place = self._lines.place_of(offset)
-        for piece in reversed(self._pieces):
-            if piece.put is None and piece.old <= place < piece.old + piece.length:
-                return offset + piece.shift
-        raise Unknown
-
-    def _frame(self, offset: int, length: int) -> None:
-        """Raises Unknown for a FRAME in which something was edited."""
-        if any(offset <= self._lines.offset(old) <= offset + 9 + length for old in self._edited):
+        old = self._lines.place_of(offset)
+        if old in self._gone:
             raise Unknown
+        return self.offset(_behind(self._places, old - bisect_left(self._gone, old)))
 
     def calls_at(self, place: int, line: Line) -> List[str]:
         """What `calls` says of an opcode."""
-        piece = self._piece(place)
-        if piece.put is not None:
+        if place in self._put:
             return []
-        found = self._reaches.texts_at(line.offset - piece.shift)
+        found = self._reaches.texts_at(self._lines.offset(self._old(place)))
         if place < self._first or line.name in _QUIET and not found or self._is_same and line.name in _FILLS:
             return found
-        mark = mark_in(line.argument)
-        if line.name in _FILLS and not found and mark is not None and mark < self._lines.offset(self._first):
+        if line.name in _FILLS and not found and line.mark is not None and line.mark < self._lines.offset(self._first):
             return found
         raise Unknown
 
@@ -225,10 +214,9 @@ class Between:
             raise Unknown
         if number >= self._made:
             place = self.makers.place(number)
-            piece = self._piece(place)
-            if piece.put is not None:
-                return _short(piece.put.object, 0)
-            old = self._lines.makers.before(piece.old + place - piece.place)
+            if place in self._put:
+                return _short(self._put[place].object, 0)
+            old = self._lines.makers.before(self._old(place))
         if old >= len(self._final):
             raise Unknown
         kind = self._final.kind(old)
@@ -244,7 +232,7 @@ class Between:
         is right above it, and once it is taken, if nothing gets it from the memo.
         """
         if number not in self._stays:
-            is_near = any(self._codes.find(code, self._first) >= 0 for code in _NEAR)
+            is_near = any(self.codes.find(code, self._first) >= 0 for code in _NEAR)
             self._stays[number] = not is_near and self._is_covered(Ref(number)) and not self._is_got(number)
         return self._stays[number]
 
@@ -253,14 +241,13 @@ class Between:
         if self._stack is None:
             self._stack = self._session.stack_at(self._first)
         above = [self._stack[at + 1] if at + 1 < len(self._stack) else None for at, entry in enumerate(self._stack) if entry == made]
-        is_pushed = self._first < len(self._codes) and {self._codes[self._first], self._lines.makers.codes[self._first]} <= _PUSHES
+        is_pushed = self._first < len(self.codes) and {self.codes[self._first], self._lines.codes[self._first]} <= _PUSHES
         return all(is_pushed if entry is None else isinstance(entry, Ref) for entry in above)
 
     def _is_got(self, number: int) -> bool:
         """Whether an object may be got from the memo behind the edits. (It is stored there only where it is on the top, which it was not at first.)"""
-        begin = self._lines.start(self._first)
-        return any(self._codes.find(code, self._first) >= 0 and self._lines.text.find(end_of_line(name, key), begin) >= 0
-                   for key in self._session.keys_at(self._first, number) for code, name in _GETS if key < 256 or name != b'BINGET')
+        return any(self._lines.codes[place] in _GETS for key in self._session.keys_at(self._first, number)
+                   for place in with_key(self._lines, key, self._first, 1))
 
     def is_exact(self, made: int) -> bool:
         """Whether the objects are shown as they are at the cursor: where there are few, and their texts are short."""
@@ -311,42 +298,29 @@ class Objects:
         return lines.shown(at)
 
 
-def _pieces_after(lines: OpcodeLines, edits: Sequence[Done]) -> List[_Piece]:
-    """The places after edits."""
-    parts: List[Tuple[int, int, Optional[Put]]] = [(0, len(lines), None)]
+def _put_and_gone(count: int, edits: Sequence[Done]) -> Tuple[Dict[int, Put], List[int]]:
+    """The opcodes that edits put among so many, by their places after all edits; and the places before all edits of those that went. Raises Unknown where an
+    opcode was put behind the last one."""
+    put: Dict[int, Put] = {}
+    gone: List[int] = []
     for edit in edits:
-        at, begin = 0, 0
-        while at < len(parts) and begin + parts[at][1] <= edit.place:
-            begin += parts[at][1]
-            at += 1
-        new: List[Tuple[int, int, Optional[Put]]] = []
-        if at < len(parts):
-            old, count, was = parts[at]
-            before, gone = edit.place - begin, int(edit.what != 'insert')
-            new = [(old, before, None)] * bool(before)
-            after = (old + before + gone, count - before - gone, was if not gone and was is not None else None)
-            rest = [after] * bool(after[1])
-        else:  # (behind the end)
+        if edit.place >= count:
             raise Unknown
-        new += [(-1, 1, edit.put)] * (edit.what != 'delete')
-        parts[at:at + 1] = new + rest
-    return _placed(lines, parts)
+        if edit.what != 'insert' and put.pop(edit.place, None) is None:
+            insort(gone, _behind(gone, edit.place - sum(at < edit.place for at in put)))
+        shift = SHIFTS[edit.what]
+        put = {at + shift if at >= edit.place else at: each for at, each in put.items()}
+        if edit.what != 'delete':
+            put[edit.place] = edit.put
+        count += shift
+    return put, gone
 
 
-def _placed(lines: OpcodeLines, parts: Sequence[Tuple[int, int, Optional[Put]]]) -> List[_Piece]:
-    pieces: List[_Piece] = []
-    place = offset = 0
-    for at, (old, count, put) in enumerate(parts):
-        if put is not None:
-            pieces.append(_Piece(place, offset, old, 1, 0, put))
-            offset += len(put.data)
-        else:
-            begin = lines.offset(old)
-            pieces.append(_Piece(place, offset, old, count, offset - begin, None))
-            if at + 1 < len(parts):
-                offset += (lines.offset(old + count) if old + count < len(lines) else begin) - begin
-        place += count
-    return pieces
+def _behind(places: Sequence[int], number: int) -> int:
+    """The place of one of those that are at none of some places, by its number among these."""
+    for place in places:
+        number += place <= number
+    return number
 
 
 def _are_same(lines: OpcodeLines, final: ObjectLines, edits: Sequence[Done]) -> bool:
@@ -365,10 +339,3 @@ def _short(lines: ObjectLines, at: int) -> Tuple[ObjectLines, int]:
     if lines.is_long(at, _LONGEST):
         raise Unknown
     return lines, at
-
-
-def _whole(line: str, was: str) -> str:
-    """A line that was another. Where a text in it may have been cut elsewhere it is unknown."""
-    if max(len(line), len(was)) > _LONGEST and was:
-        raise Unknown
-    return line

@@ -9,13 +9,11 @@ from fnmatch import fnmatchcase
 from heapq import merge
 from typing import Callable, Dict, Iterable, Iterator, Optional, Tuple
 
-from ..document import around, in_a_line
 from ..edits import unquoted
 from ..errors import Refused
-from ..lines import CODE_BY_NAME
 from ..opcodes import BY_NAME
 from ..reaches import CALLED, IMPORTS
-from ..texts import has_key
+from ..searching import Sought, with_key
 from .expressions import Expression, dotted
 from .opened import Opened
 from .words import NotThere
@@ -83,25 +81,19 @@ def _at_place(pickle: Opened, text: str, place: int, step: int) -> Iterator[int]
 
 
 def _opcode(pickle: Opened, text: str, place: int, step: int) -> Iterator[int]:
-    codes, code = pickle.lines.makers.codes, CODE_BY_NAME[text]
-    at = place - step
-    while (at := codes.find(code, at + 1) if step > 0 else codes.rfind(code, 0, max(0, at))) >= 0:
-        yield at
+    return pickle.lines.with_code(BY_NAME[text].code, place, step)
 
 
 def _text(pickle: Opened, text: str, place: int, step: int) -> Iterator[int]:
-    wanted = text.encode('utf-8', 'surrogatepass')
-    shown = in_a_line(wanted)
-    in_lines = (at for at in _told(pickle, around(pickle.lines, shown, place, step)) if shown.decode('ascii') in pickle.lines.at(at).argument)
-    return iter(merge(in_lines, pickle.cut_with(wanted, place, step), reverse=step < 0))
+    return _told(pickle, Sought(text).places(pickle.lines, place, step))
 
 
 def _memo(pickle: Opened, text: str, place: int, step: int) -> Iterator[int]:
-    return (at for at in _told(pickle, around(pickle.lines, text.encode('ascii', 'replace'), place, step)) if has_key(pickle.lines.at(at), text))
+    return _told(pickle, with_key(pickle.lines, int(text), place, step))
 
 
 def _store(pickle: Opened, text: str, place: int, step: int) -> Iterator[int]:
-    return (at for at in _memo(pickle, text, place, step) if not pickle.lines.at(at).name.endswith('GET'))
+    return (at for at in _memo(pickle, text, place, step) if not pickle.lines.name(at).endswith('GET'))
 
 
 def _change(pickle: Opened, text: str, place: int, step: int) -> Iterator[int]:
@@ -110,10 +102,7 @@ def _change(pickle: Opened, text: str, place: int, step: int) -> Iterator[int]:
 
 
 def _depth(pickle: Opened, text: str, place: int, step: int) -> Iterator[int]:
-    if int(text) > len(pickle.lines):  # (so many marks are never open, and what is looked for would fill the memory)
-        return iter(())
-    found = around(pickle.lines, b' ' * (4 * int(text) + 1), place, step)
-    return (at for at in _told(pickle, found) if pickle.lines.at(at).marks >= int(text))
+    return _told(pickle, pickle.lines.under(int(text), place, step))
 
 
 def _reached(kinds: 'tuple[str, ...]') -> 'Callable[[Opened, str, int, int], Iterator[int]]':

@@ -14,11 +14,11 @@ from typing import Any, Callable, Dict, List, Sequence, Tuple, Type, Union
 from ..comparing import shown_value
 from ..errors import PicklestepError
 from ..heaps import Heap
+from ..listed import opcode_of
 from ..listing_records import Change, Object
 from ..patterns import pattern
 from ..records import Extension, Global, Name, Ref
 from ..session_records import Mark
-from ..texts import opcode_of
 from ..trees import Values
 from .opened import Opened
 
@@ -328,19 +328,19 @@ def _result(pickle: Opened) -> Ref:
 
 
 def _argument(pickle: Opened) -> Any:
-    """The value of the argument at the cursor; None at the end. One that was not kept whole has none."""
+    """The value of the argument at the cursor; None at the end. One that is not shown whole has none."""
     place = pickle.session.where().place
     if place >= len(pickle.lines):
         return None
-    line = pickle.lines.raw(place)
-    if ' bytes more' in line:
+    fields = pickle.lines.whole(place)
+    if fields is None:
         raise LookupError('argument')
-    return opcode_of(line).value
+    return opcode_of(fields).value
 
 
 def _opcode(pickle: Opened) -> str:
     place = pickle.session.where().place
-    return pickle.lines.at(place).name if place < len(pickle.lines) else ''
+    return pickle.lines.name(place) if place < len(pickle.lines) else ''
 
 
 # What has a value, by its name.

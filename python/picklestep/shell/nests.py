@@ -15,7 +15,7 @@ def behind_next(pickle: Opened, place: int) -> int:
     ...     behind_next(pickle, 0), behind_next(pickle, 1)
     (1, 5)
     """
-    return _up_to(pickle, place + 1, _marks(pickle, place))
+    return pickle.lines.up_to(place + 1, _marks(pickle, place))
 
 
 def behind_mark(pickle: Opened, place: int) -> int:
@@ -26,15 +26,8 @@ def behind_mark(pickle: Opened, place: int) -> int:
     ...     behind_mark(pickle, 3)
     5
     """
-    return _up_to(pickle, place + 1, _marks(pickle, place) - 1)
+    return pickle.lines.up_to(place + 1, _marks(pickle, place) - 1)
 
 
 def _marks(pickle: Opened, place: int) -> int:
-    return pickle.lines.at(place).marks if place < len(pickle.lines) else 0
-
-
-def _up_to(pickle: Opened, place: int, marks: int) -> int:
-    """The first place from one on where no more marks are open; the end, where there is none."""
-    while place < len(pickle.lines) and pickle.lines.at(place).marks > marks:
-        place += 1
-    return min(place, len(pickle.lines))
+    return pickle.lines.marks(place) if place < len(pickle.lines) else 0

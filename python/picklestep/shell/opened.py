@@ -14,17 +14,18 @@ from ..document import Document, Done, Reaches, places_edited
 from ..edits import Edit
 from ..errors import NoResult, Refused
 from ..later import Later
-from ..lines import CODE_BY_NAME, Line, OpcodeLines, silent
+from ..lines import CODE_BY_NAME, silent
+from ..listed import Line
 from ..listing_records import Object
 from ..made import object_of
 from ..object_lines import HeldObject, ObjectLines
+from ..opcode_lines import OpcodeLines
 from ..part import Part
 from ..python_source.shapes import BRACKETS
 from ..records import Global, Ref
 from ..session import SHIFTS
 from ..session_records import Mark, Step, Where
-from ..sources import Input, Source
-from ..texts import behind_word
+from ..sources import Source
 from ..values import PLAIN_KINDS, kind_value
 from .between import MOST_EDITS, Between, Objects, Put, Unknown, is_known_edit
 from .traced import Changers, Did, changers, did
@@ -49,7 +50,6 @@ class _Base(NamedTuple):
 class _Read(NamedTuple):
     """What was read beside the prompt."""
 
-    content: bytes
     lines: OpcodeLines
     final: ObjectLines
     reaches: Reaches
@@ -77,7 +77,8 @@ class Opened(Part):
     _here = 0  # where the cursor goes back to after an edit
     _changers: Tuple[int, Dict[int, Changers]] = (0, {})  # what changed objects, in which version
     _edition = 0
-    _edited_codes = bytearray()  # the codes of all opcodes, as they are after the edits
+    _codes = b''  # those of all opcodes after the edits
+    _edited_codes = bytearray()  # the same while edits are made
     _known: Optional[Dict[str, Any]] = None  # what was read before the latest change
     _turn = ''  # the word of that: '' is an edit
 
@@ -105,21 +106,15 @@ class Opened(Part):
         if not self.is_part:
             return b''
         self._edition += 1
-        known, self._codes, self._known = (self._codes, self._known), None, None
+        known, self._known = self._known, None
         try:
             return super().read_whole()
         except BaseException:
-            self._codes, self._known = known
+            self._known = known
             self._edition += 1
             raise
 
     # --- The pickle ---
-
-    def _read(self) -> None:
-        super()._read()
-        if self._codes is not None and len(self.lines) != len(self._codes):
-            self._codes = None
-            super()._read()
 
     def close(self) -> None:
         """Ends the session, which nobody uses any more then."""
@@ -161,12 +156,12 @@ class Opened(Part):
             self._edits, self._undone, self._known = base.edits, base.undone, None
             self._return(here)
             raise
-        self.lines, self._final, self.reaches, self.listed, self._makers = read.lines, read.final, read.reaches, read.listed, read.lines.makers
+        self.lines, self._final, self.reaches, self.listed = read.lines, read.final, read.reaches, read.listed
         self.version += 1
-        self._content, self._heap, self.edited = (self.version, read.content), None, places_edited(self._edits)
+        self._heap, self.edited = None, places_edited(self._edits)
         if not read.is_finished:
             here = self.session.where().place
-            self._makers.finish(self._final.readonly_count, self._makes_object)
+            self.lines.makers.finish(self._final.readonly_count, self._makes_object)
             self.session.goto(here)
 
     @property
@@ -189,7 +184,7 @@ class Opened(Part):
             if self._moving is not None:
                 self._moving.result()
             between.sure = max(between.sure, self.session.where().place)
-            self._shown, self.lines, self._final, self._makers = between, between, Objects(between), between.makers  # type: ignore[assignment]
+            self._shown, self.lines, self._final = between, between, Objects(between)  # type: ignore[assignment]
             self.reaches = between.calls  # type: ignore[assignment]
             yield
         finally:
@@ -199,7 +194,7 @@ class Opened(Part):
 
     def reach(self, place: int) -> int:
         """Lets the session step over the opcode at a place, and over those behind it that are shown with it. Answers the place behind them."""
-        here, end = self.session.where().place, min(place + _SHOWN_AFTER, len(self._codes or b''))
+        here, end = self.session.where().place, min(place + _SHOWN_AFTER, len(self._codes))
         if place < here:
             return here
         with self._at(end):
@@ -230,8 +225,8 @@ class Opened(Part):
         finally:
             self.session.goto(here)
 
-    def _read_beside(self, edits: List[bytes], edition: int, codes: bytes) -> _Read:
-        """Reads the pickle as it is after edits, beside the prompt."""
+    def _read_beside(self, edits: List[bytes], where: Where, edition: int) -> _Read:
+        """Reads the pickle as it is after edits, beside the prompt. A session of it is somewhere."""
         def progress(text: str) -> None:
             self._free.wait()
             if self._edition != edition:
@@ -239,16 +234,16 @@ class Opened(Part):
 
         content = self.session._bytes_after(edits)
         progress('')
-        with Input(content) as given:
-            lines, final, reaches, listed = self._lists(given, len(codes), codes, progress)
-            if len(lines) != len(codes):
-                lines, final, reaches, listed = self._lists(given, len(codes), None, progress)
-        if _READONLY not in codes:
+        lines, final, reaches, listed = self._lists(self._no_lines(content), where, progress)
+        is_finished = _READONLY not in lines.codes
+        if is_finished:
             lines.makers.finish(final.readonly_count, lambda place, number: False)
-        return _Read(content, lines, final, reaches, listed, _READONLY not in codes)
+        return _Read(lines, final, reaches, listed, is_finished)
 
     def content(self) -> bytes:
         """The bytes of the pickle as it is."""
+        if self._shown is not None:
+            raise Unknown
         self.settle()
         return super().content()
 
@@ -259,7 +254,7 @@ class Opened(Part):
         if base is None:
             base = _Base({name: vars(self)[name] for name in _READ}, self._edits, self._undone)
             known = self._known if turn == ('redo' if self._turn == 'undo' else 'undo') else None
-            is_kept = len(self.lines.text) + len(self._final.text) <= _MOST_KEPT
+            is_kept = self.lines.size + len(self._final.text) <= _MOST_KEPT
             self._known, self._turn = base.lists if is_kept else None, turn
         else:
             known = base.lists if edits == base.edits else None
@@ -271,9 +266,9 @@ class Opened(Part):
         between = self._between_of(base, edits)
         if between is not None or was_unread:
             self._base, self._between, self._edits, self._undone = base, between, edits, undone
-            sent, edition, codes = self.session._talk.edits(), self._edition, self._codes
+            sent, where, edition = self.session._talk.edits(), self.session.where(), self._edition
             self._moving = Later(lambda: self._return(here))
-            self._reading = Later(lambda: self._read_beside(sent, edition, codes))
+            self._reading = Later(lambda: self._read_beside(sent, where, edition))
             self._moving.start()
             self._reading.start()
             return
@@ -295,20 +290,19 @@ class Opened(Part):
         more, lists = edits[len(base.edits):], base.lists
         if edits[:len(base.edits)] != base.edits or not all(edit.put for edit in more) or len(more) > MOST_EDITS:
             return None
-        codes = self._codes or b''
-        if not Between.is_known_after(lists['lines'], lists['listed'], lists['reaches'], more, codes):
+        if not Between.is_known_after(lists['lines'], lists['listed'], lists['reaches'], more, self._codes):
             return None
         try:
-            return Between(lists['lines'], lists['_final'], lists['reaches'], more, codes, self)
+            return Between(lists['lines'], lists['_final'], lists['reaches'], more, self._codes, self)
         except Unknown:
             return None
 
     def _read_known(self, known: Dict[str, Any], edits: List[Done], undone: List[Done], here: int) -> None:
         """The pickle is again what it was as this was read."""
-        version, has_content = self.version + 1, known['_content'][0] == known['version']
+        version = self.version + 1
         vars(self).update(known)
         self._edits, self._undone, self.edited, self._heap = edits, undone, places_edited(edits), None
-        self.version, self._content = version, (version if has_content else 0, self._content[1])
+        self.version = version
         self._reading = Later(lambda: self._return(here))
         self._reading.start()
 
@@ -335,7 +329,7 @@ class Opened(Part):
             self._changers = self.version, known
         found = known.get(number)
         if found is None or found.left and len(found.places) <= most:
-            until = self.listed - int(behind_word(self.lines.closing, 'refused') is not None)
+            until = self.listed - int(self.lines.is_refused)
             with self._back():
                 found = known[number] = changers(self.session, self.lines, self._final, number, until, most, self.tell)
         return found
@@ -343,7 +337,7 @@ class Opened(Part):
     def did(self, begin: int, end: int, known: int, most: int) -> Did:
         """What the opcodes from a place on before another did, of which so many objects were known before, and the last entries of the memo."""
         with self._back():
-            return did(self.session, self.lines.makers.codes, begin, end, known, most)
+            return did(self.session, self.lines.codes, begin, end, known, most)
 
     @contextlib.contextmanager
     def _back(self) -> Iterator[None]:
@@ -387,7 +381,7 @@ class Opened(Part):
 
     def _codes_now(self) -> bytearray:
         """The codes of all opcodes."""
-        return bytearray(self.lines.makers.codes if self._base is None else self._codes or b'')
+        return bytearray(self.lines.codes if self._base is None else self._codes)
 
     def _put_code(self, word: str, place: int, code: int) -> int:
         """Edits the codes of all opcodes, and answers the code that was at the place."""
@@ -652,8 +646,8 @@ class Opened(Part):
 
 
 # What is read of a pickle.
-_READ = ('lines', '_final', 'reaches', 'listed', '_makers', '_content', 'version')
-# Of at most so many bytes of lines it is kept.
+_READ = ('lines', '_final', 'reaches', 'listed', 'version')
+# Of at most so many bytes it is kept.
 _MOST_KEPT = 1 << 28
 _MOST_LINE = 400
 _MOST_HELD = 20_000  # (letters of its line)

@@ -26,7 +26,7 @@ from ..renaming.renames import Renaming, renaming
 from ..session import SHIFTS
 from ..session_records import Mark
 from ..sources import Source
-from .between import Unknown, line_put
+from .between import Unknown, opcode_put
 from .breaks import BREAKS, Break, BreakError, is_hit, made_break, next_break
 from .displays import Display, made_display
 from .explain import explained
@@ -214,7 +214,7 @@ class Shell:
         line = self.pickle.lines.at(place)
         marks = '>' if place == here else ' ', '*' if any(point.is_on and point.what == 'at' and int(point.text) == place for point in self._breaks) else ' '
         reached = ''.join(f'   <- {text}' for text in self.pickle.calls_at(place, line))
-        argument = f' {shown_argument(self.pickle.lines.raw(place), line.argument)}' if line.argument else ''
+        argument = f' {shown_argument(self.pickle.lines, place, line)}' if line.argument else ''
         return f'{"".join(marks)} {place:>6} {line.offset:>5}: {"  " * line.marks}{line.name}{argument}{reached}'
 
     def _rows(self, first: int, last: int, here: int) -> List[str]:
@@ -585,7 +585,7 @@ class Shell:
     # --- Edits ---
 
     def _was(self, place: int) -> str:
-        return shown_opcode(self.pickle.lines.raw(place))
+        return shown_opcode(self.pickle.lines, place)
 
     def edit(self, edits: List[Edit]) -> str:
         """Makes edits, all or none, and says what each replaced."""
@@ -593,7 +593,7 @@ class Shell:
         for edit in edits:
             if edit.place > len(self.pickle.lines) or (edit.word != 'insert' and edit.place == len(self.pickle.lines)):
                 raise NotThere(f'there is no opcode at {edit.place}')
-            now = self.pickle.lines.at(edit.place).name if edit.place < len(self.pickle.lines) else ''
+            now = self.pickle.lines.name(edit.place) if edit.place < len(self.pickle.lines) else ''
             known.append(of_value(self.pickle, edit, now) if edit.word in ('replace', 'insert') else edit)
         was = ['' if edit.word in ('insert', 'frame') else self._was(edit.place) for edit in known]
         moved = []
@@ -614,7 +614,9 @@ class Shell:
             return f'{place}: {old} is gone'
         if edit.word == 'frame':
             self._settle()
-        now = self._was(place) if edit.word == 'frame' else edit.name if not BY_NAME[edit.name].argument else shown_opcode(line_put(edit.name, edit.values, edit.raw))
+        has_argument = edit.word != 'frame' and BY_NAME[edit.name].argument
+        put = shown_opcode(opcode_put(edit.name, edit.values, edit.raw), 0) if has_argument else edit.name
+        now = self._was(place) if edit.word == 'frame' else put
         return f'{place}: {now}' + (f' (was {old})' if old else ' is new')
 
     def _move_breaks(self, moves: Sequence[Tuple[int, int]], shown: List[List[Break]], hidden: List[List[Break]]) -> None:

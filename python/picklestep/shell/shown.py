@@ -6,9 +6,9 @@ from itertools import islice
 from typing import List
 
 from ..comparing import shown_value
-from ..lines import line_of
+from ..listed import Line, opcode_of
+from ..opcode_lines import OpcodeLines
 from ..part import said_of_time
-from ..texts import opcode_of
 from .opened import Opened
 
 __all__ = ['MOST_BYTES', 'latest', 'question_of_whole', 'reached', 'said_of_part', 'shown_argument', 'shown_bytes', 'shown_opcode']
@@ -23,19 +23,18 @@ def latest(word: str, count: int, shown: List[str]) -> List[str]:
     return [word + ', '.join(more + shown)] if count else []
 
 
-def shown_opcode(line: str) -> str:
-    """The opcode that a line of a listing shows, with its argument."""
-    shown = line_of(line)
-    return f'{shown.name} {shown_argument(line, shown.argument)}'.rstrip()
+def shown_opcode(lines: OpcodeLines, place: int) -> str:
+    """The opcode at a place, with its argument."""
+    line = lines.at(place)
+    return f'{line.name} {shown_argument(lines, place, line)}'.rstrip()
 
 
-def shown_argument(line: str, shown: str) -> str:
-    """The argument in a line of a listing as a value of Python, where it is one and was kept whole."""
-    if ' bytes more' in shown:
-        return shown
-    opcode = opcode_of(line)
-    is_value = not opcode.note and opcode.argument is not None and not isinstance(opcode.argument, tuple)
-    return shown_value(opcode.value) if is_value else shown
+def shown_argument(lines: OpcodeLines, place: int, line: Line) -> str:
+    """The argument in the line of the opcode at a place as a value of Python, where it is one and is there whole."""
+    fields = lines.whole(place) if line.argument else None
+    opcode = None if fields is None else opcode_of(fields)
+    is_value = opcode is not None and opcode.argument is not None and not isinstance(opcode.argument, tuple)
+    return shown_value(opcode.value) if opcode is not None and is_value else line.argument
 
 
 def shown_bytes(content: bytes, start: int, end: int) -> str:

@@ -4,16 +4,14 @@ from __future__ import annotations
 
 from heapq import merge
 from itertools import islice
-from typing import Callable, Iterable, Iterator, List, NamedTuple, Sequence, Tuple
+from typing import Callable, Iterable, Iterator, List, NamedTuple, Sequence, Tuple, Union
 
 from ..errors import Refused
-from ..lines import OpcodeLines
-from ..listed import shown_code
 from ..object_lines import ObjectLines
-from ..opcodes import BY_NAME, TABLE, OpcodeInfo
+from ..opcode_lines import OpcodeLines
+from ..opcodes import BY_CODE, TABLE, OpcodeInfo
 from ..session import Session
 from ..session_records import Step
-from ..texts import line_begins
 
 __all__ = ['Changers', 'Did', 'changers', 'did', 'steps']
 
@@ -86,29 +84,18 @@ def changers(session: Session, lines: OpcodeLines, final: ObjectLines, number: i
         if count == most + 1 and search.has_the_first():
             break
     else:
-        for _ in search.look(sorted(set(_places_of(lines.makers.codes, opcodes, maker, until)).difference(near)) if search.left else ()):
+        for _ in search.look(sorted(set(_places_of(lines.codes, opcodes, maker, until)).difference(near)) if search.left else ()):
             pass
     return Changers(sorted(search.places), search.left)
 
 
 def _under_the_same_marks(lines: OpcodeLines, opcodes: Sequence[OpcodeInfo], maker: int, until: int) -> Iterable[int]:
     """The places of opcodes behind one, each under as many marks as the object that this one makes."""
-    line = lines.at(maker)
-    marks = line.marks - BY_NAME[line.name].takes_mark
-    return merge(*(_under(lines, each, marks + each.takes_mark, maker, until) for each in opcodes if each.code in lines.makers.codes))
+    marks = lines.marks(maker) - BY_CODE[lines.codes[maker]].takes_mark
+    return merge(*(lines.right_under(marks + each.takes_mark, each.code, maker, until) for each in opcodes))
 
 
-def _under(lines: OpcodeLines, opcode: OpcodeInfo, marks: int, begin: int, until: int) -> Iterator[int]:
-    text, end = line_begins(shown_code(opcode.letter), opcode.name, marks), lines.start(until)
-    at = lines.text.find(text, lines.start(begin), end)
-    while at >= 0:
-        place = lines.number_at(at)
-        if lines.makers.codes[place] == opcode.code:  # (an argument may look the same)
-            yield place
-        at = lines.text.find(text, at + 1, end)
-
-
-def _places_of(codes: bytes, opcodes: Sequence[OpcodeInfo], begin: int, until: int) -> Iterator[int]:
+def _places_of(codes: Union[bytes, bytearray], opcodes: Sequence[OpcodeInfo], begin: int, until: int) -> Iterator[int]:
     for each in opcodes:
         at = codes.find(each.code, begin, until)
         while at >= 0:
@@ -116,7 +103,7 @@ def _places_of(codes: bytes, opcodes: Sequence[OpcodeInfo], begin: int, until: i
             at = codes.find(each.code, at + 1, until)
 
 
-def _last_places(codes: bytes, opcodes: Sequence[OpcodeInfo], begin: int, end: int) -> Iterator[int]:
+def _last_places(codes: Union[bytes, bytearray], opcodes: Sequence[OpcodeInfo], begin: int, end: int) -> Iterator[int]:
     """The places of opcodes from one on before another, the last of them first."""
     are = bytes(code in [each.code for each in opcodes] for code in range(256))
     found = codes[begin:end].translate(are)
@@ -136,7 +123,7 @@ class Did(NamedTuple):
     entries: List[Tuple[int, int]]
 
 
-def did(session: Session, codes: bytes, begin: int, end: int, known: int, most: int) -> Did:
+def did(session: Session, codes: Union[bytes, bytearray], begin: int, end: int, known: int, most: int) -> Did:
     """What the opcodes from a place on before another did, of which so many objects were known before. It moves the cursor.
 
     At the end of many steps, not all that changed something are looked at, and none that stored something far behind.

@@ -55,7 +55,7 @@ WORDS: Dict[str, Word] = {
     'list': Word('look', 'list [PLACE [PLACE | +N]]', 'Shows opcodes, up to a place or N of them, else 20, each with what it imports or calls; again those behind them.',
              ('list 0 3',), True),
     'calls': Word('look', 'calls [N]', 'Shows what the pickle imports and calls, from line N on; also of a long pickle all of it.', ('calls',)),
-    'find': Word('look', 'find TEXT', 'Finds the next opcode that has a text in its line or argument, or an offset; again the one behind it.',
+    'find': Word('look', 'find TEXT', 'Finds the next opcode that has a text in its name, argument or note, or the opcode at an offset; again the one behind it.',
                  ('find bob',), True),
     'hex': Word('look', 'hex [PLACE [COUNT]]', 'Shows the bytes of an opcode, or so many from its first.', ('hex 1', 'hex @2 32')),
     'explain': Word('look', 'explain [PLACE | NAME]', 'Says what an opcode does, and what it takes and makes here.', ('goto 8', 'explain')),
