@@ -8,17 +8,16 @@ from __future__ import annotations
 
 import argparse
 import sys
-from bisect import bisect_left
-from itertools import accumulate, chain, islice
+from itertools import chain, islice
 from pathlib import Path
-from typing import Any, Callable, Dict, Iterable, Iterator, List, Optional, Sequence, Tuple
+from typing import Any, Callable, Dict, Iterator, List, Optional, Sequence, Tuple
 
 from .addresses import check_out, content_in, given, saved
 from .arguments import opcode
 from .collector import without_collector
 from .errors import NotConverted, PicklestepError, reason
 from .listed import Fields, argument_of, key_of
-from .opcodes import BY_NAME, of_rows
+from .opcodes import BY_NAME, of_rows, spellings_of
 from .printing import print_text
 from .sameness import require_same
 from .saving import naming, written_whole
@@ -32,13 +31,12 @@ __all__ = ['SPELLINGS', 'framed', 'frames_around', 'in_frames', 'main', 'optimiz
 _PUTS, _GETS = of_rows('put', 'memoize'), of_rows('get')
 _MEMO = frozenset(_PUTS + _GETS)
 # Opcodes that make the same object of the same argument, the shortest first.
-SPELLINGS: Sequence[Sequence[str]] = (
-    ('BININT1', 'BININT2', 'BININT'), ('LONG1', 'LONG4'), ('SHORT_BINSTRING', 'BINSTRING'),
-    ('SHORT_BINUNICODE', 'BINUNICODE', 'BINUNICODE8'), ('SHORT_BINBYTES', 'BINBYTES', 'BINBYTES8'),
-    ('BINGET', 'LONG_BINGET', 'GET'), ('BINPUT', 'LONG_BINPUT', 'PUT'))
+SPELLINGS: Sequence[Sequence[str]] = tuple(map(spellings_of, ('BININT', 'LONG1', 'BINSTRING', 'BINUNICODE', 'BINBYTES', 'GET', 'PUT')))
 _ALIKE: Dict[str, Sequence[str]] = {name: names for names in SPELLINGS for name in names}
 # The sizes of frames, as pickle has them.
 _LARGEST, _LEAST = 64 * 1024, 4
+# Of so many opcodes the sizes are summed up at once.
+_STEP = 256
 _OF_MEMOIZE = 4  # the first protocol that has it
 
 
@@ -143,7 +141,7 @@ def in_frames(parts: Sequence[bytes]) -> bytes:
     """
     first = int(parts[0][0] == BY_NAME['PROTO'].code)
     made, at = list(parts[:first]), first
-    for place, count in frames_around(map(len, islice(parts, first, None))):
+    for place, count in frames_around([*map(len, islice(parts, first, None))]):
         made += parts[at:first + place]
         at = first + place + count
         inner = b''.join(parts[first + place:at])
@@ -167,22 +165,26 @@ def framed(content: bytes) -> bytes:
         return session.bytes()
 
 
-def frames_around(sizes: Iterable[int]) -> Iterator[Tuple[int, int]]:
+def frames_around(sizes: Sequence[int]) -> Iterator[Tuple[int, int]]:
     """The frames that pickle puts around opcodes of these sizes: the place of the first one in each, and how many there are.
 
     >>> list(frames_around([70_000, 1, 2, 1])), list(frames_around([60_000, 6_000, 1, 70_000, 9]))
     ([(1, 3)], [(0, 2), (4, 1)])
     """
-    sizes = list(sizes)
-    sums = list(accumulate(sizes, initial=0))
-    first = 0
-    for large in [*(place for place, own in enumerate(sizes) if own > _LARGEST), len(sizes)]:  # (which are in no frame)
-        while first < large:
-            end = min(bisect_left(sums, sums[first] + _LARGEST, first), large)
-            if sums[end] - sums[first] >= _LEAST:
-                yield first, end - first
-            first = end
-        first = large + 1
+    first, last = 0, len(sizes)
+    while first < last:
+        end, whole = first, 0
+        step = sum(sizes[end:end + _STEP])
+        while end + _STEP <= last and whole + step < _LARGEST:
+            end, whole = end + _STEP, whole + step
+            step = sum(sizes[end:end + _STEP])
+        while end < last and whole < _LARGEST:
+            whole += sizes[end]
+            end += 1
+        is_large = sizes[end - 1] > _LARGEST  # (which is in no frame)
+        if whole - is_large * sizes[end - 1] >= _LEAST:
+            yield first, end - is_large - first
+        first = end
 
 
 def main(arguments: List[str]) -> int:

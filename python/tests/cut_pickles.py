@@ -164,7 +164,7 @@ class _Shape:
             return type(value).__name__, bytes(value) if isinstance(value, (bytearray, memoryview, pickle.PickleBuffer)) else repr(value)
         if id(value) in self._numbers:
             return 'again', self._numbers[id(value)]
-        if value != ():
+        if value != () and (value or not isinstance(value, frozenset)):  # (an empty one of these may be the same everywhere)
             self._numbers[id(value)] = len(self._numbers)
             self._kept.append(value)
         return self._inside(value)

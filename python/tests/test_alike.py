@@ -9,6 +9,7 @@ from unittest import mock
 import picklestep
 from alike_pickles import Tried, all_real, ways_for
 from picklestep import NotConverted, SameAnswer
+from picklestep.protocols.spelling import spelled
 from pickles import chosen
 
 _OTHER = SameAnswer(False, 'another object #0')
@@ -36,6 +37,14 @@ class Refused(unittest.TestCase):
                 with self.assertRaisesRegex(NotConverted, 'it would not make the same objects: another object #0'):
                     write()
                 self.assertEqual(asked.call_count, 1)
+
+    def test_an_opcode_of_a_later_protocol(self) -> None:
+        """The objects are the same, and a loader of the protocol would not know the opcode."""
+        data = pickle.dumps(['a', 'a' * 300, [5]], 3)
+        for protocol in range(4):
+            with self.subTest(protocol), mock.patch('picklestep.protocols.changing.spelled', lambda ops, _: spelled(ops, 4)):
+                with self.assertRaisesRegex(NotConverted, 'it would have an opcode of protocol 4'):
+                    picklestep.convert(data, protocol=protocol)
 
     def test_what_has_other_objects(self) -> None:
         """Lines, calls that stand for opcodes, and names that a loader takes otherwise: these are not asked about."""

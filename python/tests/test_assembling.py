@@ -14,13 +14,43 @@ import sys
 import tempfile
 import unittest
 from pathlib import Path
-from typing import Tuple
+from typing import Any, Iterable, List, Tuple
 
 import picklestep
+from alike_pickles import all_real
+from harmless import opcodes_at_random
+from picklestep.program import run_program
 from scan_support import environment
 
 _SHARED = ['a\n\'"\\é']
 _VALUES = (None, [1, -2, 2 ** 70, -2 ** 40, 1.5, True], {'k': (_SHARED, _SHARED), b'\0\xff': {1, 2}}, 'x' * 300, collections.OrderedDict(a=datetime.date(2020, 1, 1)))
+
+
+def _value(some: random.Random, depth: int = 3) -> Any:
+    """A value with arguments of all kinds, and parts that are shared."""
+    kind = some.randrange(10 if depth else 5)
+    if kind == 0:
+        return some.choice((None, True, False, _SHARED))
+    if kind == 1:
+        return some.choice((1, -1)) * some.getrandbits(some.choice((3, 8, 16, 31, 64, 300)))
+    if kind == 2:
+        return struct.unpack('>d', some.getrandbits(64).to_bytes(8, 'big'))[0]
+    if kind == 3:
+        return ''.join(chr(some.choice((some.randrange(0x3000), 34, 39, 92, 10, 0x1f600))) for _ in range(some.randrange(9)))
+    if kind == 4:
+        return some.choice((bytes, bytearray))(some.getrandbits(8) for _ in range(some.randrange(300)))
+    parts = [_value(some, depth - 1) for _ in range(some.randrange(5))]
+    return some.choice((parts, tuple(parts), {1.5: parts, 'k': _SHARED}, collections.OrderedDict(enumerate(parts)), {some.getrandbits(9) for _ in parts}))
+
+
+def _random_pickles(seeds: Iterable[int]) -> List[bytes]:
+    """Pickles of values, by both picklers in each protocol, and as many of opcodes at random."""
+    found = []
+    for seed in seeds:
+        some = random.Random(seed)
+        dumps = some.choice((pickle.dumps, pickle._dumps))  # type: ignore[attr-defined]
+        found.append(dumps(_value(some), seed // 2 % 6) if seed % 2 else opcodes_at_random(seed))
+    return found
 
 
 def _packed(name: str, argument: bytes) -> bytes:
@@ -87,6 +117,27 @@ class Texts(unittest.TestCase):
             self.assertEqual((raised.exception.line, raised.exception.text), (2, text))
 
 
+class ThereAndBack(unittest.TestCase):
+    """What `list --whole --many` prints of many pickles in one file is assembled to their bytes."""
+
+    def assert_same(self, pickles: List[bytes]) -> None:
+        with tempfile.TemporaryDirectory() as folder:
+            path = Path(folder, 'all')
+            path.write_bytes(b''.join(pickles))
+            made = picklestep.assemble(run_program(['list', '--whole', '--many', str(path)]))
+        begin = 0
+        for data in pickles:
+            self.assertEqual(made[begin:begin + len(data)], data)
+            begin += len(data)
+        self.assertEqual(len(made), begin)
+
+    def test_real_pickles(self) -> None:
+        self.assert_same([*all_real().values()])
+
+    def test_random_pickles(self) -> None:
+        self.assert_same(_random_pickles(range(1000)))
+
+
 class Assembled(unittest.TestCase):
     """The command, with the texts that `list` prints."""
 
@@ -102,12 +153,12 @@ class Assembled(unittest.TestCase):
         return done.returncode, done.stdout
 
     def test_what_picklers_write(self) -> None:
-        for value in _VALUES:
-            for protocol in range(6):
-                data = pickle.dumps(value, protocol)
-                with self.subTest(value=value, protocol=protocol):
-                    self.assertEqual(self.run_on(picklestep.listing(data).text, 'assemble'), (0, ''))
-                    self.assertEqual((self.folder / 'out.pickle').read_bytes(), data)
+        """Each value in another protocol. (`picklestep.assemble` is asked in all.)"""
+        for value, protocol in zip(_VALUES, (0, 1, 2, 4, 5)):
+            data = pickle.dumps(value, protocol)
+            with self.subTest(value=value, protocol=protocol):
+                self.assertEqual(self.run_on(picklestep.listing(data).text, 'assemble'), (0, ''))
+                self.assertEqual((self.folder / 'out.pickle').read_bytes(), data)
 
     def test_in_frames(self) -> None:
         text = "PROTO 4\nBINUNICODE 'a'\nSTOP\n"

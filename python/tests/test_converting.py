@@ -3,6 +3,7 @@
 from __future__ import annotations
 
 import collections
+import itertools
 import pickle
 import pickletools
 import subprocess
@@ -24,7 +25,16 @@ OF_PYTHON_2 = (
     b"\x80\x02]q\x00(U\x01aq\x01X\x01\x00\x00\x00bq\x02U\x05Andr\xe9q\x03}q\x04U\x01kq\x05h\x01se.",
     b"\x80\x02T\x2c\x01\x00\x00" + b'x\xe9' * 150 + b'.',
     b"S\"it's\\n\\\\ \\x00\xe9\"\n.", b"\x80\x02U\x00.", b"(U\x01aU\x01\xfft.", b"\x80\x04\x95\x06\x00\x00\x00\x00\x00\x00\x00U\x03\xc3\xa9z\x94.")
+# From each protocol into itself and its neighbours, and from one end to the other: each change that a protocol brings is made alone, and with all others.
+PROTOCOLS = [(old, new) for old, new in itertools.product(range(6), repeat=2) if abs(old - new) in (0, 1, 5)]
 _LEGACY = {'STRING', 'BINSTRING', 'SHORT_BINSTRING'}
+
+
+def shape(data: bytes) -> str:
+    """What a pickle is loaded as, and which parts of it are one object."""
+    made = pickle.loads(data)
+    parts = list(made) if isinstance(made, (list, tuple)) else []
+    return f'{made!r} {[[one is other for one in parts] for other in parts]}'
 
 
 def names_in(data: bytes) -> List[str]:
@@ -107,25 +117,21 @@ class InProtocols(unittest.TestCase):
         values = [None, True, [True, False], 255, 256, -1, 65_536, 2 ** 31, -2 ** 31 - 1, 2 ** 2000, 1.5, float('-inf'), -0.0, 'caf\xe9', 'x' * 300, '\ud800',
                   'a\nb\\u\0\r\x1a', (), (1,), (1, 2), (1, 2, 3), (1, 2, 3, 4), [], [1], list(range(1001)), {}, {1: 2}, {n: n for n in range(1002)},
                   [shared, shared, (shared,)], itself, collections.OrderedDict(a=[1, 2]), collections.deque([1, 2, 3]), collections.Counter('aab')]
-        for value in values:
-            for old in range(6):
-                for new in range(6):
-                    with self.subTest(str(value)[:40], old=old, new=new):
-                        self.assertEqual(picklestep.convert(pickle.dumps(value, old), protocol=new), pickle.dumps(value, new))
+        for value, (old, new) in itertools.product(values, PROTOCOLS):
+            with self.subTest(str(value)[:40], old=old, new=new):
+                self.assertEqual(picklestep.convert(pickle.dumps(value, old), protocol=new), pickle.dumps(value, new))
 
     def test_what_a_protocol_has_no_opcode_for(self) -> None:
         """It loads alike, has no opcode of a later protocol, and is in the usual form where it was."""
         values = [b'', b'ab', b'x' * 300, bytearray(), bytearray(b'ab'), set(), {1}, {1, 2}, frozenset(), frozenset([1]), {frozenset([(1,)]): [{2}]},
                   set(range(1500)), [b'a', b'a'], NotImplementedError('a'), complex(1, 2), ['builtins', 'set', {1}]]
-        for value in values:
-            for old in range(6):
-                for new in range(6):
-                    data = pickle.dumps(value, old)
-                    with self.subTest(str(value)[:40], old=old, new=new):
-                        made = picklestep.convert(data, protocol=new)
-                        self.assertEqual(repr(pickle.loads(made)), repr(value))
-                        self.assertLessEqual(max(opcode.proto for opcode, _, _ in pickletools.genops(made)), new)
-                        self.assertEqual(picklestep.form(data) is None, picklestep.form(made) is None)
+        for value, (old, new) in itertools.product(values, PROTOCOLS):
+            data = pickle.dumps(value, old)
+            with self.subTest(str(value)[:40], old=old, new=new):
+                made = picklestep.convert(data, protocol=new)
+                self.assertEqual(repr(pickle.loads(made)), repr(value))
+                self.assertLessEqual(max(opcode.proto for opcode, _, _ in pickletools.genops(made)), new)
+                self.assertEqual(picklestep.form(data) is None, picklestep.form(made) is None)
 
     def test_what_stays_alike(self) -> None:
         """Lines that loaders read otherwise, names of Python 2, names with a dot, and a text that is a name and data."""
@@ -137,6 +143,16 @@ class InProtocols(unittest.TestCase):
                 (b'\x80\x02cm\nA\n)\x81.', 0, b'ccopy_reg\n__newobj__\np0\n(cm\nA\ntR.'), (b'\x80\x02]q\x07h\x07a.', 4, b'\x80\x04\x95' + struct.pack('<Q', 6) + b']\x94h\0a.')):
             with self.subTest(data):
                 self.assertEqual(picklestep.convert(data, protocol=protocol), wanted)
+
+    def test_what_is_doubled(self) -> None:
+        """Items, members and classes that DUP puts on the stack again are one object, and not another that is written before them."""
+        for data in (b'\x80\x02](K\x01K\x022e.', b'\x80\x02](]22e.', b'\x80\x02}(K\x012K\x02N2Nu.', b'\x80\x02N2\x85\x86.', b'\x80\x02]2\x85\x86.',
+                     b'\x80\x04\x8f(K\x012K\x02\x902\x86.', b'\x80\x04(K\x012\x91.', b'\x80\x02ccollections\nOrderedDict\n2)\x81\x86.',
+                     b'\x80\x04ccollections\nOrderedDict\n2)}\x92\x86.'):
+            for protocol in range(6):
+                with self.subTest(data, protocol=protocol):
+                    made = picklestep.convert(data, protocol=protocol)
+                    self.assertEqual(shape(made), shape(data))
 
     def test_what_a_protocol_cannot_say(self) -> None:
         for data, protocol, why in (

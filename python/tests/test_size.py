@@ -5,11 +5,13 @@ from __future__ import annotations
 import collections
 import datetime
 import json
+import os
 import pickle
 import pickletools
 import subprocess
 import sys
 import tempfile
+import threading
 import unittest
 from itertools import chain
 from pathlib import Path
@@ -126,6 +128,38 @@ class Sizes(unittest.TestCase):
         self.assertEqual([(each.count, each.size) for each in answer.again], [(2, 5005), (2, 7)])
         self.assertEqual(picklestep.size(b']q\x00]q\x00h\x00a.').memo.unused, 1)  # (the first is written over before somebody takes it)
         self.assertEqual(picklestep.size(b']q\x00.]h\x00.', many=True).memo.unused, 1)  # (the second pickle begins with an empty memo)
+
+    def test_keys_of_the_memo(self) -> None:
+        """MEMOIZE counts the entries, whatever keys they have. GET and PUT have digits."""
+        for data, unused in ((b']q\x05N\x94K\x01\x94h\x01h\x05\x86\x86.', 1), (b']p007\ng007\na.', 0), (b']p0\nNp300\ng300\nj\x00\x00\x00\x00\x87.', 0),
+                             (b'N\x94K\x01\x94h\x01\x87.', 1), (b'\x80\x04' + b'N\x940' * 300 + b'j\x2b\x01\x00\x00.', 299)):
+            pickle.loads(data)
+            self.assertEqual(picklestep.size(data).memo.unused, unused, data[:20])
+
+    def test_kinds_and_values(self) -> None:
+        """A key is shown as its opcode says it. Texts count as equal only if opcodes of one kind write them."""
+        opcodes = {b'I01\n': True, b'I00\n': False, b'I5\n': 5, b'L7L\n': 7, b'F0.5\n': 0.5, b'Va\\u20ac\n': 'a\u20ac', b"S'b'\n": 'b', b'U\x01b': 'b',
+                   b'T\1\0\0\0b': 'b', b'X\1\0\0\0b': 'b', b'C\1b': b'b', b'B\1\0\0\0b': b'b', b'G?\xe0' + bytes(6): 0.5, b'J\xff\xff\xff\xff': -1,
+                   b'\x8a\1\xff': -1, b'K\7': 7, b'M\1\1': 257, b'N': None, b'\x88': True, b'\x89': False}
+        for opcode, value in opcodes.items():
+            data = b'}' + opcode + b'K\x01s.'
+            self.assertEqual(pickle.loads(data), {value: 1})
+            self.assertEqual([each.path for each in picklestep.size(data).paths], ['result', f'[{value!r}]', f'[{value!r}] (its key)'])
+        again = picklestep.size(b'(' + b''.join(opcodes) + b't.').again
+        self.assertEqual([(each.text, each.count, each.size) for each in again], [("'b'", 2, 3), ("b'b'", 2, 3)])
+
+    @unittest.skipUnless(hasattr(os, 'mkfifo'), 'the system has no FIFOs')
+    def test_a_fifo(self) -> None:
+        with tempfile.TemporaryDirectory() as folder:
+            path = Path(folder, 'fifo')
+            os.mkfifo(path)
+            with self.assertRaises(picklestep.TimedOut):
+                picklestep.size(path, timeout=0.2)
+            for timeout in (60, None):
+                writer = threading.Thread(target=path.write_bytes, args=(pickle.dumps([1]),), daemon=True)
+                writer.start()
+                self.assertEqual(picklestep.size(path, timeout=timeout).size, len(pickle.dumps([1])))
+                writer.join()
 
     def test_what_is_not_read(self) -> None:
         data = pickle.dumps(['a' * 30, [1, 2]], 2)

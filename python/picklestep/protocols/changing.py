@@ -59,7 +59,8 @@ def in_protocol(content: bytes, protocol: int, many: bool = False) -> bytes:
         stands += _made_by(result)
     whole = b''.join(made)
     count = len(pickles)
-    del pickles, ops, result, parts, starts  # (what is compared takes its own memory)
+    del pickles, ops, result, parts, starts, listed  # (what is compared takes its own memory)
+    _check_opcodes(whole, protocol)
     if is_respelled:
         require_same(content, whole, many=count > 1)
         return whole
@@ -69,6 +70,13 @@ def in_protocol(content: bytes, protocol: int, many: bool = False) -> bytes:
             raise NotConverted([f'it would not read to its end: {end.text}'])
     Checked(old, new, stands, old_calls, new_calls, dotted, protocol >= _OF_DOTS).check()
     return whole
+
+
+def _check_opcodes(content: bytes, protocol: int) -> None:
+    """Raises NotConverted where an opcode is of a later protocol."""
+    later = listing(content, many=True).protocol or 0
+    if later > protocol:
+        raise NotConverted([f'it would have an opcode of protocol {later}'])
 
 
 def _written(ops: Sequence[Op], protocol: int, names: Names) -> List[Op]:

@@ -23,12 +23,13 @@ def lowered(ops: Sequence[Op], protocol: int) -> Tuple[List[Op], List[str]]:
     for below, rules in _STEPS:
         # (What is stored is noted for the other rules alone.)
         if protocol <= below and not {op.name for op in result}.isdisjoint(rules.keys() - {'PUT'}):
-            work = Rewriting(result)
-            step = _Step(work, protocol)
-            obey(step, rules, result)
-            if work.problems:
-                return result, work.problems
-            result = step.made()
+            for each in (_DOUBLES, rules):
+                work = Rewriting(result)
+                step = _Step(work, protocol)
+                obey(step, each, result)
+                if work.problems:
+                    return result, work.problems
+                result = step.made()
     return result, []
 
 
@@ -57,6 +58,11 @@ class _Step:
 
     def _global(self, module: bytes, name: bytes) -> Op:
         return Op('GLOBAL', (module, name), shared=True)
+
+    def take_again(self, place: int, op: Op, taken: Taken) -> None:
+        """What stands before DUP goes into the memo, so that something else may come between both."""
+        key = -1 - place - len(self.work.ops)
+        self.work.put(place, Op('PUT', key, offset=op.offset), Op('GET', key, offset=op.offset))
 
     # --- From 5 to 4 ---
 
@@ -264,6 +270,8 @@ class _Step:
 
 
 _Rule = Callable[[_Step, int, Op, Taken], None]
+# (Other rules put opcodes before what an opcode takes.)
+_DOUBLES: Dict[str, _Rule] = {'DUP': _Step.take_again}
 _STEPS: Sequence[Tuple[int, Dict[str, _Rule]]] = (
     (4, {'BYTEARRAY8': _Step.make_bytearray, 'NEXT_BUFFER': _Step.refuse_buffer, 'READONLY_BUFFER': _Step.refuse_buffer}),
     (3, {'PUT': _Step.note_put, 'STACK_GLOBAL': _Step.make_global, 'NEWOBJ_EX': _Step.call_new_with_keywords, 'EMPTY_SET': _Step.make_set,

@@ -9,7 +9,7 @@ from typing import Callable, Dict, Iterator, List, Mapping, NamedTuple, Optional
 
 from ..answers import Listing, Objects
 from ..listed import Fields, argument_of
-from ..opcodes import BY_NAME, OpcodeInfo, of_rows
+from ..opcodes import BY_NAME, OpcodeInfo, of_rows, spellings_of
 from ..patterns import pattern
 from ..records import SLOTS
 from ..values import argument_value, read_form
@@ -17,10 +17,9 @@ from ..values import argument_value, read_form
 __all__ = ['GETS', 'PUTS', 'Op', 'Rewriting', 'Slot', 'Taken', 'are_spellings', 'read', 'walk']
 
 PUTS, GETS = of_rows('put', 'memoize'), of_rows('get')
-# Opcodes that mean the same with the same value. Each has the name of the first here; how it is spelled in a protocol is said in `spelling`.
-_SAME = (('BININT', 'BININT1', 'BININT2'), ('LONG1', 'LONG4'), ('BINUNICODE', 'SHORT_BINUNICODE', 'BINUNICODE8'),
-         ('BINBYTES', 'SHORT_BINBYTES', 'BINBYTES8'), PUTS, GETS)
-_MEANS: Dict[str, str] = {name: names[0] for names in _SAME for name in names}
+# Opcodes that mean the same with the same value have one of their names; how it is spelled in a protocol is said in `spelling`. MEMOIZE says no key.
+_MEANS: Dict[str, str] = {name: means for means in ('BININT', 'LONG1', 'BINUNICODE', 'BINBYTES', 'PUT', 'GET') for name in spellings_of(means)}
+_MEANS.update({name: 'PUT' for name in of_rows('memoize')})
 # A line that all loaders read alike, by its opcode: other lines stay as they are.
 _PLAIN_LINES = {'INT': pattern(rb'-?(?:0|[1-9][0-9]{0,18})'), 'LONG': pattern(rb'-?(?:0|[1-9][0-9]{0,4000})L?'),
                 'FLOAT': pattern(rb'-?(?:[0-9]+(?:\.[0-9]+)?(?:e[+-]?[0-9]+)?|inf|nan)')}

@@ -3,36 +3,32 @@
 from __future__ import annotations
 
 from array import array
-from itertools import accumulate, chain, count, islice
+from itertools import accumulate, islice
 from typing import Any, Dict, Iterable, Iterator, List, NamedTuple, Sequence, Set, Tuple
 
-from ..held import ADDED, APPENDED, KEY, STATE, VALUE, fields_of_tails, head_of, holders_of, short_lines, tails_of
-from ..lines import Lines
-from ..listed import name_in, names_of
-from ..literals import literal
-from ..made import given, results_in
-from ..values import PLAIN_KINDS, kind_value
+from ..held import ADDED, APPENDED, KEY, PART, STATE, VALUE, held_in, short_lines
+from ..made import OBJECT, results_in
+from ..opcodes import BY_CODE
+from .origins import Origins
 
 __all__ = ['Heap', 'NOBODY']
 
-# The sign of what an object was made of. (`held` has those of what was put in later.)
-_PART = b'('
-# The second parts of lines of objects that hold others, where they say no more than the kind.
-_BARE = {kind: f'{kind}"}}' for kind in ('list', 'tuple', 'dict', 'set', 'frozenset', 'call', 'new', 'new-ex', 'obj', 'stack-global', 'readonly')}
-# How the second part of the line of an import by GLOBAL begins.
-_GLOBAL, _NAME = b'global"', b',"name'
+# What stands behind the number of a view that can only be read. (No text in a line has a quote that is not escaped.)
+_VIEW = b',"is":"readonly"'
 _MADE_OF = ('list', 'dict', 'tuple')
 _CALLS = ('call', 'new', 'new-ex')
+# The opcodes that make dictionaries, and the signs of what these hold where all of it is keys and values.
+_DICTS, _OF_PAIRS = bytes(code for code, info in BY_CODE.items() if info.kind == 'dict'), PART + KEY + VALUE
 
 NOBODY = -1
 _UNSEEN = -2
-# So many letters of a key are shown, and of so many objects it is kept what they hold.
-_MOST_LETTERS, _MOST_KEPT = 64, 64
+# Of so many objects it is kept what they hold.
+_MOST_KEPT = 64
 # A path of more steps is not shown whole.
 _MOST_STEPS = 100
 
-# What an object holds: its number, and others, or pairs of a key and a value. The last says which.
-_Entries = Tuple[int, Iterator[Any], bool]
+# What is left to see of what an object holds: its number and how many objects lead to it, and others, or pairs of a key and a value. The last says which.
+_Entries = Tuple[int, int, Iterator[Any], bool]
 
 
 class _Held(NamedTuple):
@@ -42,65 +38,62 @@ class _Held(NamedTuple):
     numbers: 'array[int]'
 
 
+def _views_in(lines: bytes) -> Iterator[int]:
+    """The numbers of the views among the objects of these lines."""
+    at = lines.find(_VIEW)
+    while at >= 0:
+        yield int(lines[lines.rindex(b':', 0, at) + 1:at])
+        at = lines.find(_VIEW, at + 1)
+
+
 class Heap:
-    """The objects of an answer of `objects`, by their numbers.
+    """The objects of an answer of `objects`, by their numbers. `views` are those that can only be read.
 
     `walk` goes over all of them: then `holders` says by which object each is held first, and `order` in which order that is. A key is held by its
     value, where nothing else holds that before. `roots` are held by nothing: the results, and what is in no result.
     """
 
-    def __init__(self, blocks: Iterable[bytes], many: bool) -> None:
+    def __init__(self, blocks: Iterable[bytes], many: bool, has_views: bool) -> None:
         self._many = many
+        self.count = 0
         self.results: Dict[int, int] = {}  # (and which pickle has each first)
-        # The second parts of the lines, without what objects hold.
-        self._heads = Lines()
-        # Of each object that holds something its kind, and where it begins what it holds; and where that is by its number.
-        self._kinds: List[str] = []
-        self._begins = array('Q', [0])
-        self._is_plain = bytearray()  # (whether it has nothing but items, or pairs)
-        self._holders: Dict[int, int] = {}
+        self.views: Set[int] = set()
+        # The objects that hold others, and where each of them begins what it holds.
+        self._owners, self._begins = array('I'), array('I', [0])
         self._signs = bytearray()
         self._numbers = array('I')
         stops = 0
         for lines in short_lines(blocks):
             for stops, number in enumerate(results_in(lines), stops + 1):
                 self.results.setdefault(number, stops - 1)
-            tails = tails_of(lines)
-            del lines  # (they may be long)
-            self._take(tails)
-        self.count = len(self._heads)
-        self.holders = array('q', [_UNSEEN]) * self.count
-        self.order = array('q')
+            self._take(lines)
+            if has_views:
+                self.views.update(_views_in(lines))
+        self.holders = array('i', [_UNSEEN]) * self.count
+        self.order = array('I')
         self.roots: List[int] = []
-        self._depths = array('L', [0]) * self.count
-        self._roots = array('L', [0]) * self.count
+        # By the numbers of objects the places of those among `_owners`, from 1 on; and how many objects lead to these, and from which root.
+        self._places = array('I', [0]) * self.count
+        for place, number in enumerate(self._owners, 1):
+            self._places[number] = place
+        self._depths = array('I', [0]) * len(self._owners)
+        self._roots = array('I', [0]) * len(self._owners)
         self._known: Dict[int, _Held] = {}
 
-    def _take(self, tails: List[str]) -> None:
+    def _take(self, lines: bytes) -> None:
         """Takes some objects."""
-        first, found = len(self._heads), [*holders_of(len(self._heads), tails)]
-        signs = [_PART * len(parts) + put_signs for _, _, parts, put_signs, _ in found]
-        self._holders.update(zip([number for number, _, _, _, _ in found], count(len(self._kinds))))
-        self._begins.extend(islice(accumulate(map(len, signs), initial=len(self._signs)), 1, None))
-        self._signs += b''.join(signs)
-        self._numbers.extend(chain.from_iterable([held for _, _, parts, _, put in found for held in (parts, put)]))
-        for number, kind, _, put_signs, _ in found:
-            self._kinds.append(kind)
-            self._is_plain.append(not put_signs.strip(KEY + VALUE) if kind == 'dict' else KEY not in put_signs)
-            tails[number - first] = _BARE.get(kind) or head_of(tails[number - first])
-        if tails:
-            self._heads.add(('\n'.join(tails) + '\n').encode('ascii'))
-
-    def readonly(self) -> Set[int]:
-        """The views that can only be read."""
-        return {number for number, at in self._holders.items() if self._kinds[at] == 'readonly'}
+        held = held_in(lines)
+        self._owners.extend(map(self.count.__add__, held.owners))
+        self._begins.extend(islice(accumulate(held.counts, initial=len(self._numbers)), 1, None))
+        self._signs += held.signs
+        self._numbers += array('I', held.numbers)
+        self.count += lines.count(OBJECT)
 
     # --- What holds what ---
 
     def kind(self, number: int) -> str:
         """The kind of an object, in the word of `objects`."""
-        at = self._holders.get(number)
-        return name_in(self._heads.raw(number)) if at is None else self._kinds[at]
+        return self._origins.kind(number)
 
     def parts(self, number: int) -> int:
         """Of how many objects one was made, or has got since."""
@@ -109,20 +102,11 @@ class Heap:
     def counts(self) -> Iterator[Tuple[str, int, int, int]]:
         """Of each object that holds something its kind, and how many items, pairs and members are in it. (What a call is given counts for nothing.)"""
         number_of = self._signs.count
-        for at, kind in enumerate(self._kinds):
-            begin, end = self._begins[at], self._begins[at + 1]
-            parts = number_of(_PART, begin, end) if kind in _MADE_OF else 0
+        for number, begin, end in zip(self._owners, self._begins, islice(self._begins, 1, None)):
+            kind = self._origins.kind(number)
+            parts = number_of(PART, begin, end) if kind in _MADE_OF else 0
             items, pairs = (0, parts // 2) if kind == 'dict' else (parts, 0)
             yield kind, items + number_of(APPENDED, begin, end), pairs + number_of(KEY, begin, end), number_of(ADDED, begin, end)
-
-    def names(self) -> Iterator[Tuple[bytes, bytes]]:
-        """The module and the name of each import by GLOBAL."""
-        known: Dict[bytes, Tuple[bytes, bytes]] = {}
-        for head in self._heads.all():
-            if head.startswith(_GLOBAL) and _NAME in head:  # (a module may be so long that there is no more)
-                if head not in known:
-                    known[head] = names_of(fields_of_tails([head.decode('ascii')])[0])
-                yield known[head]
 
     def _held(self, number: int) -> _Held:
         """What an object holds. (That of a large one is asked for again and again.)"""
@@ -133,90 +117,86 @@ class Heap:
         return self._known[number]
 
     def _read(self, number: int) -> _Held:
-        at = self._holders.get(number)
-        if at is None:
-            return _Held(b'', array('I'))
-        begin, end = self._begins[at], self._begins[at + 1]
+        place = self._places[number]
+        begin, end = (self._begins[place - 1], self._begins[place]) if place else (0, 0)
         return _Held(bytes(self._signs[begin:end]), self._numbers[begin:end])
 
-    def _entries(self, number: int) -> _Entries:
-        at = self._holders[number]
-        begin, end, is_dict = self._begins[at], self._begins[at + 1], self._kinds[at] == 'dict'
-        numbers = self._numbers[begin:end]
-        if not self._is_plain[at]:
-            return number, _paired(bytes(self._signs[begin:end]), numbers, is_dict), True
-        values = iter(numbers)
-        return number, zip(values, values) if is_dict else values, is_dict
-
-    def walk(self) -> None:
-        """Goes over all objects: those of the results, then what no other holds, then what holds itself."""
+    def walk(self, origins: Origins) -> None:
+        """Goes over all objects: those of the results, then what no other holds, then what holds itself. The opcodes say of which kinds they are."""
+        self._origins = origins
         for number in self.results:
             self._walk_from(number)
+        if len(self.order) == self.count:
+            return
         unseen = [number for number, holder in enumerate(self.holders) if holder == _UNSEEN]
         held = bytearray(self.count)
         for number in unseen:
-            if number in self._holders:
-                for part in self._read(number).numbers:
-                    held[part] = 1
+            for part in self._read(number).numbers:
+                held[part] = 1
         for number in unseen:
             if not held[number]:
                 self._walk_from(number)
         for number in unseen:
             self._walk_from(number)
-        holders, depths, roots = self.holders, self._depths, self._roots
-        for number in self.order:
-            holder = holders[number]
-            if holder >= 0:
-                depths[number], roots[number] = depths[holder] + 1, roots[holder]
-            else:
-                roots[number] = number
 
     def _walk_from(self, root: int) -> None:
-        holders, order, begins = self.holders, self.order, self._holders
-        if holders[root] != _UNSEEN:
+        holders, places, add, unseen = self.holders, self._places, self.order.append, _UNSEEN
+        if holders[root] != unseen:
             return
         holders[root] = NOBODY
-        order.append(root)
+        add(root)
         self.roots.append(root)
-        stack = [self._entries(root)] if root in begins else []
-        add = order.append
+        stack = [self._entries(root, 0, root)] if places[root] else []
         while stack:
-            owner, entries, in_pairs = stack[-1]
-            depth = len(stack)
+            owner, depth, entries, in_pairs = stack[-1]
+            count = len(stack)
             if not in_pairs:
                 for value in entries:
-                    if holders[value] == _UNSEEN:
+                    if holders[value] == unseen:
                         holders[value] = owner
                         add(value)
-                        if value in begins:
-                            stack.append(self._entries(value))
+                        if places[value]:
+                            stack.append(self._entries(value, depth + 1, root))
                             break
                 else:
                     stack.pop()
                 continue
             for key, value in entries:
-                holder = owner
-                if holders[value] == _UNSEEN:
+                is_new = holders[value] == unseen
+                if is_new:
                     holders[value] = owner
                     add(value)
-                    if value in begins:
-                        stack.append(self._entries(value))
-                    holder = value  # (which holds its key)
-                if key >= 0 and holders[key] == _UNSEEN:
-                    holders[key] = holder
+                    if places[value]:
+                        stack.append(self._entries(value, depth + 1, root))
+                if key >= 0 and holders[key] == unseen:
+                    holders[key] = value if is_new else owner
                     add(key)
-                    if key in begins:
-                        stack.append(self._entries(key))
-                if len(stack) > depth:
+                    if places[key]:
+                        stack.append(self._entries(key, depth + 1 + is_new, root))
+                if len(stack) > count:
                     break
             else:
                 stack.pop()
 
+    def _entries(self, number: int, depth: int, root: int) -> _Entries:
+        """What an object holds that so many lead to, the first of them this root."""
+        place = self._places[number]
+        self._depths[place - 1], self._roots[place - 1] = depth, root
+        begin, end = self._begins[place - 1], self._begins[place]
+        signs, numbers = self._signs[begin:end], self._numbers[begin:end]
+        is_dict = self._origins.codes[number] in _DICTS
+        if is_dict and not signs.strip(_OF_PAIRS):
+            values = iter(numbers)
+            return number, depth, zip(values, values), True
+        if is_dict or KEY in signs:
+            return number, depth, _paired(bytes(signs), numbers, is_dict), True
+        return number, depth, iter(numbers), False
+
     def totals(self, own: Sequence[int]) -> List[int]:
         """How much each object has of something, with all that it holds first."""
-        totals = list(own)
+        totals, holders = list(own), self.holders
         for number in reversed(self.order):
-            holder = self.holders[number]
+            holder = holders[number]
             if holder >= 0:
                 totals[holder] += totals[number]
         return totals
@@ -225,14 +205,14 @@ class Heap:
 
     def path(self, number: int) -> str:
         """The path that leads to an object first, as `diff` writes it. Of a long one the last steps are there alone."""
-        depth = self._depths[number]
+        depth = self.depth(number)
         steps: List[str] = []
         while self.holders[number] >= 0 and (depth <= _MOST_STEPS or len(steps) < _MOST_STEPS // 2):
             steps.append(self._step(self.holders[number], number))
             number = self.holders[number]
         if len(steps) < depth:
             steps.append(f' .. {depth - len(steps)} steps .. ')
-            number = self._roots[number]
+            number = self._roots[self._owner_above(number)[0]]
         if number in self.results and not self._many:
             steps.append('' if steps and steps[-1].startswith(('[', '{')) else 'result')
         else:
@@ -241,7 +221,16 @@ class Heap:
 
     def depth(self, number: int) -> int:
         """How many objects lead to it."""
-        return self._depths[number]
+        place, more = self._owner_above(number)
+        return more + (self._depths[place] if place >= 0 else 0)
+
+    def _owner_above(self, number: int) -> Tuple[int, int]:
+        """The place of the next object that holds others on the way from one to its root, and how many steps that is; -1 if there is none."""
+        steps = 0
+        while not self._places[number] and self.holders[number] >= 0:
+            number = self.holders[number]
+            steps += 1
+        return self._places[number] - 1, steps
 
     def last_step(self, number: int) -> str:
         """The step that leads to an object from what holds it."""
@@ -265,7 +254,7 @@ class Heap:
         if sign == ADDED or kind in ('set', 'frozenset'):
             return f'{{{self.shown(number)}}}'
         if sign == APPENDED:
-            parts = signs.count(_PART) if kind == 'list' else 0
+            parts = signs.count(PART) if kind == 'list' else 0
             return f'[{parts + signs.count(APPENDED, 0, at)}]'
         return self._step_of_part(kind, at, numbers)
 
@@ -285,19 +274,11 @@ class Heap:
 
     def shown(self, number: int) -> str:
         """A plain value in a few letters; of another object its number."""
-        kind = self.kind(number)
-        if kind not in PLAIN_KINDS:
-            return f'#{number}'
-        said = given(fields_of_tails([self._heads.raw(number)])[0])
-        value: Any = said.decode('utf-8', 'ignore') if kind == 'text' and isinstance(said, bytes) else kind_value(kind, said)
-        if isinstance(value, (str, bytes, bytearray)):
-            return literal(value[:_MOST_LETTERS]) + ('..' if len(value) > _MOST_LETTERS else '')
-        text = literal(value)
-        return text if len(text) <= _MOST_LETTERS else f'{text[:_MOST_LETTERS]}..'
+        return self._origins.shown(number)
 
 
 def _is_key(kind: str, signs: bytes, at: int) -> bool:
-    return signs[at:at + 1] == KEY or kind == 'dict' and signs[at:at + 1] == _PART and at % 2 == 0
+    return signs[at:at + 1] == KEY or kind == 'dict' and signs[at:at + 1] == PART and at % 2 == 0
 
 
 def _paired(signs: bytes, numbers: Sequence[int], is_dict: bool) -> Iterator[Tuple[int, int]]:

@@ -3,23 +3,30 @@
 from __future__ import annotations
 
 import os
-from hashlib import blake2b
+import select
+import time
+from array import array
 from heapq import nlargest
-from typing import Dict, Iterable, List, Optional, Sequence, Tuple
+from itertools import compress
+from typing import Dict, Iterable, Iterator, Optional, Sequence, Tuple
 
 from ..addresses import opened_in
-from ..errors import ProgramError
+from ..collector import without_collector
+from ..errors import ProgramError, TimedOut
 from ..lines import Makers
-from ..opcodes import BY_CODE, TABLE
+from ..opcode_lines import table_of
+from ..opcodes import BY_CODE, BY_NAME, TABLE
 from ..program import check_timeout
-from ..sources import Source, is_fifo, rereadable
+from ..sources import LIMIT, Source, content_of, is_fifo, rereadable, size_of
 from ..tasks import Asked, modes
 from .heap import Heap
-from .opcodes import TEXTS, Opcodes
+from .memo import Memo, memo_of
+from .opcodes import DIFFER, Opcodes
+from .origins import Origins
 from .records import Again, MemoSize, PathSize, Sized, Sizes
-from .savings import NEWEST, OLDEST, Memo, memo_of, savings, size_before
+from .savings import NEWEST, OLDEST, savings
 
-__all__ = ['MOST', 'Measured', 'OVERHEAD', 'measured', 'size']
+__all__ = ['MOST', 'Measured', 'OVERHEAD', 'measured', 'size', 'sizes_of']
 
 _BLOCK = 1 << 20
 # So many rows has each part of the answer.
@@ -29,25 +36,23 @@ OVERHEAD: Dict[str, Tuple[str, ...]] = {
     'memo': tuple(opcode.name for opcode in TABLE if opcode.name.endswith(('PUT', 'GET', 'MEMOIZE'))), 'marks': ('MARK',),
     'fill': ('APPEND', 'APPENDS', 'SETITEM', 'SETITEMS', 'ADDITEMS', 'BUILD'), 'frames': ('FRAME',), 'protocol': ('PROTO', 'STOP'),
     'stack': ('POP', 'POP_MARK', 'DUP'), 'views': ('READONLY_BUFFER',)}
+_READONLY = BY_NAME['READONLY_BUFFER'].code
 _PURPOSES = {name: what for what, names in OVERHEAD.items() for name in names}
 
 
 class Measured:
     """A pickle that was measured: its opcodes with their sizes, its objects, and which opcode makes which object."""
 
-    def __init__(self, pickle: Source, opcodes: Opcodes, heap: Heap) -> None:
-        self._content = _Content(pickle)
+    def __init__(self, opcodes: Opcodes, heap: Heap) -> None:
         self.opcodes, self.heap = opcodes, heap
-        self.sizes = opcodes.sizes()
-        self.makers = Makers(bytes(opcodes.codes))
-        views = heap.readonly()
-        self._views = len(views)
+        self.sizes = opcodes.sizes
+        self.makers = Makers(opcodes.codes)
         # (A view has one byte, so it is the same which of several opcodes made it.)
-        self.makers.finish(lambda: self._views, lambda place, number: number in views)
-        self.own = self.makers.of_makers(self.sizes)
+        self.makers.finish(lambda: len(heap.views), lambda place, number: number in heap.views)
+        self.own = array('I', self.makers.of_makers(self.sizes))
         if len(self.own) != heap.count:
             raise ProgramError('the program gave answers that do not belong together')
-        heap.walk()
+        heap.walk(Origins(opcodes, self.makers))
         self.totals = heap.totals(self.own)
 
     def place(self, number: int) -> PathSize:
@@ -58,8 +63,7 @@ class Measured:
 
     def paths(self, most: int) -> Tuple[PathSize, ...]:
         """The largest objects with all that they hold, in the order of the tree."""
-        wanted = set(_largest(self.totals, self.heap.order, most))
-        return tuple(self.place(number) for number in self.heap.order if number in wanted)
+        return tuple(map(self.place, _largest(self.totals, self.heap.order, most)))
 
     def largest(self, most: int) -> Tuple[PathSize, ...]:
         """The largest objects by themselves."""
@@ -68,10 +72,11 @@ class Measured:
 
     def by_opcode(self) -> Tuple[Sized, ...]:
         """The opcodes by their names."""
-        sums = [0] * 256
-        for code, own in zip(self.opcodes.codes, self.sizes):
-            sums[code] += own
-        found = [Sized(info.name, self.opcodes.codes.count(code), sums[code]) for code, info in BY_CODE.items() if sums[code]]
+        codes, found = self.opcodes.codes, []
+        for code in self.opcodes.kinds:
+            count = codes.count(code)
+            size = sum(compress(self.sizes, codes.translate(table_of([code])))) if code in DIFFER else count * self.sizes[codes.index(code)]
+            found.append(Sized(BY_CODE[code].name, count, size))
         return _by_size(found)
 
     def overhead(self, opcodes: Iterable[Sized]) -> Tuple[Sized, ...]:
@@ -79,90 +84,70 @@ class Measured:
         found: Dict[str, Sized] = {}
         for each in opcodes:
             what = _PURPOSES.get(each.what)
-            less = self._views if what == 'views' else 0
+            less = len(self.heap.views) if what == 'views' else 0
             if what is not None and each.count > less:
                 known = found.get(what, Sized(what, 0, 0))
                 found[what] = Sized(what, known.count + each.count - less, known.size + each.size - less)
         return _by_size(found.values())
 
-    def _long_again(self) -> Dict[int, int]:
-        """The long texts that are written more than once, by the place of the first: how often. Those of one length are compared in the pickle."""
-        lengths: Dict[Tuple[str, int], List[int]] = {}
-        for place in self.opcodes.long:
-            info = BY_CODE[self.opcodes.codes[place]]
-            lengths.setdefault((TEXTS[info.name], self.sizes[place] - size_before(info)), []).append(place)
-        found: Dict[int, int] = {}
-        for (_, length), places in lengths.items():
-            firsts: Dict[bytes, int] = {}
-            for place in places if len(places) > 1 else ():
-                end = self.opcodes.offsets[place] + self.sizes[place]
-                first = firsts.setdefault(self._content.digest(end - length, end), place)
-                if first != place:
-                    found[first] = found.get(first, 1) + 1
-        return found
-
-    def memo(self, memo: Memo) -> MemoSize:
+    def memo(self, memo: Memo, opcodes: Iterable[Sized]) -> MemoSize:
         """What the opcodes of the memo have."""
-        unused = [place for place, is_taken in zip(memo.stored, memo.is_taken) if not is_taken]
-        whole = sum(self.sizes[place] for place in (*memo.stored, *memo.taken))
-        return MemoSize(len(memo.stored), len(memo.taken), whole, len(unused), sum(self.sizes[place] for place in unused))
+        whole = sum(each.size for each in opcodes if each.what in OVERHEAD['memo'])
+        unused = sum(map(self.sizes.__getitem__, memo.unused()))
+        return MemoSize(len(memo.stored), memo.taken, whole, memo.is_taken.count(0), unused)
 
     def again(self, most: int) -> Tuple[Again, ...]:
         """The texts that are written more than once."""
         sizes = self.sizes
-        found = {**self.opcodes.again, **self._long_again()}
-        wanted = nlargest(most, found.items(), key=lambda item: (item[1] - 1) * sizes[item[0]])
+        wanted = nlargest(most, self.opcodes.again().items(), key=lambda item: (item[1] - 1) * sizes[item[0]])
         return tuple(Again(self.heap.shown(self.makers.before(place)), self.opcodes.offsets[place], count, (count - 1) * sizes[place])
                      for place, count in wanted)
 
 
-class _Content:
-    """The bytes of a pickle, some at a time."""
-
-    def __init__(self, pickle: Source) -> None:
-        self._pickle = pickle
-
-    def digest(self, begin: int, end: int) -> bytes:
-        """A digest of some of them."""
-        digest = blake2b(digest_size=16)
-        if isinstance(self._pickle, (str, os.PathLike)):
-            with open(self._pickle, 'rb', buffering=0) as file:
-                file.seek(begin)
-                while begin < end:
-                    block = file.read(min(end - begin, _BLOCK))
-                    if not block:
-                        break
-                    digest.update(block)
-                    begin += len(block)
-        else:
-            digest.update(memoryview(self._pickle)[begin:end])  # type: ignore[arg-type]
-        return digest.digest()
-
-
-def _largest(column: Sequence[int], order: Iterable[int], most: int) -> List[int]:
-    """The numbers of the objects that have most; of those that have as much the first ones in an order."""
+def _largest(column: Sequence[int], order: Iterable[int], most: int) -> Iterator[int]:
+    """The numbers of the objects that have most, in an order; of those that have as much the first ones."""
     least = min(nlargest(most, column), default=0)
     found = [number for number in order if column[number] >= least]
-    more = [number for number in found if column[number] > least]
-    return more + [number for number in found if column[number] == least][:most - len(more)]
+    left = most - sum(column[number] > least for number in found)
+    for number in found:
+        is_least = column[number] == least
+        if left or not is_least:
+            yield number
+            left -= is_least
 
 
 def _by_size(found: Iterable[Sized]) -> Tuple[Sized, ...]:
     return tuple(sorted(found, key=lambda each: (-each.size, each.what)))
 
 
+def _from_fifo(path: str, timeout: float) -> bytes:
+    """What a FIFO gives. Raises TimedOut where its writer does not come, or does not end, in so many seconds."""
+    end, found = time.monotonic() + timeout, bytearray()
+    ready = select.poll()
+    with open(os.open(path, os.O_RDONLY | os.O_NONBLOCK), 'rb', buffering=0) as file:
+        ready.register(file, select.POLLIN)
+        while ready.poll(1000 * max(0.0, end - time.monotonic())):
+            block = file.read(_BLOCK)
+            if not block or len(found) > LIMIT:
+                return bytes(found)
+            found += block
+    raise TimedOut(f'no answer within {timeout} seconds')
+
+
+@without_collector()
 def measured(pickle: Source, many: bool = False, unframed: bool = False, timeout: Optional[float] = None, memory: Optional[int] = None) -> Measured:
     """A pickle, measured."""
     check_timeout(timeout)
     opened = opened_in(pickle)
     pickle = pickle if opened is None else opened.content
-    if timeout is None or not is_fifo(pickle):
-        pickle = rereadable(pickle)
+    pickle = rereadable(pickle) if timeout is None or not is_fifo(pickle) else _from_fifo(os.fsdecode(pickle), timeout)  # type: ignore[arg-type]
+    # (The program refuses what is too large.)
+    content = pickle if isinstance(pickle, bytes) else content_of(pickle) if size_of(pickle) <= LIMIT else b''
     words = modes(many, unframed)
-    with Asked(pickle, timeout, memory, is_opened=False) as asked:
-        opcodes = Opcodes(asked.blocks(['list', '--json', *words]), asked.size())
-        heap = Heap(asked.blocks(['objects', '--json', *words]), many)
-    return Measured(pickle, opcodes, heap)
+    with Asked(pickle, timeout, memory, is_opened=False) as asked, asked.begun(['objects', '--json', *words]) as objects:
+        opcodes = Opcodes(asked.blocks(['list', '--json', *words]), many, content)
+        heap = Heap(objects, many, _READONLY in opcodes.kinds)
+    return Measured(opcodes, heap)
 
 
 def size(pickle: Source, *, many: bool = False, unframed: bool = False, most: int = MOST, protocol: int = NEWEST, timeout: Optional[float] = None,
@@ -188,6 +173,7 @@ def size(pickle: Source, *, many: bool = False, unframed: bool = False, most: in
     return sizes_of(found, most, protocol)
 
 
+@without_collector()
 def sizes_of(found: Measured, most: int, protocol: int = NEWEST) -> Sizes:
     """The answer about what was measured."""
     opcodes, heap = found.opcodes, found.heap
@@ -195,5 +181,5 @@ def sizes_of(found: Measured, most: int, protocol: int = NEWEST) -> Sizes:
     by_opcode = found.by_opcode()
     elsewhere = sum(found.totals[root] for root in heap.roots if root not in heap.results)
     return Sizes(opcodes.read + opcodes.unread, opcodes.unread, len(opcodes), sum(found.own), heap.count, elsewhere, opcodes.protocol, by_opcode,
-                 found.overhead(by_opcode), found.paths(most), found.largest(most), found.memo(memo), found.again(most),
-                 tuple(savings(opcodes, heap, found.sizes, memo, protocol)), opcodes.end)
+                 found.overhead(by_opcode), found.paths(most), found.largest(most), found.memo(memo, by_opcode), found.again(most),
+                 tuple(savings(opcodes, heap, memo, protocol)), opcodes.end)

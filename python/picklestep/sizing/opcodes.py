@@ -1,223 +1,192 @@
-"""The opcodes of a pickle as sizes need them: `list --json` is read as it comes, and long arguments are left out."""
+"""The opcodes of a pickle as sizes need them: `list --json` says where each begins, and all else is in the pickle's bytes."""
 
 from __future__ import annotations
 
 from array import array
 from itertools import chain, compress, count, islice
 from operator import itemgetter, sub
-from typing import Any, Callable, Dict, Iterable, Iterator, List, Optional, Sequence, Tuple
+from typing import Any, Dict, Iterable, Iterator, List, Optional, Tuple
 
 from .. import long_lines
 from ..errors import ProgramError
-from ..listed import Fields, batch_of, content_of, end_of, fields_of, fields_of_tails, name_in, offsets_in
-from ..opcodes import TABLE
+from ..listed import Fields, end_of, fields_of, offsets_of
+from ..opcode_lines import table_of
+from ..opcodes import BY_CODE, BY_NAME, TABLE, OpcodeInfo, codes_of, of_rows
 from ..optimizing import SPELLINGS
 from ..records import End
 from ..values import Unreadable, read_form
 
-__all__ = ['GETS', 'Opcodes', 'PUTS', 'TEXTS', 'shortened', 'size_of_number']
+__all__ = ['DIFFER', 'GETS', 'Opcodes', 'PUTS', 'TEXTS', 'size_before', 'size_of_number']
 
 _END = b'{"kind":"end"'
-_NAME, _MARKS, _LONG = b'"opcode":"', b',"marks":', '"long":'
-# A line of more bytes is long: what is before its argument is kept, and its last bytes.
-_MOST_LINE, _LAST = 1 << 12, 64
+# Of a line of an opcode only so much is read. (The other lines have less.)
+_MOST_LINE = 1 << 12
+# A line of more bytes is not read for its number or its text.
+_MOST_VALUE = 4000
 
-PUTS = frozenset(opcode.code for opcode in TABLE if opcode.name == 'MEMOIZE' or opcode.name.endswith('PUT'))
-GETS = frozenset(opcode.code for opcode in TABLE if opcode.name.endswith('GET'))
+PUTS, GETS = (frozenset(BY_NAME[name].code for name in names) for names in (of_rows('put', 'memoize'), of_rows('get')))
 # The opcodes of texts and bytes, and what their objects are called: those of one kind may be equal.
-TEXTS: Dict[str, str] = {
-    **dict.fromkeys(('SHORT_BINUNICODE', 'BINUNICODE', 'BINUNICODE8'), 'text'), **dict.fromkeys(('SHORT_BINBYTES', 'BINBYTES', 'BINBYTES8'), 'bytes'),
-    'BYTEARRAY8': 'bytearray', **dict.fromkeys(('SHORT_BINSTRING', 'BINSTRING'), 'string'), 'UNICODE': 'text-line', 'STRING': 'string-line'}
-_CODES: Dict[str, int] = {opcode.name: opcode.code for opcode in TABLE}
+TEXTS: Dict[int, str] = {opcode.code: opcode.kind for opcode in TABLE if opcode.kind in ('text', 'bytes', 'bytearray', 'string', 'text-line', 'string-line')}
+# How many bytes stand before a text, by the form of its opcode.
+_BEFORE = {'bytes1': 2, 'bytes4': 5, 'bytes4_signed': 5, 'bytes8': 9}
+# Forms of arguments whose sizes differ.
+_LINES = 'line', 'lines', 'quoted', 'decimal'
+DIFFER = frozenset(opcode.code for opcode in TABLE if opcode.form in _BEFORE or opcode.form in _LINES)
+_NOT_ALIKE = 'the program gave answers that do not belong together'
+
+
+def size_before(info: OpcodeInfo) -> int:
+    """How many bytes stand before a text in an opcode: its code, and the length."""
+    return _BEFORE.get(info.form, 1)
+
+
+_BEFORE_TEXT = bytes(size_before(BY_CODE[code]) if code in BY_CODE else 0 for code in range(256))
 
 
 class _Line:
-    """A line as it comes. Of the argument of a long one how long it is is kept alone."""
+    """A line as it comes. Its beginning is kept alone."""
 
     def __init__(self) -> None:
-        self._begun = bytearray()
-        self._left_out = 0
-        self._last = b''
+        self._begun = b''
 
     def feed(self, part: bytes) -> None:
         """Goes on with the line."""
-        if not self._left_out:
-            self._begun += part
-            if len(self._begun) <= _MOST_LINE:
-                return
-            at = self._begun.index(b'"', self._begun.index(_NAME) + len(_NAME)) + 1
-            part = bytes(self._begun[at:])
-            del self._begun[at:]
-        self._left_out += len(part)
-        self._last = (self._last + part[-_LAST:])[-_LAST:]
+        if len(self._begun) < _MOST_LINE:
+            self._begun += part[:_MOST_LINE]
 
     def take(self) -> bytes:
         """The line, with its newline. Another one begins."""
-        line = bytes(self._begun)
-        if self._left_out:
-            line += b',"long":%d%b' % (self._left_out, self._last[self._last.rindex(_MARKS):])
-        self._begun.clear()
-        self._left_out, self._last = 0, b''
+        line, self._begun = self._begun, b''
         return line + b'\n'
 
 
-def shortened(blocks: Iterable[bytes]) -> Iterator[bytes]:
-    """The lines of a listing as they come. A long one says how long its argument was in place of that.
-
-    >>> line = b'{"kind":"opcode","offset":0,"opcode":"BINBYTES","argument":"%b","marks":0}\\n' % (b'x' * 10_000)
-    >>> b''.join(shortened([line[:50], line[50:]]))
-    b'{"kind":"opcode","offset":0,"opcode":"BINBYTES","long":10025,"marks":0}\\n'
-    """
-    return long_lines.shortened(blocks, _Line(), _MOST_LINE)
-
-
 class Opcodes:
-    """The opcodes that were read, by their places. One that was refused is none of them.
+    """The opcodes that were read, by their places: their `codes`, `offsets` and `sizes`. One that was refused is none of them. `proto` is what PROTO says
+    in the beginning."""
 
-    `keys` has the places of the opcodes that store an object in the memo or get one, and their keys. `spelled` has the places of numbers and of texts
-    in lines, and how many bytes they have in the shortest spelling of protocol 2. `again` says of short texts that were written more than once where
-    they were first, and how often they were; `long` has the places of the other ones.
-    """
-
-    def __init__(self, blocks: Iterable[bytes], size: int) -> None:
-        """Takes what the program lists of an input of so many bytes. Raises ProgramError where that is not whole."""
-        self.codes = bytearray()
-        self.offsets = array('L')
-        self.keys: Tuple['array[int]', 'array[int]'] = (array('L'), array('Q'))
-        self.spelled: Tuple['array[int]', 'array[int]'] = (array('L'), array('L'))
-        self.stops: List[int] = []
-        self.again: Dict[int, int] = {}
-        self.long: List[int] = []
-        self.proto: Optional[int] = None
-        self._texts: Dict[int, int] = {}
-        self._codes = _Known(_code_in)
+    def __init__(self, blocks: Iterable[bytes], many: bool, content: bytes) -> None:
+        """Takes what the program lists of these bytes: of one pickle, or of `many`. Raises ProgramError where the listing is not whole, or not of them."""
+        self.content = content
+        self._codes, self.offsets, self.sizes = bytearray(), array('I'), array('I')
         self._end: Fields = {}
-        for lines in shortened(blocks):
+        for lines in long_lines.shortened(blocks, _Line(), _MOST_LINE):
             at = lines.rfind(b'\n', 0, -1) + 1
             if lines.startswith(_END, at):
                 self._end = fields_of(lines[at:])
-            self._take(lines.decode('ascii'))
+            try:
+                self._take(offsets_of(lines, many))
+            except (IndexError, OverflowError):
+                raise ProgramError(_NOT_ALIKE) from None
         if not self._end:
             raise ProgramError('the program gave no whole answer')
-        self._texts.clear()
-        self._codes.clear()
-        self._finish(size)
+        self._finish(len(content))
 
-    def _take(self, lines: str) -> None:
-        batch = batch_of(lines)
-        first = len(self.codes)
-        codes = bytes(map(self._codes.__getitem__, map(_BEGIN, batch.tails)))
-        self.codes += codes
-        self.offsets.extend(offsets_in(batch.heads))
-        for chosen, read in _READERS:
-            selected = codes.translate(chosen)
-            if 1 in selected:
-                read(self, list(compress(count(first), selected)), list(compress(batch.tails, selected)))
+    def _take(self, offsets: List[int]) -> None:
+        """Takes opcodes. The size of the last one is not known yet."""
+        if offsets:
+            # (These are the fastest ways for many.)
+            self._codes += bytes(itemgetter(0, *offsets)(self.content)[1:])
+            self.sizes += array('I', [*map(sub, offsets if self.offsets else offsets[1:], chain(self.offsets[-1:], offsets))])
+            self.offsets += array('I', offsets)
 
     def _finish(self, size: int) -> None:
         """Settles where the last opcode ends."""
         how = self._end['how']
-        refused: Tuple[Optional[int], Optional[int]] = (self.offsets[-1], len(self.codes) - 1) if how == 'refused' else (None, None)
+        refused: Tuple[Optional[int], Optional[int]] = (self.offsets[-1], len(self.offsets) - 1) if how == 'refused' else (None, None)
         self.end: End = end_of(self._end, refused)
         self.protocol: Optional[int] = self._end.get('protocol')
-        if how == 'refused':
-            for column in (self.codes, self.offsets):
-                del column[-1:]
-            for places, column in (self.keys, self.spelled):
-                if len(self.codes) in places:
-                    at = places.index(len(self.codes))
-                    del places[at], column[at]
         # (What was not read begins where the reading ended.)
         self.read = size - int(self._end.get('kept', 0)) if how == 'stopped' else int(self.end.offset or 0)
         self.unread = size - self.read
+        if how == 'refused':
+            del self._codes[-1:], self.offsets[-1:]
+        elif self.offsets:
+            self.sizes.append(max(0, self.read - self.offsets[-1]))
+        self.codes = bytes(self._codes)
+        del self._codes
+        self.kinds = frozenset(self.codes)
+        if self.unread < 0 or sum(self.sizes) != self.read or not self.kinds <= BY_CODE.keys():
+            raise ProgramError(_NOT_ALIKE)
+        self.proto: Optional[int] = self.content[1] if self.codes.startswith(_PROTO) else None
+        self.stops = self.places(_STOPS)
 
     def __len__(self) -> int:
         return len(self.codes)
 
-    def sizes(self) -> List[int]:
-        """How many bytes each has."""
-        return list(map(sub, chain(islice(self.offsets, 1, None), (self.read,)), self.offsets))
+    def places(self, chosen: bytes) -> 'array[int]':
+        """The places of some opcodes, by a table of codes."""
+        selected = self.codes.translate(chosen)
+        first = selected.find(1)
+        return array('I', compress(count(first), islice(selected, first, None)) if first >= 0 else ())
 
-    # --- What arguments say: the places of some opcodes, and the second parts of their lines ---
+    def argument(self, place: int, most: Optional[int] = None) -> bytes:
+        """The argument of an opcode without what says its length, and without its newline; of a long one the first bytes."""
+        info, begin = BY_CODE[self.codes[place]], self.offsets[place]
+        end = begin + self.sizes[place] - (info.form in _LINES)
+        begin += size_before(info)
+        return self.content[begin:end if most is None else min(begin + most, end)]
 
-    def _proto(self, places: List[int], tails: List[str]) -> None:
-        if not places[0]:
-            self.proto = _whole(tails[0])
+    # --- What arguments say ---
 
-    def _stop(self, places: List[int], tails: List[str]) -> None:
-        self.stops += places
+    def keys(self, chosen: bytes) -> List[int]:
+        """The keys of the memo that some opcodes name, by a table of codes. (MEMOIZE names none.)"""
+        content, offsets, codes = self.content, self.offsets, self.codes
+        places = self.places(chosen)
+        if all(code in _SHORT_KEYS for code in self.kinds if chosen[code]):
+            return [content[offsets[place] + 1] for place in places]
+        return [int.from_bytes(self.argument(place), 'little') if codes[place] in _BINARY_KEYS else int(self.argument(place).lstrip(b'0') or 0)
+                for place in places]
 
-    def _key(self, places: List[int], tails: List[str]) -> None:
-        self.keys[0].extend(places)
-        self.keys[1].extend(map(_Known(_key_in).__getitem__, tails))
-
-    def _text(self, places: List[int], tails: List[str]) -> None:
-        first_of, again = self._texts.setdefault, self.again
-        for place, known in zip(places, map(_Known(_hash_of_text).__getitem__, tails)):
-            if known is None:
-                self.long.append(place)
-                continue
-            first = first_of(known, place)
+    def again(self) -> Dict[int, int]:
+        """Of the texts and bytes that are written more than once: where each is first, and how often it is written."""
+        content, offsets, sizes, codes = self.content, self.offsets, self.sizes, self.codes
+        firsts: Dict[str, Dict[int, int]] = {kind: {} for kind in TEXTS.values()}
+        first_of = {code: firsts[kind].setdefault for code, kind in TEXTS.items()}
+        found: Dict[int, int] = {}
+        for place in self.places(_IS_TEXT):
+            code, begin = codes[place], offsets[place]
+            # (A text of which nothing but its hash is kept costs little.)
+            first = first_of[code](hash(content[begin + _BEFORE_TEXT[code]:begin + sizes[place]]), place)
             if first != place:
-                again[first] = again.get(first, 1) + 1
-
-    def _number(self, places: List[int], tails: List[str]) -> None:
-        self._spell(places, map(_Known(_size_of_number_in).__getitem__, tails))
-
-    def _line(self, places: List[int], tails: List[str]) -> None:
-        """Numbers and texts in lines."""
-        sizes = list(map(_Known(_size_of_line).__getitem__, tails))
-        known = [size is not None for size in sizes]
-        self._spell(compress(places, known), compress(sizes, known))
-
-    def _spell(self, places: Iterable[int], sizes: Iterable[int]) -> None:
-        self.spelled[0].extend(places)
-        self.spelled[1].extend(sizes)
-
-
-class _Known(Dict[str, Any]):
-    """What is known of the second parts of lines: each is read once."""
-
-    def __init__(self, read: Callable[[str], Any]) -> None:
-        super().__init__()
-        self._read = read
-
-    def __missing__(self, tail: str) -> Any:
-        found = self[tail] = self._read(tail)
+                found[first] = found.get(first, 1) + 1
         return found
 
+    def shorter_numbers(self) -> Iterator[Tuple[int, int]]:
+        """The places of numbers of fixed size that have a shorter spelling, and how many bytes they have in the shortest."""
+        content = self.content
+        for place in self.places(_NUMBERS):
+            end = self.offsets[place] + self.sizes[place]
+            if not content[end - 1]:  # (otherwise it needs all its bytes)
+                size = size_of_number(int.from_bytes(content[self.offsets[place] + 1:end], 'little'))
+                if size < self.sizes[place]:
+                    yield place, size
 
-# The beginning of a second part, which has the whole name.
-_BEGIN = itemgetter(slice(max(map(len, _CODES)) + 1))
+    def values_of_lines(self) -> Iterator[Tuple[int, int]]:
+        """The places of numbers and texts in lines, and how many bytes they have in the shortest spelling of protocol 2."""
+        known: Dict[Tuple[int, bytes], Optional[int]] = {}
+        for place in self.places(_VALUES):
+            if self.sizes[place] <= _MOST_VALUE:
+                said = self.codes[place], self.argument(place)
+                if said not in known:
+                    if len(known) >= _MOST_VALUE:
+                        known.clear()
+                    known[said] = _size_of_line(*said)
+                size = known[said]
+                if size is not None:
+                    yield place, size
 
 
-def _code_in(tail: str) -> int:
-    """The code of the opcode."""
-    return _CODES[name_in(tail)]
+_PROTO, = codes_of(['PROTO'])
+_STOPS, _IS_TEXT, _NUMBERS = table_of([BY_NAME['STOP'].code]), table_of(TEXTS), table_of(BY_NAME[name].code for name in SPELLINGS[0][1:])
+_VALUES = table_of(BY_NAME[name].code for name in ('INT', 'LONG', 'FLOAT', 'UNICODE'))
+_SHORT_KEYS, _BINARY_KEYS = (frozenset(opcode.code for opcode in TABLE if opcode.code in PUTS | GETS and opcode.form in forms)
+                             for forms in (('uint1',), ('uint1', 'uint4')))
 
 
-def _key_in(tail: str) -> int:
-    """The key of the memo."""
-    return int(tail[tail.rindex(':') + 1:-1].strip('"')) if tail.startswith('MEMOIZE"') else _whole(tail)
-
-
-def _hash_of_text(tail: str) -> Optional[int]:
-    """What is the same for equal texts of one kind. None of a long one."""
-    name, _, argument = tail.partition('",')
-    return None if argument.startswith(_LONG) else hash((TEXTS[name], argument[:argument.rindex(',"marks"')]))
-
-
-def _size_of_number_in(tail: str) -> int:
-    return size_of_number(_whole(tail))
-
-
-def _size_of_line(tail: str) -> Optional[int]:
+def _size_of_line(code: int, line: bytes) -> Optional[int]:
     """How many bytes a number or a text in a line has in its shortest spelling. None where that is not known."""
-    fields = fields_of_tails([tail])[0]
-    if 'long' in fields:
-        return None
     try:
-        value = read_form(fields['opcode'], content_of(fields))
+        value: Any = read_form(BY_CODE[code].name, line)
     except Unreadable:
         return None
     if isinstance(value, bool):
@@ -239,20 +208,3 @@ def size_of_number(value: int) -> int:
         return 2 if 0 <= value < 1 << 8 else 3 if 0 <= value < 1 << 16 else 5
     size = (value if value >= 0 else ~value).bit_length() // 8 + 1
     return size + (2 if size < 1 << 8 else 5)
-
-
-def _whole(tail: str) -> int:
-    """The argument in the second part of a line, a whole number."""
-    return int(tail.split(',', 2)[1].partition(':')[2].strip('"'))
-
-
-def _table(names: Iterable[str]) -> bytes:
-    """A table that makes 1 of the codes of some opcodes, and 0 of the others."""
-    chosen = {_CODES[name] for name in names}
-    return bytes(code in chosen for code in range(256))
-
-
-_READERS: Sequence[Tuple[bytes, Callable[[Opcodes, List[int], List[str]], None]]] = (
-    (_table(TEXTS), Opcodes._text), (_table(opcode.name for opcode in TABLE if opcode.code in PUTS | GETS), Opcodes._key),
-    (_table(['STOP']), Opcodes._stop), (_table(['PROTO']), Opcodes._proto), (_table(SPELLINGS[0][1:]), Opcodes._number),
-    (_table(('INT', 'LONG', 'FLOAT', 'UNICODE')), Opcodes._line))

@@ -117,7 +117,7 @@ class _Drawing:
         """Those that are in no other: the objects, and beside them the overhead and what was not read."""
         opcodes = self._found.opcodes
         parts: List[Tuple[int, int, str]] = [(self._found.totals[root], root, '') for root in self._held.get(-1, ())]
-        parts += [(sum(opcodes.sizes()) - sum(self._found.own), -1, 'overhead'), (opcodes.unread, -1, 'not read')]
+        parts += [(opcodes.read - sum(self._found.own), -1, 'overhead'), (opcodes.unread, -1, 'not read')]
         parts = sorted((part for part in parts if part[0] > 0), key=lambda part: -part[0])
         drawn: List[_Rectangle] = []
         others: List[_Rectangle] = []
