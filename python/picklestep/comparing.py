@@ -17,7 +17,7 @@ from .heaps import Heap
 from .literals import literal
 from .records import Extension, Global, Ref
 from .sources import Source
-from .trees import Call, Reading, Values, objects_to_stop, read, values_of_both
+from .trees import Asking, Call, Reading, Values, check_stops, values_of_both
 from .values import Unread
 
 __all__ = ['Comparison', 'Difference', 'compare', 'has_same_bytes', 'shown_line', 'shown_pair', 'shown_value']
@@ -83,10 +83,13 @@ def compare(old: Source, new: Source, *, many: bool = False, unframed: bool = Fa
     ['a'][2]: added 6
     """
     if has_same_bytes(old, new):
-        objects_to_stop(old, many, unframed, timeout, memory)
+        check_stops(old, many, unframed, timeout, memory)
         return []
-    first = read(old, many, unframed, timeout, memory, Heap.of())
-    return list(Comparison(first, read(new, many, unframed, timeout, memory, first.heap)).of_results())
+    with Asking(old, many, unframed, timeout, memory) as first, Asking(new, many, unframed, timeout, memory) as second:
+        second.start()
+        one = first.read(Heap.of())
+        other = second.read(one.heap)
+    return list(Comparison(one, other).of_results())
 
 
 def has_same_bytes(old: Source, new: Source) -> bool:

@@ -8,7 +8,7 @@ import os
 import sys
 from collections import Counter
 from itertools import chain, repeat
-from typing import Any, Callable, Iterator, List, Optional, Tuple, TypeVar
+from typing import Any, Callable, Dict, Iterator, List, Optional, Sequence, Tuple, TypeVar
 
 from .addresses import given
 from .aligning import Steps, aligned, gaps
@@ -21,11 +21,12 @@ from .heaps import Heap
 from .listed import Fields, argument_of
 from .listing_records import Opcode
 from .printing import print_text
+from .reaches import alike_by
 from .records import Reach
 from .sources import Source, rereadable, size_of
 from .tasks import calls, frames, listing
 from .texts import renumbered
-from .trees import Reading, objects_to_stop, read
+from .trees import Asking, check_stops
 from .waiting import Waiting
 from .wording import shown
 
@@ -76,20 +77,25 @@ def _lines(options: argparse.Namespace, progress: Callable[[str], None]) -> List
     """A line for each difference."""
     old, new = (rereadable(given(name)[0]) for name in (options.old, options.new))
     if has_same_bytes(old, new):
-        _named(options.old, lambda: objects_to_stop(old, options.many, options.unframed))
+        _named(options.old, lambda: check_stops(old, options.many, options.unframed))
         return []
     progress(told(max(size_of(old), size_of(new))) or 'comparing')
-    first = _read(options.old, old, options, Heap.of())
-    comparison = Comparison(first, _read(options.new, new, options, first.heap))
-    lines = [*map(str, comparison.of_results()), *of_reaches(old, new, options.unframed, comparison, options.full)]
+    with Asking(old, options.many, options.unframed) as first, Asking(new, options.many, options.unframed) as second:
+        second.start()
+        one = _named(options.old, lambda: first.read(Heap.of()))
+        comparison = Comparison(one, _named(options.new, lambda: second.read(one.heap)))
+    firsts = [] if options.many else [_first_calls(source, options.unframed) for source in (old, new)]
+    # (where the STOP of the first pickle is the last byte there are no others)
+    known = [first if first.end.is_stopped and not first.kept else None for first in firsts] or [None, None]
+    lines = [*map(str, comparison.of_results()), *of_reaches(old, new, options.unframed, comparison, options.full, known)]
     lines += opcode_differences(old, new, many=options.many, unframed=options.unframed) if options.opcodes else []
-    lines += [] if options.many else _of_what_is_behind(old, new, options.unframed)
+    lines += [] if options.many else _of_what_is_behind(old, new, [first.kept for first in firsts])
     return lines or [_SPELLINGS] * options.opcodes
 
 
-def _read(name: str, pickle: Source, options: argparse.Namespace, like: Heap) -> Reading:
-    """What is compared of a pickle."""
-    return _named(name, lambda: read(pickle, options.many, options.unframed, like=like))
+def _first_calls(source: Source, unframed: bool) -> Calls:
+    """What the first pickle imports and calls."""
+    return calls(source, first=True, full=True, skip=frames(source) if unframed else ())
 
 
 def _named(name: str, ask: Callable[[], _T]) -> _T:
@@ -100,23 +106,34 @@ def _named(name: str, ask: Callable[[], _T]) -> _T:
         raise PicklestepError(f'{shown(name)}: {reason(error)}') from error
 
 
-def of_reaches(old: Source, new: Source, unframed: bool = False, comparison: Optional[Comparison] = None, full: bool = False) -> Iterator[str]:
+def of_reaches(old: Source, new: Source, unframed: bool = False, comparison: Optional[Comparison] = None, full: bool = False,
+               known: Sequence[Optional[Calls]] = (None, None)) -> Iterator[str]:
     """What only one of them imports and calls, also where nothing of it is in the result, what those differ in that both do, and in what their
-    readings end otherwise. Long lines are cut, unless they are wanted in full."""
-    answers = [calls(source, full=True, skip=frames(source, many=True) if unframed else ()) for source in (old, new)]
-    known = [list(answer) for answer in answers]
-    texts = [[_unnumbered(reach.text) for reach in chain(reaches, *answer.parts)] for reaches, answer in zip(known, answers)]
-    removed, added = list(_only_in(texts[0], texts[1])), list(_only_in(texts[1], texts[0]))
+    readings end otherwise. Long lines are cut, unless they are wanted in full. Answers of `calls` that are known are not asked for again."""
+    answers = [calls(source, full=True, skip=frames(source, many=True) if unframed else ()) if answer is None else answer
+               for source, answer in zip((old, new), known)]
+    once: Dict[str, str] = {}  # (most lines say what others say)
+    said = [[once.setdefault(each, each) for lines in (answer, *answer.parts) for each in map(alike_by, lines.fields())] for answer in answers]
+    removed, added = ([_unnumbered(_line(answers[at], place).text) for place in _only_in(said[at], said[1 - at])] for at in (0, 1))
     for sign, some, others in (('-', removed, added), ('+', added, removed)):
         yield from (f'{sign} {text if full else shown_line(text, beside)}' for text, beside in zip(some, chain(others, repeat(''))))
     if comparison is not None:
-        for at, to in paired(*(some[:len(reaches)] for some, reaches in zip(texts, known)))[0]:
-            yield from map(str, _of_both(known[0][at], known[1][to], comparison))
-    if texts[0] != texts[1] and sorted(texts[0]) == sorted(texts[1]):
+        for at, to in paired(*(some[:len(answer)] for some, answer in zip(said, answers)))[0]:
+            yield from map(str, _of_both(answers[0][at], answers[1][to], comparison))
+    if said[0] != said[1] and not (removed or added):
         yield 'imports and calls: in another order'
     ends = [_ends(answer) for answer in answers]
     if ends[0] != ends[1]:
         yield f'end: {"; ".join(ends[0])} -> {"; ".join(ends[1])}'
+
+
+def _line(answer: Calls, place: int) -> Reach:
+    """A line of the strict reading, or one of those of the parts, which stand behind it."""
+    for lines in (answer, *answer.parts):
+        if place < len(lines):
+            return lines[place]
+        place -= len(lines)
+    raise IndexError(place)
 
 
 def _of_both(old: Reach, new: Reach, comparison: Comparison) -> Iterator[Difference]:
@@ -127,13 +144,13 @@ def _of_both(old: Reach, new: Reach, comparison: Comparison) -> Iterator[Differe
         yield from comparison.of_objects(f'{old.what}{name} at {old.offset}', one, other)
 
 
-def _only_in(one: List[str], other: List[str]) -> Iterator[str]:
-    """The texts that one has more often than the other, in their order."""
+def _only_in(one: List[str], other: List[str]) -> Iterator[int]:
+    """The places of what one has more often than the other, in their order."""
     left = Counter(other)
-    for text in one:
-        left[text] -= 1
-        if left[text] < 0:
-            yield text
+    for place, each in enumerate(one):
+        left[each] -= 1
+        if left[each] < 0:
+            yield place
 
 
 @without_collector()
@@ -207,7 +224,7 @@ def _shown_opcode(opcode: Opcode) -> str:
 
 def _ends(answer: Calls) -> Tuple[str, ...]:
     """How the readings of a pickle end, without the places."""
-    return tuple(_unnumbered(reading.end.text.partition(' at ')[0]) for reading in (answer, *answer.parts))
+    return tuple(reading.end.words or reading.end.how for reading in (answer, *answer.parts))
 
 
 def _unnumbered(text: str) -> str:
@@ -220,9 +237,8 @@ def _unnumbered(text: str) -> str:
     return text[:-len(_MADE)] if text.endswith(_MADE) else text
 
 
-def _of_what_is_behind(old: Source, new: Source, unframed: bool) -> Iterator[str]:
-    """Whether other bytes are behind the first STOP."""
-    kept = [calls(source, first=True, skip=frames(source) if unframed else ()).kept for source in (old, new)]
+def _of_what_is_behind(old: Source, new: Source, kept: Sequence[int]) -> Iterator[str]:
+    """Whether other bytes are behind the first STOP, where so many are behind it."""
     if kept[0] != kept[1]:
         yield f'behind STOP: {kept[0]} -> {kept[1]} bytes'
     elif kept[0] and any(one != other for one, other in zip(_tail(old, kept[0]), _tail(new, kept[1]))):

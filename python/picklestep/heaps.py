@@ -2,14 +2,15 @@
 
 from __future__ import annotations
 
-import hashlib
 import operator
-from itertools import chain, count
-from typing import AbstractSet, Any, Collection, Dict, Iterable, Iterator, List, NamedTuple, Optional, Sequence, Set, Union
+from bisect import bisect_left
+from functools import partial
+from itertools import chain, count, repeat
+from typing import AbstractSet, Any, Collection, Dict, Iterable, Iterator, List, NamedTuple, Optional, Sequence, Union
 
 from . import made as lines
 from .answers import Objects
-from .held import fields_of_tails, flat, is_holder, tails_of
+from .held import by_beginning, fields_of_tails, flat, is_holder, put_into, tails_of, values_of
 from .listing_records import Object
 from .literals import literal
 from .values import PLAIN_KINDS, Argument, Unread, kind_value
@@ -50,6 +51,10 @@ class Heap(NamedTuple):
 _MOST_KNOWN, _MOST_OF_LINES = 100_000, 4 << 20
 # So many objects are read at once, and compared.
 _AT_ONCE = 1 << 10
+# Stands for a value that is not known yet.
+_NEW = object()
+# Makes a `Filled` of a pair. (To call the class takes three times as long, and a pickle may have a million.)
+_FILLED_BY = partial(tuple.__new__, Filled)
 
 
 def heap_of(answer: Objects, like: Optional[Heap] = None) -> Heap:
@@ -62,8 +67,9 @@ def heap_of(answer: Objects, like: Optional[Heap] = None) -> Heap:
     """
     heap = Heap.of()
     known: Dict[str, Any] = {}
+    places = [] if like is None else list(like.made)
     for some in _pieces(answer.json):
-        if like is None or not _take(heap, like, some):
+        if like is None or not _take(heap, like, places, some):
             _read(heap, known, tails_of(some))
         if len(known) > _MOST_KNOWN or len(some) > _MOST_OF_LINES:
             known.clear()
@@ -82,42 +88,57 @@ def _pieces(answer: bytes) -> Iterator[bytes]:
     yield answer[begin:]
 
 
-def _take(heap: Heap, like: Heap, some: bytes) -> bool:
-    """Takes the next objects of a heap that is like this one, where their lines are the same."""
+def _take(heap: Heap, like: Heap, places: Sequence[int], some: bytes) -> bool:
+    """Takes the next objects of a heap that is like this one, where their lines are the same. `places` are the numbers of those in it that are no plain
+    values."""
+    from hashlib import blake2b  # (`tree` compares nothing)
     at, begin = len(heap.sums), len(heap.plain)
-    heap.sums.append(hashlib.blake2b(some).digest())
+    heap.sums.append(blake2b(some).digest())
     if like.sums[at:at + 1] != heap.sums[at:]:
         return False
     heap.plain.extend(like.plain[begin:begin + _AT_ONCE])
-    heap.made.update((number, like.made[number]) for number in range(begin, len(heap.plain)) if number in like.made)
+    same = places[bisect_left(places, begin):bisect_left(places, len(heap.plain))]
+    heap.made.update(zip(same, map(like.made.__getitem__, same)))
     return True
 
 
 def _read(heap: Heap, known: Dict[str, Any], tails: List[str]) -> None:
     """Adds the objects of lines, by their second parts. The values of those that are plain are known then."""
-    new = list(set(tails).difference(known))
-    others: Dict[str, lines.Fields] = {}
-    for tail, fields in zip(new, fields_of_tails([flat(tail) if is_holder(tail) else tail for tail in new])):
-        if fields['is'] in PLAIN_KINDS and fields['is'] != 'bytearray' and 'changes' not in fields:
-            known[tail] = _plain_of(fields)
+    found = list(map(known.get, tails, repeat(_NEW)))
+    new: Dict[str, Any] = {}
+    made: Dict[str, Any] = {}
+    left: List[str] = []
+    for beginning, some in by_beginning({tail for tail, value in zip(tails, found) if value is _NEW}).items():
+        values, kind = values_of(beginning, some), beginning.partition('"')[0]
+        held = put_into(kind, some) if values is None else None
+        if values is not None:
+            new.update(zip(some, values))
+        elif held is not None:
+            made.update(zip(some, map(_FILLED_BY, zip(repeat(kind), held))))
         else:
-            others[tail] = fields
+            left += some
+    _read_each(new, made, left)
     first = len(heap.plain)
-    heap.plain.extend(map(known.get, tails))
-    if others:
-        heap.made.update((number, _made_of(number, others[tail])) for number, tail in enumerate(tails, first) if tail in others)
+    heap.plain.extend([new.get(tail) if value is _NEW else value for tail, value in zip(tails, found)] if new or made else found)
+    known.update(new)
+    if made:
+        numbered = [(number, each) for number, each in enumerate(map(made.get, tails), first) if each is not None]
+        heap.made.update([(number, each if type(each) is Filled else _made_of(number, each)) for number, each in numbered] if left else numbered)
+
+
+def _read_each(new: Dict[str, Any], made: Dict[str, Any], tails: List[str]) -> None:
+    """Reads second parts one by one: the values of plain objects, and the fields of all others."""
+    for tail, fields in zip(tails, fields_of_tails([flat(tail) if is_holder(tail) else tail for tail in tails])):
+        if fields['is'] in PLAIN_KINDS and fields['is'] != 'bytearray' and 'changes' not in fields:
+            new[tail] = plain_value(fields['is'], lines.given(fields))
+        else:
+            made[tail] = fields
 
 
 def plain_value(kind: str, text: Argument) -> Any:
     """The value of a plain object. Bytes that no loader makes a text of know what they were to be."""
     value = kind_value(kind, text)
     return Unread(value, kind) if isinstance(value, bytes) and kind != 'bytes' else value
-
-
-def _plain_of(fields: lines.Fields) -> Any:
-    """The same by the fields of its line. Most are whole numbers and texts, which JSON has as they are."""
-    found = fields.get('argument')
-    return found if found is not None and fields['is'] in ('int', 'text') else plain_value(fields['is'], lines.given(fields))
 
 
 def _made_of(number: int, fields: lines.Fields) -> Made:
@@ -141,26 +162,36 @@ def same_in(one: Heap, other: Heap, apart: Iterable[int]) -> AbstractSet[int]:
     >>> sorted(same_in(one, other, ()))
     [0, 1]
     """
-    others = set(chain(apart, other.made.keys() - one.made.keys(), range(len(other.plain), len(one.plain)), _other_values(one.plain, other.plain)))
-    others.update(number for number, made in one.made.items() if _is_other(made, other.made.get(number)))
-    holding = [(number, _held(made)) for number, made in one.made.items() if number not in others]
+    others = set(apart)
+    for numbers in _apart(one, other):
+        others.update(_other_in(numbers, one, other))
+    if not others:
+        return one.made.keys()
+    holding = [(number, made[1] if type(made) is Filled else _held(made)) for number, made in one.made.items() if number not in others]
     for _ in range(_MOST_TURNS):
-        left = [(number, held) for number, held in reversed(holding) if not _is_added(number, held, others)]
+        # (what holds one of others is one of them)
+        left = [holder for holder in reversed(holding) if others.isdisjoint(holder[1]) or others.add(holder[0])]  # type: ignore[func-returns-value]
         if len(left) == len(holding):
             return {number for number, _ in left}
         holding = left
     return frozenset()
 
 
-def _is_added(number: int, held: Collection[int], others: Set[int]) -> bool:
-    """Whether an object holds one of others. It is one of them then."""
-    if others.isdisjoint(held):
-        return False
-    others.add(number)
-    return True
+def _apart(one: Heap, other: Heap) -> Iterator[range]:
+    """The numbers of objects of one heap, some at a time, but for those whose lines were the same in both."""
+    for at, begin in enumerate(range(0, len(one.plain), _AT_ONCE)):
+        if not one.sums or one.sums[at:at + 1] != other.sums[at:at + 1]:
+            yield range(begin, min(begin + _AT_ONCE, len(one.plain)))
 
 
-def _is_other(one: Made, other: Optional[Made]) -> bool:
+def _other_in(numbers: range, one: Heap, other: Heap) -> Iterator[int]:
+    """Those among numbers under which the heaps do not have the same object, whatever that holds."""
+    yield from _other_values(numbers.start, one.plain[numbers.start:numbers.stop], other.plain[numbers.start:numbers.stop])
+    yield from range(max(numbers.start, len(other.plain)), numbers.stop)
+    yield from (number for number in numbers if _is_other(one.made.get(number), other.made.get(number)))
+
+
+def _is_other(one: Optional[Made], other: Optional[Made]) -> bool:
     return one is not other and one != other
 
 
@@ -172,15 +203,11 @@ def _held(made: Made) -> Collection[int]:
     return [*made.parts, *put]
 
 
-def _other_values(one: List[Any], other: List[Any]) -> Iterator[int]:
-    """The places of plain values that are not the same in both."""
-    for begin in range(0, min(len(one), len(other)), _AT_ONCE):
-        some, beside = one[begin:begin + _AT_ONCE], other[begin:begin + _AT_ONCE]
-        if all(map(operator.is_, some, beside)):
-            continue
-        kinds = list(map(type, some))
-        if kinds != list(map(type, beside)) or some != beside or Unread in kinds or 0.0 in some:
-            yield from (at for at, pair in enumerate(zip(some, beside), begin) if not _is_one_value(*pair))
+def _other_values(first: int, one: Sequence[Any], other: Sequence[Any]) -> Iterator[int]:
+    """The numbers of plain values that are not the same in both, where they begin with the first one."""
+    kinds = list(map(type, one))
+    if not all(map(operator.is_, one, other)) and (kinds != list(map(type, other)) or one != other or Unread in kinds or 0.0 in one):
+        yield from (number for number, pair in enumerate(zip(one, other), first) if not _is_one_value(*pair))
 
 
 def _is_one_value(one: Any, other: Any) -> bool:

@@ -8,7 +8,7 @@ from __future__ import annotations
 from functools import lru_cache
 from typing import TYPE_CHECKING, Any, Iterable, Iterator, List, Optional, Tuple, Type
 
-from .listed import Fields, argument_of, fields_in, fields_of, shown_argument, starts_in, whole_lines, words_of
+from .listed import Fields, argument_of, ended, fields_in, fields_of, shown_argument, starts_in, whole_lines, words_of
 from .records import Argument, End
 
 if TYPE_CHECKING:
@@ -74,8 +74,7 @@ def end_of(fields: Fields, refused_at: Optional[int]) -> End:
     how = fields['how']
     if how == 'stopped':
         return End(how)
-    offset = fields['offset'] if how == 'fault' else refused_at
-    return End(how, fields['code'], words_of(fields), offset, fields.get('item'), fields.get('of_frame', False))
+    return ended(how, fields, fields['offset'] if how == 'fault' else refused_at, fields.get('item'))
 
 
 # --- The same as `objects` prints it ---

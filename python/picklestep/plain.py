@@ -34,13 +34,14 @@ PLAIN: Dict[str, str] = {
 }
 
 
-def plainly(text: str) -> str:
-    """A code with its words, and what it means; also behind `refused, `, as a run says it.
+def plainly(text: str, *codes: str) -> str:
+    """A text with what its codes mean: the first of them that has a meaning here.
 
-    >>> plainly('C2 at the end, stopped'), plainly('M out of memory')
+    >>> plainly('C2 at the end, stopped', 'C2'), plainly('M out of memory', 'M')
     ('C2 at the end, stopped (You are at the end.)', 'M out of memory')
-    >>> plainly('C3 item 2: S1 no mark')
+    >>> plainly('C3 item 2: S1 no mark', 'C3', 'S1')
     'C3 item 2: S1 no mark (No mark is open that the opcode could take.)'
     """
-    meaning = next((PLAIN[word] for word in text.split() if word in PLAIN), None)
+    # (The shell has no more than the text of some refusals: then its words are looked at.)
+    meaning = next((PLAIN[code] for code in codes or text.split() if code in PLAIN), None)
     return f'{text} ({meaning})' if meaning else text

@@ -22,8 +22,9 @@ class End:
     `how` is 'stopped' (STOP was read), 'refused' (the machine refused an opcode), 'fault' (the bytes cannot be read on), 'unsure'
     (loaders go on at different places: only `calls`) or 'part' (only `source` with `first`: no more was wanted). `code` is the code of the refusal or
     fault ('S2', 'F1', 'U1'), and `text` the program's words for it. `offset` is where the refused opcode or the fault is in the bytes, and `item` the
-    place of the refused opcode. `of_frame` is set where reading ended at a frame: with `unframed` it goes on there. (Of a part under a heading, and in
-    `picklestep.scan`, its place alone may be known, and `of_frame` is not in the JSON of `scan`.)
+    place of the refused opcode. `of_frame` is set where reading ended at a frame: with `unframed` it goes on there. `words` is what `text` says without
+    the offset and the number of an object. (Of a part under a heading, and in `picklestep.scan`, its place alone may be known, and `of_frame` and `words`
+    are not in the JSON of `scan`.)
 
     >>> import picklestep
     >>> picklestep.listing(b'N').end
@@ -36,6 +37,7 @@ class End:
     offset: Optional[int] = None
     item: Optional[int] = None
     of_frame: bool = field(default=False, repr=False, compare=False)
+    words: str = field(default='', repr=False, compare=False)
 
     @property
     def is_stopped(self) -> bool:
@@ -49,7 +51,7 @@ class End:
 
     def __reduce__(self) -> Tuple[Any, ...]:
         # (What a dataclass with slots does for this asks for its fields each time; `scan` hands over one for each pickle.)
-        return End, (self.how, self.code, self.text, self.offset, self.item, self.of_frame)
+        return End, (self.how, self.code, self.text, self.offset, self.item, self.of_frame, self.words)
 
 
 @dataclass(frozen=True, **SLOTS)

@@ -2,6 +2,7 @@
 
 from __future__ import annotations
 
+import contextlib
 import sys
 from collections import Counter
 from dataclasses import dataclass, field
@@ -13,16 +14,16 @@ from .addresses import opened_in
 from .answers import Objects
 from .changes import changed
 from .collector import without_collector
-from .errors import NoResult
+from .errors import NoResult, OutOfMemory, PicklestepError
 from .heaps import FILLED, Filled, Heap, heap_of, plain_value, same_in
 from .listing_records import Object
 from .program import check_timeout
 from .records import Extension, Global, Name, Ref
-from .sources import Source, is_fifo, rereadable
-from .tasks import calls, frames, objects
+from .sources import Source, is_fifo, is_read_once, rereadable
+from .tasks import Asked, calls, frames, modes, objects_of
 from .values import PLAIN_KINDS, Argument
 
-__all__ = ['Call', 'Reading', 'Values', 'objects_to_stop', 'read', 'tree', 'values', 'values_of_both']
+__all__ = ['Asking', 'Call', 'Reading', 'Values', 'check_stops', 'tree', 'values', 'values_of_both']
 
 _SLOTS: Dict[str, Any] = {'slots': True} if sys.version_info >= (3, 10) else {}
 
@@ -58,29 +59,33 @@ class Values:
         taken from other values, which they are like."""
         self._ask_names = names
         self._names: Optional[Dict[int, Name]] = None
-        self._values = heap.plain[:]
+        values = self._values = heap.plain[:]
         # Of tuples and frozen sets; of all else a depth is 0, and a size 1.
         self._depths: Dict[int, int] = {}
         self._sizes: Dict[int, int] = {}
         self._members: Dict[int, List[int]] = {}  # of sets, by their identity
         if like is not None:
             self._share(like, shared)
-        own = {number: made for number, made in heap.made.items() if number not in shared}
-        for number, made in own.items():
-            if isinstance(made, Object) and made.kind in ('tuple', 'frozenset'):
+        own = [(number, made) for number, made in heap.made.items() if number not in shared]
+        for number, made in own:
+            if isinstance(made, Filled):
+                values[number] = FILLED[made.kind]()
+                continue
+            if made.kind in ('tuple', 'frozenset'):
                 self._depths[number] = 1 + max([self._depths.get(part, 0) for part in made.parts], default=0)
                 self._sizes[number] = min(_MOST_SIZE, sum([self._sizes.get(part, 1) for part in made.parts])) + 1
-            self._values[number] = FILLED[made.kind]() if isinstance(made, Filled) else self._made(made)
-        for number, made in own.items():
+            values[number] = self._made(made)
+        for number, made in own:
             if isinstance(made, Filled):
-                self._hold(self._values[number], made.kind, made.held)
+                self._hold(values[number], made.kind, made.held)
             else:
-                self._fill(self._values[number], made)
+                self._fill(values[number], made)
 
     def _share(self, like: Values, shared: AbstractSet[int]) -> None:
         """Takes objects from other values."""
+        values, others = self._values, like._values
         for number in shared:
-            self._values[number] = like.at(number)
+            values[number] = others[number]
         self._depths.update((number, depth) for number, depth in like._depths.items() if number in shared)
         self._sizes.update((number, size) for number, size in like._sizes.items() if number in shared)
         self._members.update(like._members)
@@ -190,7 +195,7 @@ class Values:
         if kind == 'list':
             value += map(self._values.__getitem__, held)
         elif kind == 'dict':
-            value.update(zip(self._keys(held[::2]), map(self.at, held[1::2])))
+            value.update(zip(self._keys(held[::2]), map(self._values.__getitem__, held[1::2])))
         else:
             value.update(self._keys(held))
             self._members[id(value)] = list(held)
@@ -221,9 +226,18 @@ def tree(pickle: Source, *, many: bool = False, unframed: bool = False, timeout:
     return values(pickle, many, unframed, timeout, memory)[1]
 
 
-def objects_to_stop(pickle: Source, many: bool, unframed: bool, timeout: Optional[float] = None, memory: Optional[int] = None) -> Objects:
+def check_stops(pickle: Source, many: bool, unframed: bool, timeout: Optional[float] = None, memory: Optional[int] = None) -> None:
+    """Raises NoResult where reading a pickle ends before its STOP. (`calls` says that in fewer lines, where it does end with STOP.)"""
+    with contextlib.suppress(OutOfMemory):
+        if not unframed and calls(pickle, first=not many, skip=(), timeout=timeout, memory=memory).end.is_stopped:
+            return
+    with Asked(pickle, timeout, memory) as asked:
+        _objects_to_stop(asked, many, unframed)
+
+
+def _objects_to_stop(asked: Asked, many: bool, unframed: bool) -> Objects:
     """The objects that a pickle makes. Raises NoResult where reading ended before its STOP."""
-    answer = objects(pickle, many=many, unframed=unframed, timeout=timeout, memory=memory)
+    answer = objects_of(asked, many, unframed)
     if not answer.end.is_stopped or not answer.results:
         raise NoResult(answer.end.text, answer.end.of_frame)
     return answer
@@ -244,26 +258,55 @@ class Reading(NamedTuple):
         return results if self.many else results[0]
 
 
-@without_collector()
-def read(pickle: Source, many: bool, unframed: bool, timeout: Optional[float] = None, memory: Optional[int] = None, like: Optional[Heap] = None) -> Reading:
-    """Reads a pickle, which is compared with one that is like it, if there is one. Raises NoResult where reading ended before its STOP."""
-    check_timeout(timeout)
-    opened = opened_in(pickle)
-    pickle = pickle if opened is None else opened.content
-    if timeout is None or not is_fifo(pickle):  # (with a timeout it is the program that waits for the writer of a FIFO)
-        pickle = rereadable(pickle)
-    answer = objects_to_stop(pickle, many, unframed, timeout, memory)
+class Asking:
+    """A pickle that is asked for its objects. Of several the program works on one while another one is read."""
 
-    def names() -> Dict[int, Name]:
-        reaches = calls(pickle, first=not many, skip=frames(pickle, many) if unframed else (), timeout=timeout, memory=memory)
+    def __init__(self, pickle: Source, many: bool, unframed: bool, timeout: Optional[float] = None, memory: Optional[int] = None) -> None:
+        """Raises ValueError where there is no such timeout."""
+        check_timeout(timeout)
+        self._pickle = pickle
+        self._many, self._unframed, self._timeout, self._memory = many, unframed, timeout, memory
+        self._asked: Optional[Asked] = None
+
+    def start(self) -> None:
+        """Lets the program work on it. (What keeps it from that is said where it is read, and what is read once waits until then.)"""
+        with contextlib.suppress(OSError, PicklestepError):
+            if not is_read_once(self._pickle):
+                self._opened().start(['objects', '--json', *modes(self._many, self._unframed)])
+
+    def _opened(self) -> Asked:
+        if self._asked is None:
+            opened = opened_in(self._pickle)
+            pickle = self._pickle if opened is None else opened.content
+            if self._timeout is None or not is_fifo(pickle):  # (with a timeout it is the program that waits for the writer of a FIFO)
+                pickle = rereadable(pickle)
+            self._asked, self._pickle = Asked(pickle, self._timeout, self._memory), pickle
+        return self._asked
+
+    @without_collector()
+    def read(self, like: Optional[Heap] = None) -> Reading:
+        """What is read of it, where there is a heap that is like its own with that. Raises NoResult where reading ended before its STOP."""
+        answer = _objects_to_stop(self._opened(), self._many, self._unframed)
+        return Reading(heap_of(answer, like), answer.results, self._many, self._names)
+
+    def _names(self) -> Dict[int, Name]:
+        skip = frames(self._pickle, self._many) if self._unframed else ()
+        reaches = calls(self._pickle, first=not self._many, skip=skip, timeout=self._timeout, memory=self._memory)
         return {reach.number: reach.name for reach in reaches if reach.said and reach.name and reach.number is not None}
-    return Reading(heap_of(answer, like), answer.results, many, names)
+
+    def __enter__(self) -> Asking:
+        return self
+
+    def __exit__(self, *error: object) -> None:
+        if self._asked is not None:
+            self._asked.__exit__(*error)
 
 
 @without_collector()
 def values(pickle: Source, many: bool, unframed: bool, timeout: Optional[float], memory: Optional[int]) -> Tuple[Values, Any]:
     """The values of all objects, and what `tree` answers."""
-    reading = read(pickle, many, unframed, timeout, memory)
+    with Asking(pickle, many, unframed, timeout, memory) as asking:
+        reading = asking.read()
     made = Values(reading.heap, reading.names)
     return made, reading.result(made)
 

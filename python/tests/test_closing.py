@@ -14,7 +14,6 @@ import picklestep
 from picklestep import End
 from picklestep.answers import Calls, Listing, Objects, Reached
 from picklestep.tasks import Asked, modes
-from picklestep.texts import begins_with_offset
 from json_texts import listed, made
 from pickles import ROOT, real_pickles
 
@@ -31,7 +30,7 @@ _READINGS = 'a loader|a loader that buffers frames|a loader that keeps its buffe
 
 # What bytes may begin like, by the program's own table: at which offset, with which bytes, and the name.
 _CONTAINERS = [(int(offset), signs.encode('ascii').decode('unicode_escape').encode('latin-1'), name) for offset, signs, name in re.findall(
-    r'^    \(([0-9]+), b"(.*)", "an? (.*)"\),$', (ROOT / 'crates/pickle_calls/src/begins.rt').read_text('utf-8'), re.MULTILINE)]
+    r'^    \(([0-9]+), b"(.*)", "(.*)"\),$', (ROOT / 'crates/pickle_calls/src/begins.rt').read_text('utf-8'), re.MULTILINE)]
 _NAMES = '|'.join(re.escape(name) for _, _, name in _CONTAINERS)
 
 # The forms, each with a letter. Small ones are lines of opcodes, objects and events, large ones all others.
@@ -47,7 +46,7 @@ _FORMS: Dict[str, Dict[str, str]] = {
              'L': f'left: (?P<objects>{_NUMBER}) objects, (?P<marks>{_NUMBER}) marks'},
     'objects': {**_OBJECT, **_FAULT_LINE, **_REFUSED_ITEM, 'T': f'result #(?P<result>{_NUMBER})'},
     'calls': {**_EVENT, **_FAULT_LINE, **_KEPT, **_REFUSED_ITEM, 'T': f'(?P<imports>{_NUMBER}) imports, (?P<calls>{_NUMBER}) calls',
-              'B': f'begins like an? (?P<container>{_NAMES}): picklestep scan looks into it',
+              'B': f'begins like (?P<container>{_NAMES}): picklestep scan looks into it',
               'U': f'unsure: (?P<unsure>(?:U1 frame goes on behind STOP|U2 rest of a frame is lost) at (?P<offset>{_NUMBER}))',
               'M': f'unsure: (?P<mixed>U3 frames may be mixed at (?P<offset>{_NUMBER}))',
               'A': '(?P<taking>a loader that mixes frames may take):',
@@ -156,9 +155,6 @@ class ClosingLines(unittest.TestCase):
             return ''
         forms = forms_of(what, text)
         self.assertRegex(''.join(form.letter for form in forms), f'^{_ORDERS[what]}$')
-        for form in forms:
-            if form.letter not in 'oD':
-                self.assertFalse(begins_with_offset(form.line))
         if isinstance(answer, Calls):
             self.check_calls(answer, forms)
         else:

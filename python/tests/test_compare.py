@@ -17,7 +17,7 @@ import tempfile
 import time
 import unittest
 from decimal import Decimal
-from typing import Any, List, Optional
+from typing import Any, Callable, Dict, List, Optional
 
 import picklestep
 from harmless import Maker, Plain, canonical
@@ -89,6 +89,22 @@ class Tree(unittest.TestCase):
                 self.assertEqual(canonical(picklestep.tree(data)), canonical(pickle.loads(data)), seed)
                 tried += 1
         self.assertGreater(tried, 150)
+
+    def test_many_objects(self) -> None:
+        """Lines are read many at a time, those of one kind together: what is in one place is what loading gives there."""
+        chance = random.Random(84)
+        texts = ('', 'a', 'caf\xe9', '\ud800', '\U0001f600', 'it"s', '\\', ']}', '"}', ',"changes":[', '{"kind":"append","value":4}', 'x' * 70, '\n')
+        makers: List[Callable[[], Any]] = [
+            lambda: chance.choice(texts), lambda: chance.randrange(9), lambda: chance.randrange(-2 ** 70, 2 ** 70), lambda: chance.choice((0.0, -0.0, float('nan'), float('inf'))),
+            chance.random, lambda: str(chance.random()), lambda: None, lambda: True, list, dict, tuple, lambda: [1, 'a'], lambda: [chance.random()], lambda: {'a': [2.5], 'b': 1},
+            lambda: {str(chance.random()): chance.randrange(300)}, lambda: (1, [2], 'c')]
+        of_protocols: Dict[int, List[Callable[[], Any]]] = {3: [lambda: b'\xff'], 4: [set, lambda: {'a', 'b'}, lambda: frozenset((1, 2))], 5: [lambda: bytearray(b'x')]}
+        for protocol in range(6):
+            makers += of_protocols.get(protocol, [])
+            for size in (10, 1023, 1024, 1025, 4000):
+                made = [chance.choice(makers)() for _ in range(size)]
+                made += made[:5]
+                self.assertEqual(canonical(picklestep.tree(pickle.dumps(made, protocol))), canonical(made), (size, protocol))
 
     def test_changes(self) -> None:
         """Whatever is done to plain data, the result is what loading gives; where loading fails there may be none."""
@@ -235,6 +251,19 @@ class Compare(unittest.TestCase):
                 found = picklestep.compare(pickle.dumps(old, 4), pickle.dumps(new, 4))
                 self.assertGreaterEqual(len(found), least)
                 self.assertLess(time.process_time() - begun, 30)
+
+    def test_one_change_of_many_objects(self) -> None:
+        """What is the same in both pickles is not read twice: whatever is changed, wherever it is, is found, and nothing else."""
+        chance, count = random.Random(85), 4000
+        for turn in range(10):
+            old = [chance.choice((at, str(at), [at], {'a': at, 'b': [at, [at]]}, (at, [at]), 1.5)) for at in range(count)]
+            at, new = chance.randrange(count), list(old)
+            new[at] = chance.choice((-1, 'other', [-1], {'a': -1}, None, -0.0))
+            protocol = turn % 5 + 1
+            found = picklestep.compare(pickle.dumps(old, protocol), pickle.dumps(new, protocol))
+            self.assertTrue(found, (turn, old[at], new[at]))
+            self.assertEqual({each.path.split(']')[0] for each in found}, {f'[{at}'}, (turn, old[at], new[at]))
+            self.assertEqual(picklestep.compare(pickle.dumps(new, protocol), pickle.dumps(new, 5 - protocol)), [])
 
     def test_there_is_a_difference_where_lists_differ(self) -> None:
         for seed in range(400):
@@ -517,6 +546,28 @@ class Diff(unittest.TestCase):
             self.assertEqual(self.diff(old, new, '--opcodes')[-1:], [f'opcode at 0: {told}'])
         self.assertEqual(self.diff(b'cos\ngetcwd\n0N.', b'N.', '--opcodes')[1:], ["- opcode at 0: GLOBAL 'os' 'getcwd'", '- opcode at 11: POP'])
         self.assertEqual(self.diff(b'N.N.', b'N.N.', '--opcodes', '--many'), [])
+
+    def test_which_of_two_large_ones_has_no_result(self) -> None:
+        """The program works on the second one while the first is read: it is the first that is named, where neither has one."""
+        whole, behind = pickle.dumps(list(range(300, 40_000)), 2), pickle.dumps(list(range(300, 40_001)), 2)
+        with tempfile.TemporaryDirectory() as folder:
+            for name, data in (('whole', whole), ('other', behind), ('cut', whole[:-1]), ('short', whole[:-1000]), ('behind', behind + b'N.')):
+                with open(os.path.join(folder, name), 'wb') as file:
+                    file.write(data)
+            for old, new, said in (('cut', 'whole', 'cut'), ('whole', 'cut', 'cut'), ('cut', 'short', 'cut'), ('short', 'cut', 'short'), ('cut', 'gone', ''), ('gone', 'cut', '')):
+                with contextlib.redirect_stderr(io.StringIO()) as errors:
+                    self.assertEqual(main([os.path.join(folder, name) for name in (old, new)]), 2)
+                self.assertIn(f'{folder}/{said}: F' if said else 'gone', errors.getvalue(), (old, new))
+                if said:
+                    with self.assertRaisesRegex(picklestep.NoResult, '^F[13] '):
+                        picklestep.compare(*(os.path.join(folder, name) for name in (old, new)))
+            for new, said in (('other', []), ('behind', ['behind STOP: 0 -> 2 bytes'])):
+                with contextlib.redirect_stdout(io.StringIO()) as out:
+                    self.assertEqual(main([os.path.join(folder, name) for name in ('whole', new)]), 1)
+                self.assertEqual(out.getvalue().splitlines(), ['[39700]: added 40000', *said])
+            with contextlib.redirect_stdout(io.StringIO()) as out:
+                self.assertEqual(main([os.path.join(folder, 'behind')] * 2), 0)
+            self.assertEqual(out.getvalue(), '')
 
     def test_long_lines_are_cut(self) -> None:
         """A line of a megabyte is not printed, and what differs is."""

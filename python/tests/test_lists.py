@@ -14,6 +14,7 @@ import stat
 import struct
 import subprocess
 import sys
+import threading
 import unittest
 import unittest.mock
 from pathlib import Path
@@ -22,7 +23,7 @@ from typing import Any, Iterator, Tuple
 import picklestep
 from picklestep import entrance
 from picklestep.scan import Judge, look_at_bytes, written
-from picklestep.scan.allow import read_names
+from picklestep.scan.allow import names_of, read_names
 from picklestep.scan.entries import refused_line
 from picklestep.scan.names import Names, NoList, read_comment, read_line
 from scan_support import HARMLESS, HOSTILE, ScanCase, environment, looks_in
@@ -182,6 +183,43 @@ class Includes(ScanCase):
         self.assertEqual([line.partition(': ')[2] for line in self.scan('a.pkl', '--brief', '--allow', 'ours').stdout.splitlines()[:3]], [
             'import numpy.ndarray once, first at 2: not allowed: is in set numpy',
             'import collections.OrderedDict once, first at 20: not allowed: is in sets plain, torch', 'import ours.Model once, first at 46: not allowed'])
+
+    def test_names_are_kept_as_long_as_files_are_the_same(self) -> None:
+        self.file('lists/a.txt', b'include b.txt\nnumpy.dtype\n')
+        self.file('lists/b.txt', b'numpy.ndarray\n')
+        words = [str(self.folder / 'lists' / 'a.txt')]
+        first = names_of(words, ['os.path'])
+        self.assertIs(names_of(words, ['os.path']), first)
+        self.assertIsNot(names_of(words, []), first)
+        self.assertIs(names_of(['numpy'], []), names_of(['numpy'], []))
+        for file, content, has in (('b.txt', b'numpy.float64\n', 'numpy.float64'), ('a.txt', b'include c.txt\n', None), ('c.txt', b'numpy.int8\n', 'numpy.int8'),
+                                   ('a.txt', b'include b.txt\nnumpy.dtype\n', 'numpy.dtype')):
+            self.file(f'lists/{file}', content)
+            if has is None:
+                with self.assertRaisesRegex(NoList, 'cannot include c.txt'):
+                    names_of(words, ['os.path'])
+                continue
+            found = names_of(words, ['os.path'])
+            self.assertEqual((found.note(has), found.note('numpy.ndarray')), ('', None), file)
+        (self.folder / 'other').mkdir()
+        self.file('other/a.txt', b'pandas.DataFrame\n')
+        before = os.getcwd()
+        try:  # (a path is that of another file in another folder, as it is behind a link)
+            for folder, has in (('lists', 'numpy.dtype'), ('other', 'pandas.DataFrame')):
+                os.chdir(self.folder / folder)
+                self.assertEqual(names_of(['a.txt'], []).note(has), '', folder)
+        finally:
+            os.chdir(before)
+
+    @unittest.skipUnless(hasattr(os, 'mkfifo'), 'there are no FIFOs')
+    def test_what_is_read_once_is_read_once(self) -> None:
+        path = self.folder / 'list'
+        os.mkfifo(path)
+        for line in ('numpy.dtype', 'numpy.ndarray', 'numpy.ndarray'):
+            writer = threading.Thread(target=path.write_bytes, args=(f'{line}\n'.encode(),))
+            writer.start()
+            self.assertEqual(list(names_of([str(path)], []).names), [line])
+            writer.join()
 
     def test_a_list_without_a_name_allows_none(self) -> None:
         for content in (b'', b'# Nothing yet.\n'):
