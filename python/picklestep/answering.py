@@ -73,7 +73,7 @@ def _run(given: _Given) -> int:
     except OSError as error:
         return _complain(f'cannot start {command[0]}: {error.strerror}')
     _pass_signals_on(process)
-    watch = _pass_on(process) if is_watched else _pass_on_named(process, given.names) if given.names else Watch()
+    watch = _pass_on(process, _watch(given.words)) if is_watched else _pass_on_named(process, given.names) if given.names else Watch()
     if process.stderr is not None:  # (it comes once nothing is told of the time any more)
         with process.stderr as said:
             print(said.read().decode('utf-8', 'replace'), end='', file=sys.stderr)
@@ -167,7 +167,7 @@ def _gated(words: List[str], held: contextlib.ExitStack) -> _Given:
     places = [at for at, each in enumerate(_with_options(words)) if at and _is_file(*each)][1:]
     said: List[str] = []
     names: List[Tuple[str, str]] = []
-    is_json = '--json' in (words[:words.index('--')] if '--' in words else words)
+    is_json = _is_json(words)
     for at in places:
         name = words[at]
         if split(name) is None if len(places) > 1 else is_gated_whole(name) or not is_taken_apart(name) and not has_more(name):
@@ -257,11 +257,18 @@ def _end_by(number: int) -> None:
     os.kill(os.getpid(), number)
 
 
-def _pass_on(process: 'subprocess.Popen[bytes]') -> Optional[Watch]:
+def _watch(words: List[str]) -> Watch:
+    """What reads the lines of `calls`. (To ask for JSON too where they are for people would be to read the file twice.)"""
+    if not _is_json(words):
+        return Watch()
+    from .reaches import FieldsWatch
+    return FieldsWatch()
+
+
+def _pass_on(process: 'subprocess.Popen[bytes]', watch: Watch) -> Optional[Watch]:
     """Writes what the program writes, as it comes, and reads it. None where it cannot be written: then the program, whose reader leaves,
     cannot write either, and says so. Until the first lines come somebody at a terminal is told how long it takes."""
     assert process.stdout is not None
-    watch = Watch()
     parts: List[bytes] = []
     with process.stdout as answer, Waiting() as waiting:
         while block := os.read(answer.fileno(), _BLOCK):
@@ -272,7 +279,7 @@ def _pass_on(process: 'subprocess.Popen[bytes]') -> Optional[Watch]:
                 return None
             lines, newline, rest = block.rpartition(b'\n')
             if newline:
-                watch.feed(b''.join([*parts, lines, newline]).decode('ascii', 'replace'))
+                watch.feed(b''.join([*parts, lines, newline]))
                 parts = []
             parts.append(rest)
     return watch
@@ -334,6 +341,11 @@ def _with_options(words: List[str]) -> Iterator[Tuple[str, str, bool]]:
 
 def _is_file(word: str, before: str, is_option_over: bool) -> bool:
     return is_option_over or before not in _WITH_VALUES and not word.startswith('-')
+
+
+def _is_json(words: List[str]) -> bool:
+    """Whether lines of JSON are asked for."""
+    return '--json' in (words[:words.index('--')] if '--' in words else words)
 
 
 def _place_of_file(words: List[str]) -> Optional[int]:

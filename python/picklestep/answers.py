@@ -9,7 +9,6 @@ from itertools import chain, islice
 from typing import TYPE_CHECKING, Callable, ClassVar, Dict, Iterator, List, Optional, Sequence, Tuple, TypeVar, Union, overload
 
 from . import held, listed, made, reaches
-from .hints import Watch
 from .records import End, Reach
 
 if TYPE_CHECKING:
@@ -326,9 +325,11 @@ class Reached(Answer[Reach]):
         lines = list(islice(self._printed(), _SHOWN_LINES + 1))
         return lines[:_SHOWN_LINES], 0 if len(lines) <= _SHOWN_LINES else self.json.count(b'\n') - 1 - _SHOWN_LINES
 
+    def _blocks(self, start: int, end: int) -> Iterator[bytes]:
+        return (self.json[at:min(at + _BLOCK, end)] for at in range(start, end, _BLOCK))
+
     def _fields(self, start: int, end: int) -> Iterator[reaches.Fields]:
-        blocks = (self.json[at:min(at + _BLOCK, end)] for at in range(start, end, _BLOCK))
-        return chain.from_iterable(map(reaches.fields_in, listed.whole_lines(blocks)))
+        return chain.from_iterable(map(reaches.fields_in, listed.whole_lines(self._blocks(start, end))))
 
     def fields(self) -> Iterator[reaches.Fields]:
         """The fields of the lines that come from opcodes.
@@ -417,7 +418,7 @@ class Part(Reached):
     def __init__(self, json: bytes, start: int, end: int) -> None:
         begin = json.index(b'\n', start) + 1
         super().__init__(json, begin, end)
-        self.heading = reaches.text_of(reaches.fields_of(json[start:begin - 1]))[:-1]
+        self.heading = reaches.HEADINGS[reaches.fields_of(json[start:begin - 1])['frames']]
 
 
 def _taken(fields: reaches.Fields) -> str:
@@ -495,15 +496,16 @@ class Calls(Reached):
 
         >>> import picklestep
         >>> picklestep.calls(b'PK\\x03\\x04').container
-        'zip archive'
+        'a zip archive'
         """
-        fields = self._closing.get('begins')
-        return None if fields is None else str(fields['like']).partition(' ')[2]
+        container: Optional[str] = self._closing.get('begins', {}).get('like')
+        return container
 
     @cached_property
-    def _watch(self) -> Watch:
-        watch = Watch()
-        watch.feed(self.text)
+    def _watch(self) -> reaches.FieldsWatch:
+        watch = reaches.FieldsWatch()
+        for lines in listed.whole_lines(self._blocks(0, len(self.json))):
+            watch.feed(lines)
         return watch
 
     @property

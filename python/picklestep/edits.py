@@ -6,7 +6,7 @@ from ast import literal_eval
 from typing import TYPE_CHECKING, Dict, NamedTuple, Optional, Sequence, Union
 
 from .arguments import ArgumentValue, encoded
-from .opcodes import BY_NAME, of_kinds, of_rows
+from .opcodes import BY_NAME, of_kinds, of_rows, spellings_of
 from .patterns import pattern
 
 if TYPE_CHECKING:
@@ -18,9 +18,9 @@ __all__ = ['Edit', 'EditError', 'of_object', 'of_value', 'of_words', 'unquoted']
 
 # Opcodes that can hold a value of a type, the shortest first.
 _HOLDERS: Dict[type, Sequence[str]] = {
-    bool: ('NEWTRUE', 'NEWFALSE', 'INT'), type(None): ('NONE',), float: ('BINFLOAT', 'FLOAT'), bytearray: ('BYTEARRAY8',),
-    int: ('BININT1', 'BININT2', 'BININT', 'LONG1', 'LONG4', 'INT', 'LONG'), bytes: ('SHORT_BINBYTES', 'BINBYTES', 'BINBYTES8'),
-    str: ('SHORT_BINUNICODE', 'BINUNICODE', 'BINUNICODE8', 'UNICODE')}
+    bool: (*of_kinds('true', 'false'), 'INT'), type(None): of_kinds('none'), float: of_kinds('float') + of_kinds('float-line'),
+    bytearray: of_kinds('bytearray'), int: (*spellings_of('BININT'), *spellings_of('LONG1'), 'INT', *of_kinds('long-line')),
+    bytes: spellings_of('BINBYTES'), str: spellings_of('BINUNICODE') + of_kinds('text-line')}
 _PLAIN = frozenset(of_rows('push', 'buffer')).difference(of_kinds('global', 'persistent'))
 _MADE = pattern(r'(bytearray|float)\((.*)\)|-?(?:inf|nan)')
 # Texts of Python 2, and what is put in their place where a sign is beyond ASCII: Python 3 would not load its bytes, or another text of them.

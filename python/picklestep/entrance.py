@@ -11,7 +11,7 @@ import io
 import os
 import sys
 
-__all__ = ['explains', 'gathers', 'main', 'run', 'run_scan', 'saves']
+__all__ = ['explains', 'gathers', 'main', 'run', 'saves']
 
 _HERE = os.path.dirname(os.path.realpath(__file__))
 # Each word of the program has a page here, by which it is known.
@@ -28,7 +28,7 @@ def main(words: 'list[str]') -> int:
     if sys.version_info < (3, 8):
         if words and _is_of_program(words[0]):
             return _hand_over(words)
-        return _complain('python3 is older than 3.8: only list, objects, calls, form, gate, reach, members, assemble, same and debug work with it')
+        return _complain('python3 is older than 3.8: only list, objects, calls, form, gate, reach, members, assemble, same, opcodes and debug work with it')
     if not words or words[0] in _ASKS_HELP:
         return _print_page('picklestep', to_output=bool(words))
     first, rest = words[0], words[1:]
@@ -110,6 +110,8 @@ def _is_told_more(words: 'list[str]') -> bool:
     address or a container (help/start.sh asks the same)."""
     if words[0] in ('calls', 'members') or saves(words) or '--' in words:  # (behind that a file may have a name like an option)
         return True
+    if words[0] == 'opcodes':  # (it has no file)
+        return False
     if explains(words) or gathers(words):
         return True
     from .opens import has_more, holds_others
@@ -169,6 +171,7 @@ def _includes(path: str) -> bool:
 
 
 def _hand_over(words: 'list[str]') -> int:
+    _wait_for_look(words)
     from .place import NOT_FOR_NODE, find_program, program_words
     try:
         program = find_program()
@@ -179,6 +182,22 @@ def _hand_over(words: 'list[str]') -> int:
         return _complain(f'cannot start {program}: {error.strerror}')
     except Exception as error:  # (to name ProgramError takes the time of its module)
         return _complain(str(error))
+
+
+def _wait_for_look(words: 'list[str]') -> None:
+    """Waits until it is known that no source of a clone is newer than its program: ./picklestep looks at them while this starts. Where one is newer, or
+    where that is not known, ./picklestep begins anew, and looks first."""
+    looking = os.environ.pop('PICKLESTEP_LOOKING', '')
+    if not looking:
+        return
+    try:
+        is_known = os.waitpid(int(looking), 0)[1] == 0
+    except (OSError, ValueError):
+        is_known = False
+    if not is_known:
+        os.environ.pop('PICKLESTEP_PROGRAM', None)
+        os.environ['PICKLESTEP_LOOK_FIRST'] = 'yes'
+        _become([os.path.join(os.path.dirname(os.path.dirname(_HERE)), 'picklestep'), *words])
 
 
 def _become(command: 'list[str]') -> int:
@@ -226,7 +245,9 @@ def _do_apart(words: 'list[str]') -> int:
     from importlib import import_module
     own = _OWN.get(words[0])
     try:
-        status: int = import_module(f'picklestep.{own}').main(words[1:]) if own else import_module('picklestep.answering').main(words)
+        module = import_module(f'picklestep.{own or "answering"}')
+        _wait_for_look(words)
+        status: int = module.main(words[1:] if own else words)
     except KeyboardInterrupt:
         _complain('interrupted')
         return 130
@@ -305,12 +326,6 @@ def run() -> None:
     """The entry point of pip's `picklestep`."""
     _open_streams()
     sys.exit(_finish(sys.argv[1:]))
-
-
-def run_scan() -> None:
-    """The entry point of pip's `picklestep-scan`, which does the same as `picklestep scan`."""
-    _open_streams()
-    sys.exit(_finish(['scan', *sys.argv[1:]]))
 
 
 if __name__ == '__main__':

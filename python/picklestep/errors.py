@@ -34,21 +34,22 @@ class PicklestepError(Exception):
 
 class Refused(PicklestepError):
     """The program refused a line of a session. The session is as it was before the line. `refusal` says why the machine refuses an opcode, where the line
-    was refused for that.
+    was refused for that. `inner` is the code of the opcode, the edit or the argument for which the line was refused, or ''.
 
     >>> import picklestep
     >>> with picklestep.Session(b'0.') as session:
     ...     try:
     ...         session.step()
     ...     except picklestep.Refused as error:
-    ...         error.code, error.text, error.refusal
-    ('C3', 'C3 item 0: S2 stack underflow', 'S2 stack underflow')
+    ...         error.code, error.text, error.refusal, error.inner
+    ('C3', 'C3 item 0: S2 stack underflow', 'S2 stack underflow', 'S2')
     """
 
-    def __init__(self, text: str, refusal: str = '') -> None:
+    def __init__(self, text: str, code: str = '', inner: str = '', refusal: str = '') -> None:
         super().__init__(text)
         self.text = text
-        self.code = text.partition(' ')[0]
+        self.code = code
+        self.inner = inner
         self.refusal = refusal
 
 

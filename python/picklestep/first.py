@@ -3,10 +3,11 @@
 from __future__ import annotations
 
 import contextlib
-from itertools import islice
 from typing import Callable, Iterator, List, Optional, Tuple
 
-from .listed import FRAME_SIZE, OPCODE, argument_of, fields_of, starts_in, whole_lines
+from .lines import CODE_BY_NAME
+from .listed import FRAME_SIZE
+from .opcode_lines import Ask, OpcodeLines, shortened
 from .program import Process
 from .sources import Input, Source, size_of
 from .tasks import modes
@@ -15,8 +16,7 @@ __all__ = ['First', 'first_of']
 
 # Of a pickle with more opcodes so many are opened first, without the frame that does not end in them.
 MOST_FIRST = 2_000_000
-_FRAME = b',"opcode":"FRAME",'
-
+_FRAME = CODE_BY_NAME['FRAME']
 
 class First:
     """The first bytes of a pickle, which are whole opcodes and whole frames. `given` is a copy of all of it, which nobody else can change."""
@@ -40,49 +40,44 @@ class First:
         self.given.close()
 
 
-def first_of(source: Source, many: bool, unframed: bool, progress: Callable[[str], None]) -> Optional[First]:
-    """The first part of a pickle that has more than MOST_FIRST opcodes. None of another, and where one frame holds most of these opcodes: a frame that
-    is cut cannot be read. The source can be read again."""
+def first_of(source: Source, many: bool, unframed: bool, progress: Callable[[str], None], ask: Ask) -> Tuple[Optional[First], Optional[OpcodeLines]]:
+    """The first part of a pickle that has more than MOST_FIRST opcodes, and the opcodes that were read. No part of another pickle, and where one frame holds
+    most of these opcodes: a frame that is cut cannot be read. The source can be read again."""
     if size_of(source) <= MOST_FIRST:
-        return None
+        return None, None
     given = Input(source, own=True)
     try:
-        length = _first_length(given, modes(many, unframed), progress)
+        lines, length = _read_first(given, modes(many, unframed), progress, OpcodeLines(b'', ask))
         if length:
-            return First(given, length)
+            return First(given, length), lines
     except BaseException:
         given.close()
         raise
     given.close()
-    return None
+    return None, lines if lines.is_read else None  # (else a frame holds most of what was read)
 
 
-def _first_length(given: Input, words: List[str], progress: Callable[[str], None]) -> int:
-    """How many bytes the first part has; 0 where there is none. (The program is ended once it has listed enough.)"""
-    seen, frame = 0, (0, 0, 0)
+def _read_first(given: Input, words: List[str], progress: Callable[[str], None], lines: OpcodeLines) -> Tuple[OpcodeLines, int]:
+    """The opcodes of the first part, and how many bytes it has; 0 where there is none. (The program is ended once it has listed enough.)"""
     with contextlib.closing(Process(['list', '--json', *words, given.path], given.files)) as process:
-        for lines in whole_lines(process.blocks()):
-            count = lines.count(OPCODE)
-            is_last = seen + count > MOST_FIRST
-            end = next(islice(starts_in(lines), MOST_FIRST - seen, None)) if is_last else len(lines)
-            frame = _last_frame(lines[:end], seen) or frame
-            if is_last:
-                offset = int(fields_of(lines[end:lines.index(b'\n', end)])['offset'])
-                is_inside = offset < frame[2] and '--unframed' not in words
-                place, offset = frame[:2] if is_inside else (MOST_FIRST, offset)
-                return offset if place > MOST_FIRST // 2 else 0
-            seen += count
-            progress(f'list: {seen:,} lines')
-    return 0
+        for some in shortened(process.blocks()):
+            lines.take(some)
+            if len(lines) > MOST_FIRST:
+                place = MOST_FIRST if '--unframed' in words else _behind_frames(lines, given)
+                length = lines.offset(place) if place > MOST_FIRST // 2 else 0
+                if length:
+                    lines.cut(place)
+                return lines, length
+            progress(f'list: {len(lines):,} lines')
+    lines.finish()
+    return lines, 0
 
 
-def _last_frame(lines: bytes, seen: int) -> Optional[Tuple[int, int, int]]:
-    """The last FRAME in lines, with so many opcodes before them: its place, its offset, and where its frame ends."""
-    at = lines.rfind(_FRAME)
-    if at < 0:
-        return None
-    start = lines.rfind(b'\n', 0, at) + 1
-    fields = fields_of(lines[start:lines.index(b'\n', at)])
-    offset, length = int(fields['offset']), argument_of(fields)
-    assert isinstance(length, int)
-    return seen + lines.count(OPCODE, 0, start), offset, offset + FRAME_SIZE + length
+def _behind_frames(lines: OpcodeLines, given: Input) -> int:
+    """How many of the first MOST_FIRST opcodes are in no frame that goes on behind them."""
+    frame = next(lines.with_code(_FRAME, MOST_FIRST - 1, -1), None)
+    if frame is None:
+        return MOST_FIRST
+    head = next(given.blocks(lines.offset(frame)))[:FRAME_SIZE]
+    end = lines.offset(frame) + FRAME_SIZE + int.from_bytes(head[1:], 'little')
+    return frame if end > lines.offset(MOST_FIRST) else MOST_FIRST

@@ -154,8 +154,8 @@ def is_in_process() -> bool:
 
 
 def members(content: Any, memory: Optional[int] = None) -> Optional[bytes]:
-    """What the program says of the members of an archive: of bytes, or of an array of ctypes where the library is in this process. None where the
-    program has to be asked. (It takes a time that grows as the headers of the members do.)
+    """What the program says with `--json` of the members of an archive: of bytes, or of an array of ctypes where the library is in this process. None
+    where the program has to be asked. (It takes a time that grows as the headers of the members do.)
 
     >>> members(b'PK\\3\\4' + b'x' * 40, memory=0) is None
     True
@@ -164,7 +164,7 @@ def members(content: Any, memory: Optional[int] = None) -> Optional[bytes]:
 
 
 def same(one: bytes, other: bytes, many: bool = False, memory: Optional[int] = None) -> Optional[bytes]:
-    """What the program says of whether two pickles, or several in each, make the same objects. None where the program has to be asked.
+    """What the program says with `--json` of whether two pickles, or several in each, make the same objects. None where the program has to be asked.
 
     >>> same(b'N' * 100_000, b'N.') is None
     True

@@ -7,6 +7,7 @@ from __future__ import annotations
 
 import json
 import struct
+from itertools import islice
 from operator import itemgetter
 from typing import TYPE_CHECKING, Any, Callable, Collection, Dict, Generator, Iterable, Iterator, List, NamedTuple, Optional, Sequence, Tuple, TypeVar
 
@@ -20,9 +21,9 @@ if TYPE_CHECKING:
     from .listing_records import Opcode
 
 __all__ = ['Batch', 'FRAME_SIZE', 'Fields', 'Line', 'Listed', 'OPCODE', 'argument_of', 'batch_of', 'check_whole', 'closing_of',
-           'content_of', 'each_of', 'end_of', 'fields_in', 'fields_of', 'fields_of_tails', 'frames_in', 'is_whole', 'key_of',
-           'last_opcode', 'left_of', 'line_at', 'line_of', 'name_in', 'names_of', 'offset_in', 'offsets_in', 'opcode_of', 'opcodes_of',
-           'printed', 'shown_argument', 'shown_code', 'starts_in', 'whole_lines', 'words_of']
+           'content_of', 'each_of', 'end_of', 'ended', 'escaped', 'fields_in', 'fields_of', 'fields_of_tails', 'frames_in', 'is_whole', 'key_of',
+           'last_opcode', 'left_of', 'line_at', 'line_of', 'name_in', 'names_of', 'offset_in', 'offsets_in', 'offsets_of', 'opcode_of',
+           'opcodes_of', 'printed', 'shown_argument', 'shown_code', 'starts_in', 'text_of', 'whole_lines', 'words_of']
 
 Fields = Dict[str, Any]
 Read = TypeVar('Read')
@@ -146,6 +147,7 @@ class Batch(NamedTuple):
 
 
 _HEAD, _TAIL = '{"kind":"opcode","offset":', ',"opcode":"'
+_HEAD_BYTES, _COMMA = _HEAD.encode('ascii'), ord(',')
 _BEHIND_HEAD = itemgetter(slice(len(_HEAD), None))
 # (To replace a text by another one of its length takes half the time.)
 _BREAK = '\n'.rjust(len(_TAIL))
@@ -184,6 +186,36 @@ def offsets_in(heads: Sequence[str]) -> List[int]:
         return list(map(int, map(_BEHIND_HEAD, heads)))
     except ValueError:  # (a large number is in quotes)
         return list(map(offset_in, heads))
+
+
+def offsets_of(lines: bytes, many: bool) -> List[int]:
+    """The offsets of the opcodes among lines, of which nothing else is read. Only of `many` pickles are other lines between them.
+
+    >>> offsets_of(b'{"kind":"opcode","offset":9,"opcode":"NONE"}\\n{"kind":"opcode","offset":10,"opcode":"STOP"}\\n{"kind":"end"}\\n', False)
+    [9, 10]
+    """
+    found: List[int] = []
+    width, rows = len(_HEAD), lines.split(b'\n')
+    if many:
+        rows = [row for row in rows if row.startswith(_HEAD_BYTES)]
+    while rows and not rows[-1].startswith(_HEAD_BYTES):
+        rows.pop()
+    begin = 0
+    while begin < len(rows):  # (offsets only grow: those of as many digits stand in one column, and follow one another)
+        column = rows[begin].index(b',', width)
+        end = len(rows) if rows[-1][column] == _COMMA else _end_of_column(rows, begin, column)
+        found += [int(row[width:column]) for row in islice(rows, begin, end)]
+        begin = end
+    return found
+
+
+def _end_of_column(rows: List[bytes], low: int, column: int) -> int:
+    """From which row on no comma is in a column."""
+    high = len(rows)
+    while low < high:
+        middle = (low + high) // 2
+        low, high = (middle + 1, high) if rows[middle][column] == _COMMA else (low, middle)
+    return low
 
 
 def name_in(tail: str) -> str:
@@ -315,7 +347,13 @@ def end_of(fields: Fields, refused: Tuple[Optional[int], Optional[int]]) -> End:
     if how == 'stopped':
         return End(how)
     offset, place = (int(fields['offset']), None) if how == 'fault' else refused
-    return End(how, fields['code'], words_of(fields), offset, place, fields.get('of_frame', False))
+    return ended(how, fields, offset, place)
+
+
+def ended(how: str, fields: Fields, offset: Optional[int], item: Optional[int] = None) -> End:
+    """How reading ended otherwise than by a STOP, by the fields of what ended it."""
+    words = words_of({name: '' if name == 'object' else value for name, value in fields.items() if name != 'offset'})
+    return End(how, fields['code'], words_of(fields), offset, item, fields.get('of_frame', False), words)
 
 
 def words_of(fields: Fields) -> str:
@@ -356,7 +394,15 @@ def line_of(fields: Fields) -> str:
     >>> line_of({'offset': 11, 'opcode': 'TUPLE', 'marks': 1, 'mark': 2})
     '   11: t        TUPLE      (MARK at 2)'
     """
-    line = line_at(fields)
+    return text_of(line_at(fields))
+
+
+def text_of(line: Line) -> str:
+    """The text of a line.
+
+    >>> text_of(Line(11, 'N', 'NONE', '', 1))
+    '   11: N        NONE'
+    """
     begins = f'{line.offset:>5}: {line.code:4} {"    " * line.marks}'
     return f'{begins}{line.name:10} {line.argument}' if line.argument else begins + line.name
 
@@ -379,7 +425,16 @@ def shown_argument(fields: Fields) -> str:
 
 
 def _quoted(fields: Fields, name: str = 'argument') -> str:
-    return f"'{content_of(fields, name).decode('latin-1').translate(_ESCAPES)}'"
+    return f"'{escaped(content_of(fields, name))}'"
+
+
+def escaped(text: bytes) -> str:
+    r"""A text as it stands in quotes.
+
+    >>> print(escaped(b"it's \xff"))
+    it\'s \xff
+    """
+    return text.decode('latin-1').translate(_ESCAPES)
 
 
 def printed(fields: Fields) -> List[str]:

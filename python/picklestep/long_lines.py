@@ -22,16 +22,16 @@ class LongLine(Protocol):
 def shortened(blocks: Iterable[bytes], line: LongLine, most: int) -> Iterator[bytes]:
     """The lines of blocks, some at a time. `line` makes those short that have more bytes than these."""
     for block in blocks:
-        first, newline, others = block.partition(b'\n')
-        line.feed(first)
-        if not newline:
+        begin, end = block.find(b'\n') + 1, block.rfind(b'\n') + 1
+        if not begin:
+            line.feed(block)
             continue
+        line.feed(block[:begin - 1])
         yield line.take()
-        end = others.rfind(b'\n') + 1
-        lines = others[:end]
-        if lines:
+        if begin < end:
+            lines = block[begin:end]
             yield b''.join(_each_short(lines, line, most)) if _has_long(lines, most) else lines
-        line.feed(others[end:])
+        line.feed(block[end:])
 
 
 def _each_short(lines: bytes, line: LongLine, most: int) -> Iterator[bytes]:

@@ -1,4 +1,4 @@
-"""`picklestep mend FILE [OUT]`: what can be kept of a pickle that is cut off or damaged. Nothing of it is run."""
+"""`picklestep mend FILE --save OUT`: what can be kept of a pickle that is cut off or damaged. Nothing of it is run."""
 
 from __future__ import annotations
 
@@ -24,30 +24,26 @@ def main(arguments: List[str]) -> int:
         prog='picklestep mend', description='Makes a whole pickle from one that was cut off or damaged. Nothing of it is run.',
         epilog='Status: 0 if the pickle was whole; 1 if it was mended, or if bytes after it were not read; 2 if there is no result.')
     parser.add_argument('file', metavar='FILE', help='the pickle, or its address; it stays as it is')
-    parser.add_argument('out', metavar='OUT', nargs='?', help='write the result to this file, which cannot be FILE')
     parser.add_argument('--many', action='store_true', help='FILE has several pickles that follow one another')
-    parser.add_argument('--save', metavar='OUT', help='the same as OUT')
+    parser.add_argument('--save', metavar='OUT', help='write the result to this file, which cannot be FILE')
     parser.add_argument('--choose', metavar='N', type=int, help='take try N, and not the one that keeps most')
     options = parser.parse_args(arguments)
-    if options.out is not None and options.save is not None:
-        parser.error('OUT is given twice')
-    out = options.save if options.out is None else options.out
-    if is_same_file(options.file, out):
+    if is_same_file(options.file, options.save):
         print('picklestep: OUT is FILE, which stays as it is', file=sys.stderr)
         return 2
     try:
         pickle, found = given(options.file)
-        if out is not None:
-            check_out(out, '' if found is None else found.path)
+        if options.save is not None:
+            check_out(options.save, '' if found is None else found.path)
         with Waiting():
             answer = mended(pickle, options.many, options.choose)
         print_text(''.join(f'{line}\n' for line in _tried(answer)))
         kept = (f'{answer.kept} bytes after STOP are not read (try --many)',) if answer.kept else ()
         print_text(''.join(f'{step}\n' for step in (*answer.steps, *kept)) or 'it is whole\n')
-        if out is not None:
+        if options.save is not None:
             with Session(answer.content, many=options.many) as session:
-                session.save(out)
-            print_text(saved(out, found))
+                session.save(options.save)
+            print_text(saved(options.save, found))
     except (OSError, PicklestepError) as error:
         print(f'picklestep: {reason(error)}', file=sys.stderr)
         return 2

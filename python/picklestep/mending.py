@@ -177,18 +177,18 @@ def _mended_by_cutting(content: bytes, many: bool, *before: str) -> Mended:
 def _ending(content: bytes, many: bool) -> Tuple[End, int]:
     """How reading ends, and at which offset. (A listing would say so, too, but has four blanks for each open mark in each line.)"""
     with Session(content, many=many) as session:
-        text = _run(session)
+        text, code = _run(session)
         where = session.where()
-        refused = End('refused', text.partition(' ')[0], text, where.offset, where.place)
-        return refused if text else where.end, where.offset
+        return End('refused', code, text, where.offset, where.place) if text else where.end, where.offset
 
 
-def _run(session: Session) -> str:
-    """Runs to the end, or to an opcode that is refused: then it answers why."""
+def _run(session: Session) -> Tuple[str, str]:
+    """Runs to the end, or to an opcode that is refused: then it answers why, and the code of that."""
     try:
-        return session.run().refusal
+        ran = session.run()
+        return ran.refusal, ran.code
     except Refused as error:  # (it is the first one)
-        return error.refusal
+        return error.refusal, error.inner
 
 
 def _with_protocol(content: bytes, many: bool, offset: int, text: str, steps: List[str]) -> bytes:

@@ -12,17 +12,17 @@ from .document import Document, Reaches
 from .errors import ProgramError, Refused
 from .first import First, first_of
 from .lines import silent
+from .opcode_lines import OpcodeLines
 from .pickle_lines import read_calls_of
 from .saving import written_whole
 from .session import Session
 from .sources import LIMIT, Input, Source, rereadable
-from .texts import behind_word
 from .took import seconds_of_programs
 
 __all__ = ['Part', 'reaches_of_whole', 'said_of_time']
 
-# So many bytes each opcode takes besides its line and that of its object, and so many times all of this is there: in this process, in the session's
-# program, and in those that answer.
+# So many bytes each opcode takes besides what is kept of it and the line of its object, and so many times all of this is there: in this process, in the
+# session's program, and in those that answer.
 _OF_OPCODE = 30
 _OF_PROGRAMS = 2
 
@@ -32,6 +32,7 @@ class Part(Document):
 
     tell: Callable[[str], None] = staticmethod(silent)
     _first: Optional[First] = None
+    _read_first: Optional[OpcodeLines] = None  # the opcodes that were read to find the first part
     _seconds = 0.0  # of a processor, that it took to read this
     _all_reaches: Tuple[int, Optional[Reaches]] = (0, None)  # what all of the pickle imports and calls, in which version
 
@@ -40,15 +41,23 @@ class Part(Document):
         """Reads a pickle: of a long one only the first part, unless it is the `whole` that is wanted. While that goes on, `progress` is given how
         far it is; later `tell` is, where something takes long."""
         source = rereadable(source)
-        self._first = None if whole else first_of(source, many, unframed, progress)
-        self._source = source if self._first is None else self._first.content
         begin = time.process_time() + seconds_of_programs()
+        if not whole:
+            self._first, self._read_first = first_of(source, many, unframed, progress, self.items)
+        self._source = source if self._first is None else self._first.content
         try:
             super().__init__(self._source, name, many, progress, unframed)
         except BaseException:
             self._close_first()
             raise
         self._seconds = time.process_time() + seconds_of_programs() - begin
+
+    def _begun(self, content: bytes) -> OpcodeLines:
+        lines, self._read_first = self._read_first, None
+        if lines is None:
+            return super()._begun(content)
+        lines.content = content
+        return lines
 
     def close(self) -> None:
         """Ends the session, and lets the copy of the whole go."""
@@ -82,7 +91,7 @@ class Part(Document):
         if first is None:
             return 0, 0
         times = first.size / max(1, len(first.content))
-        kept = len(self.lines.text) + len(self._final.text) + _OF_OPCODE * len(self.lines)
+        kept = self.lines.size + len(self._final.text) + _OF_OPCODE * len(self.lines)
         return int(times * self._seconds), int(times * kept * _OF_PROGRAMS) + first.size
 
     @property
@@ -90,8 +99,8 @@ class Part(Document):
         """A line of the bytes after STOP, where there are some, or of those behind a part: nothing of them is in the session."""
         if self.is_part:
             return ['(The rest is not read: `whole` reads it.)']
-        kept = behind_word(self.lines.closing, 'kept')
-        return [] if kept is None else [f'kept: {kept} (try --many)']
+        kept = self.lines.kept
+        return [f'kept: {kept} bytes after STOP (try --many)'] if kept else []
 
     def all_reaches(self) -> Reaches:
         """What all of the pickle imports and calls, as it is: of a part, the program is asked about the whole."""

@@ -21,8 +21,10 @@ FUNCTIONS = {
     'picklestep_reach': (1, 1),
     'picklestep_reach_json': (1, 1),
     'picklestep_members': (0, 1),
+    'picklestep_members_json': (0, 1),
     'picklestep_assemble': (0, 1),
     'picklestep_same': (1, 2),
+    'picklestep_same_json': (1, 2),
     **{f'picklestep_{task}_with': (1, 2 if task == 'calls' else 1) for task in _TASKS},
     'picklestep_list_json': (1, 1),
     'picklestep_objects_json': (1, 1),
@@ -67,8 +69,8 @@ def _asked_by(words: Tuple[str, ...]) -> Optional[Question]:
     is_json = '--json' in rest
     if is_json:
         rest.remove('--json')
-    if not rest and (task == 'form' or task in ('members', 'assemble') and not is_json):
-        return Question('picklestep_form_json' if is_json else f'picklestep_{task}', (), ())
+    if not rest and (task in ('form', 'members') or task == 'assemble' and not is_json):
+        return Question(f'picklestep_{task}_json' if is_json else f'picklestep_{task}', (), ())
     if task == 'reach' and len({*rest}) == len(rest) and {*rest} <= {*_GRANTED}:
         return Question('picklestep_reach_json' if is_json else 'picklestep_reach', (granted(rest),), ())
     options = _options(rest)
@@ -94,13 +96,13 @@ def question_of_gate(entries: bytes, content: bytes, is_json: bool = True) -> Qu
 
 
 def question_of_members(content: bytes) -> Question:
-    """Which members an archive has."""
-    return Question('picklestep_members', (), ((content, _BYTE),))
+    """Which members an archive has, as JSON."""
+    return Question('picklestep_members_json', (), ((content, _BYTE),))
 
 
 def question_of_same(one: bytes, other: bytes, many: bool) -> Question:
-    """Whether two pickles, or several in each, make the same objects."""
-    return Question('picklestep_same', (int(many),), ((one, _BYTE), (other, _BYTE)))
+    """Whether two pickles, or several in each, make the same objects, as JSON."""
+    return Question('picklestep_same_json', (int(many),), ((one, _BYTE), (other, _BYTE)))
 
 
 def granted(words: Sequence[str]) -> int:

@@ -8,13 +8,14 @@ from __future__ import annotations
 import codecs
 import json
 import struct
-from typing import Any, Callable, Dict, List, Optional, Tuple, Union
+from typing import Any, Callable, Dict, Iterable, List, Optional, Set, Tuple, Union
 
-from .listed import Fields, fields_in, fields_of, words_of
+from .hints import WRAPPER, Watch
+from .listed import Fields, ended, fields_in, fields_of, starts_in
 from .records import Brief, Briefs, End, Extension, Global, Name, Reach, Ref, Value
 
-__all__ = ['ASKED', 'CALLED', 'CALLS', 'CHANGES', 'EVENTS', 'IMPORTS', 'Fields', 'check_texts', 'end_of', 'fields_in', 'fields_of', 'name_of', 'plainly_in',
-           'reach_of', 'said_in', 'text_of', 'value_of']
+__all__ = ['ASKED', 'CALLED', 'CALLS', 'CHANGES', 'EVENTS', 'HEADINGS', 'IMPORTS', 'Fields', 'FieldsWatch', 'alike_by', 'check_texts', 'end_of',
+           'fields_in', 'fields_of', 'name_of', 'plainly_in', 'reach_of', 'renumbered_fields', 'said_in', 'text_of', 'value_of']
 
 # The kinds of lines that come from an opcode. The others say how it all ended. (INST imports and calls.)
 IMPORTS = ('import', 'inst')
@@ -25,6 +26,8 @@ ASKED = ('persistent', 'buffer')
 EVENTS = frozenset((*IMPORTS, *CALLED, *CHANGES, *ASKED, 'readonly'))
 # What the program counts as calls.
 CALLS = (*CALLED, *CHANGES)
+# What stands above the lines of a loader that goes on behind the end, by how it treats frames.
+HEADINGS = {'ignored': 'a loader may go on', 'buffered': 'a loader that buffers frames may go on', 'held': 'a loader that keeps its buffer may go on'}
 _CONSTANTS: Dict[str, Optional[bool]] = {'none': None, 'true': True, 'false': False}
 # What a text is called that cannot be decoded, by its kind.
 _RAW = {'text': 'raw', 'string': 'raw string'}
@@ -48,7 +51,8 @@ _DECODERS: Tuple[Tuple[str, Callable[[bytes], Any]], ...] = (
     ('hex', bytes), ('raw_hex', bytes), ('raw_unicode_escape_hex', lambda text: text.decode('raw_unicode_escape').encode('utf-8', 'surrogatepass')),
     ('string_escape_hex', lambda text: codecs.escape_decode(_escaped(text))[0]))
 # How the names of fields end whose texts are spelled by escapes.
-_ESCAPED = b'_escape_hex"'
+_ESCAPED_NAME = '_escape_hex"'
+_ESCAPED = _ESCAPED_NAME.encode('ascii')
 # What a backslash of Python's literals may stand before.
 _ESCAPES = frozenset(b'\n\'"abfnrtvx01234567')
 
@@ -64,8 +68,8 @@ def _escaped(text: bytes) -> bytes:
 
 
 def plainly_in(lines: bytes) -> Tuple[List[Fields], bytes]:
-    """The fields of lines, each with its newline, and the lines. A text that is spelled by escapes stands in both as the text that it says, under its
-    plain name, if it can be decoded: whoever looks for a name finds it however it is spelled.
+    """The fields of lines, each with its newline, and the lines. A text that is spelled by escapes stands in both as the text that it says, under the
+    name that it has without escapes: whoever looks for a name finds it however it is spelled.
 
     >>> plainly_in(b'{"kind":"import","module_string_escape_hex":"5c7836656f","name":"x"}\\n')
     ([{'kind': 'import', 'module': 'no', 'name': 'x'}], b'{"kind":"import","module":"no","name":"x"}\\n')
@@ -74,7 +78,7 @@ def plainly_in(lines: bytes) -> Tuple[List[Fields], bytes]:
     if _ESCAPED not in lines:
         return fields, lines
     plain: List[Fields] = [_plainly(each) for each in fields]
-    return plain, b''.join(json.dumps(each, separators=(',', ':')).encode('ascii') + b'\n' for each in plain)
+    return plain, b''.join(_compact(each).encode('ascii') + b'\n' for each in plain)
 
 
 def _plainly(value: Any) -> Any:
@@ -88,10 +92,54 @@ def _plain_field(name: str, value: Any) -> Tuple[str, Any]:
         plain, found, _ = name.rpartition(f'_{ending}')
         if found:
             try:
-                return plain, decode(bytes.fromhex(value)).decode('utf-8')
+                return _field_of(plain, decode(bytes.fromhex(value)))
             except ValueError:
                 return name, value
     return name, _plainly(value)
+
+
+def _field_of(name: str, text: bytes) -> Tuple[str, str]:
+    """The field of a text by its value, as the program writes it. (One that is no UTF-8 has lone surrogates.)"""
+    try:
+        return name, text.decode('utf-8')
+    except UnicodeDecodeError:
+        return f'{name}_hex', text.hex()
+
+
+# Fields that are numbers of objects, beside those that end in `_object`.
+_NUMBERED = ('object', 'callee', 'of')
+
+
+def renumbered_fields(value: Any, moved: Callable[[Any], object], name: str = '') -> Any:
+    """The fields of a line, or the value of a field, whose objects have other numbers, which a function says.
+
+    >>> renumbered_fields({'kind': 'call', 'callee': 3, 'args': [{'kind': 'object', 'object': 4}, {'kind': 'int', 'value': 4}]}, lambda number: number - 3)
+    {'kind': 'call', 'callee': 0, 'args': [{'kind': 'object', 'object': 1}, {'kind': 'int', 'value': 4}]}
+    """
+    if isinstance(value, dict):
+        return {key: renumbered_fields(each, moved, key) for key, each in value.items()}
+    if isinstance(value, list):
+        return [renumbered_fields(each, moved) for each in value]
+    return moved(value) if name in _NUMBERED or name.endswith('_object') else value
+
+
+def alike_by(fields: Fields) -> str:
+    """What a line says wherever it stands, whatever the numbers of its objects, and however its texts are spelled: its fields without these, as JSON.
+
+    >>> alike_by({'kind': 'state', 'offset': 4, 'state': {'kind': 'none'}, 'object': 7, 'text': '    4: state none to #7'})
+    '{"kind":"state","state":{"kind":"none"},"object":null}'
+    """
+    said = {name: value for name, value in fields.items() if name not in ('offset', 'text')}
+    if fields['kind'] == 'persistent' and 'id' not in fields:  # (a line that is an id says the same as a text)
+        said = {'kind': 'persistent', 'id': {'kind': 'text', **{name.replace('line', 'value'): said[name] for name in said if name.startswith('line')}},
+                'object': None}
+    alike = renumbered_fields(said, lambda number: None)
+    text = _compact(alike)
+    return _compact(_plainly(alike)) if _ESCAPED_NAME in text else text
+
+
+def _compact(fields: Fields) -> str:
+    return json.dumps(fields, separators=(',', ':'))
 
 
 def _pair(fields: Fields, before: str = '') -> Optional[Global]:
@@ -160,10 +208,14 @@ def value_of(fields: Fields, name: str) -> Optional[Value]:
 def said_in(fields: Fields) -> str:
     """What `calls` prints of a line, without its offset.
 
-    >>> said_in({'text': '   23: state #1 to #0'})
+    >>> said_in({'offset': 23, 'text': '   23: state #1 to #0'})
     'state #1 to #0'
     """
-    return text_of(fields).partition(': ')[2]
+    return text_of(fields)[max(_OFFSET_WIDTH, len(str(fields['offset']))) + 2:]
+
+
+# An offset is aligned to the right in so many letters, with a colon and a blank behind it.
+_OFFSET_WIDTH = 5
 
 
 def reach_of(fields: Fields) -> Reach:
@@ -197,14 +249,60 @@ def end_of(closing: Dict[str, Fields], refused_at: Optional[int] = None) -> End:
     'F1 ended at 3'
     """
     if 'hole' in closing:
-        return End('refused', text=text_of(closing['hole']).partition(': ')[2])
+        hole = closing['hole']
+        return End('refused', text=f'hole {hole["offset"]}:{hole["size"]} ends behind the last of {hole["bytes"]} bytes')
     fields = closing.get('ending', {'how': 'stopped'})  # (of what is cut the end is not known)
     if fields['how'] == 'stopped' and 'unsure' not in closing:
         return End('stopped')
     if fields['how'] == 'refused':
-        return End('refused', fields['code'], words_of(fields), refused_at, int(fields['item']))
+        return ended('refused', fields, refused_at, int(fields['item']))
     fields = fields if fields['how'] != 'stopped' else closing['unsure']
-    return End(fields.get('how', 'unsure'), fields['code'], words_of(fields), int(fields['offset']), of_frame=fields.get('of_frame', False))
+    return ended(fields.get('how', 'unsure'), fields, int(fields['offset']))
+
+
+# --- Where else to look ---
+
+# What stands in lines that may name joblib's class, however its name is spelled.
+_NAMES_OF_WRAPPERS = WRAPPER, b'"name_'
+_ENDING = b'{"kind":"ending"'
+
+
+class FieldsWatch(Watch):
+    """Reads an answer of `calls --json` as it comes, in pieces of whole lines. Most have no line that is looked at.
+
+    >>> watch = FieldsWatch()
+    >>> watch.feed(b'{"kind":"new","module":"x","name":"NumpyArrayWrapper","object":2}\\n{"kind":"state","offset":44,"object":2}\\n')
+    >>> watch.array_at
+    45
+    """
+
+    def __init__(self) -> None:
+        super().__init__()
+        self._objects: Set[int] = set()
+
+    def feed(self, lines: bytes) -> None:
+        """Reads some lines."""
+        if self.array_at is None and (self._objects or any(name in lines for name in _NAMES_OF_WRAPPERS)):
+            self._look(fields_in(lines))
+        end = None if self._is_behind else next(starts_in(lines, _ENDING), None)
+        if end is not None:
+            self._is_behind, self.is_at_frame = True, fields_of(lines[end:lines.index(b'\n', end)]).get('of_frame', False)
+
+    def _look(self, lines: Iterable[Fields]) -> None:
+        """Looks for an object of joblib's class that gets its state."""
+        for fields in lines:
+            kind = fields['kind']
+            if kind == 'state' and fields['object'] in self._objects:
+                self.array_at = int(fields['offset']) + 1
+                return
+            if kind in CALLED and (_is_wrapper(fields) or isinstance(fields.get('args'), list) and any(map(_is_wrapper, fields['args']))):
+                self._objects.add(fields['object'])
+
+
+def _is_wrapper(fields: Fields) -> bool:
+    """Whether a line, or a value in it, names joblib's class."""
+    name, _ = _text(fields, 'name')
+    return name is not None and name.endswith(WRAPPER)
 
 
 # --- Lines for people ---
@@ -225,7 +323,7 @@ def check_texts(lines: bytes, printed: Callable[[], bytes]) -> bytes:
         is_in_part = is_in_part or fields['kind'] == 'heading'
         is_silent = fields['kind'] == 'end' or fields['kind'] == 'ending' and fields['how'] == 'stopped' and not fields['kept'] and not is_in_part
         found.append(fields if is_silent else {**fields, 'text': next(texts)})
-    return b''.join(json.dumps(fields, separators=(',', ':')).encode('ascii') + b'\n' for fields in found)
+    return b''.join(_compact(fields).encode('ascii') + b'\n' for fields in found)
 
 
 _TEXT = b',"text":"'

@@ -11,7 +11,7 @@ import os
 import time
 from contextlib import contextmanager
 from dataclasses import replace
-from typing import TYPE_CHECKING, Callable, Generator, Iterable, Iterator, List, Optional, Tuple
+from typing import TYPE_CHECKING, Callable, Dict, Generator, Iterable, Iterator, List, Optional, Tuple
 
 from . import library
 from .answers import Calls, Listing, Objects
@@ -27,12 +27,14 @@ if TYPE_CHECKING:
     from .program import Process
     from .short_records import Member, OtherForm, ReachAnswer
 
-__all__ = ['Asked', 'AskedOfSession', 'calls', 'calls_of', 'form', 'frames', 'frames_of', 'left_out', 'listing', 'listing_of', 'members', 'modes', 'objects', 'reach']
+__all__ = ['Asked', 'AskedOfSession', 'calls', 'calls_of', 'form', 'frames', 'frames_of', 'left_out', 'listing', 'listing_of', 'members', 'modes', 'objects', 'objects_of', 'reach']
 
 # What lines of JSON have where an opcode was refused.
 _REFUSED = b'"how":"refused"'
 # More of them do not stand on a command line: a file has them.
 _MOST_HOLES = 1000
+# About an input of up to so many bytes the program may work ahead of who asks. (It takes some tens of times as much memory.)
+_MOST_AHEAD = 1 << 24
 
 
 def listing(source: Source, *, many: bool = False, unframed: bool = False, timeout: Optional[float] = None,
@@ -64,12 +66,7 @@ def objects(source: Source, *, many: bool = False, unframed: bool = False, timeo
     ('tuple', (0, 1), (2,))
     """
     with Asked(source, timeout, memory) as asked:
-        words = modes(many, unframed)
-        answer = Objects(asked.lines(['objects', '--json', *words]))
-        # (it counts opcodes and not bytes: a listing says at which offset one was refused)
-        answer = answer if answer.end.how != 'refused' else Objects(answer.json, asked.refused_at(words))
-        answer.said = asked.said
-        return answer
+        return objects_of(asked, many, unframed)
 
 
 def calls(source: Source, *, first: bool = False, memo_kept: bool = False, full: bool = False, many: bool = True,
@@ -137,13 +134,12 @@ def members(source: Source, *, timeout: Optional[float] = None, memory: Optional
     >>> members('a.zip')
     (Member(name='a.pkl', offset=35, size=2, deflated=None, address='a.zip > a.pkl'),)
     """
-    from .member_lines import NO_MEMBERS, members_of
+    from .verdicts import members_of, why_unlisted
     path = os.fsdecode(source) if isinstance(source, (str, os.PathLike)) else ''
     with Asked(source if split(path) is None else _bytes_at(path), timeout, memory, is_opened=False) as asked:
-        text = asked.answer(['members'])
-    if text.startswith(NO_MEMBERS):
-        raise NotOpened(text.rstrip('\n'))
-    found = members_of(text)
+        found, end = members_of(asked.lines(['members', '--json']))
+    if end['how'] != 'whole':
+        raise NotOpened(why_unlisted(end))
     return tuple(replace(each, address=f'{path}{BETWEEN}{shown(each.name)}') for each in found) if path else tuple(found)
 
 
@@ -171,6 +167,16 @@ def frames_of(asked: Asked, many: bool) -> List[Tuple[int, int]]:
 def listing_of(asked: Asked, many: bool, unframed: bool = False) -> Listing:
     """The opcodes of what is asked about."""
     answer = Listing(asked.lines(['list', '--json', *modes(many, unframed)]))
+    answer.said = asked.said
+    return answer
+
+
+def objects_of(asked: Asked, many: bool, unframed: bool) -> Objects:
+    """The objects that it makes."""
+    words = modes(many, unframed)
+    answer = Objects(asked.lines(['objects', '--json', *words]))
+    # (it counts opcodes and not bytes: a listing says at which offset one was refused)
+    answer = answer if answer.end.how != 'refused' else Objects(answer.json, asked.refused_at(words))
     answer.said = asked.said
     return answer
 
@@ -232,6 +238,7 @@ class Asked:
         self._content = small_content(source, library.MOST_BYTES) if timeout is None else None
         self._source = source if self._content is None else self._content
         self._input: Optional[Input] = None
+        self._started: Dict[Tuple[str, ...], Process] = {}
 
     @property
     def said(self) -> Tuple[str, ...]:
@@ -255,13 +262,23 @@ class Asked:
         """The same as bytes."""
         answer = self.in_process(words)
         if answer is None:
-            from .program import run_program
-            given = self._given()
-            self._begun = time.monotonic()
-            answer = run_program([words[0], given.path, *words[1:]], given.files, timeout=self._timeout, memory=self._memory)
+            process = self._started.pop(tuple(words), None)
+            answer = self._run(words) if process is None else process.communicate(None, None)
         if not answer.endswith(b'\n'):
             raise ProgramError('the program gave no whole answer')
         return answer
+
+    def _run(self, words: List[str]) -> bytes:
+        from .program import run_program
+        given = self._given()
+        self._begun = time.monotonic()
+        return run_program([words[0], given.path, *words[1:]], given.files, timeout=self._timeout, memory=self._memory)
+
+    def start(self, words: List[str]) -> None:
+        """Lets the program work on these words already, whose lines are asked for later. That is not done where the program has a timeout, or would take
+        too much memory beside others."""
+        if self._content is None and self._timeout is None and self.size() <= _MOST_AHEAD:
+            self._started[tuple(words)] = self._process(words)
 
     def refused_at(self, words: List[str]) -> Optional[int]:
         """The offset of the opcode that is refused, which a listing by these words ends in."""
@@ -274,7 +291,23 @@ class Asked:
         if answer is not None:
             yield answer
         else:
-            yield from self._process(words).blocks(self._left())
+            yield from self._blocks_of(self._process(words))
+
+    @contextmanager
+    def begun(self, words: List[str]) -> Iterator[Iterable[bytes]]:
+        """The same, of a program that works from now on, and not only when the text is read."""
+        answer = self.in_process(words)
+        if answer is not None:
+            yield [answer]
+            return
+        process = self._process(words)
+        try:
+            yield self._blocks_of(process)
+        finally:
+            process.close()
+
+    def _blocks_of(self, process: Process) -> Generator[bytes, None, None]:
+        yield from process.blocks(self._left())
 
     def size(self) -> int:
         """How many bytes it has."""
@@ -306,6 +339,8 @@ class Asked:
         return self
 
     def __exit__(self, *error: object) -> None:
+        for process in self._started.values():
+            process.close()
         if self._input is not None:
             self._input.close()
 

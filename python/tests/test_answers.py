@@ -441,7 +441,7 @@ class Parts(unittest.TestCase):
     def test_each_part_has_its_lines_counts_and_end(self) -> None:
         answer = Calls(TELLING, 21)
         self.assertEqual([reach.offset for reach in answer], [0, 5, 9, 21, 22])
-        self.assertEqual((len(answer), answer.imports, answer.calls, answer.container), (5, 2, 3, 'zip archive'))
+        self.assertEqual((len(answer), answer.imports, answer.calls, answer.container), (5, 2, 3, 'a zip archive'))
         self.assertEqual(answer.end, End('refused', 'S10', 'S10 not arguments #1', 21, 2))
         first, second = answer.parts
         self.assertEqual((first.heading, len(first), first.imports, first.calls), ('a loader may go on', 1, 0, 1))

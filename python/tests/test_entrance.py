@@ -24,7 +24,7 @@ from scan_support import HARMLESS, HOSTILE, PYTHON, ScanCase, environment
 from terminals import heed_ctrl_c
 
 PACKAGE = Path(picklestep.__file__).resolve().parent
-WORDS = ('list', 'objects', 'calls', 'form', 'gate', 'reach', 'members', 'debug', 'scan', 'view', 'shell', 'dap', 'source', 'size', 'diff', 'mend', 'rename', 'convert', 'optimize')
+WORDS = ('list', 'objects', 'calls', 'form', 'gate', 'reach', 'members', 'opcodes', 'debug', 'scan', 'view', 'shell', 'dap', 'source', 'size', 'diff', 'mend', 'rename', 'convert', 'optimize')
 # A file for each module of the standard library says in this file that it was imported.
 MARK = "open(__file__.rpartition('/')[0] + '/imported', 'a').write(__name__ + '\\n')\nraise ImportError('this folder is not searched')\n"
 
@@ -223,7 +223,7 @@ class Streams(EntranceCase):
         self.file('script', b'where\nquit\n')
 
     def test_output_that_cannot_be_written(self) -> None:
-        for words in ('diff a.pkl b.pkl', 'source a.pkl', 'mend cut.pkl', 'mend a.pkl out.pkl', 'shell a.pkl <script',
+        for words in ('diff a.pkl b.pkl', 'source a.pkl', 'mend cut.pkl', 'mend a.pkl --save out.pkl', 'shell a.pkl <script',
                       'shell --batch script a.pkl', 'scan a.pkl', 'scan --json a.pkl', '--help', 'scan --help', '--version', 'view --no-browser a.pkl'):
             for end, why in ((' >&-', 'Bad file descriptor'), (' >/dev/full', 'No space left on device')):
                 if end == ' >&-' or os.path.exists('/dev/full'):
@@ -245,7 +245,7 @@ class Streams(EntranceCase):
 
     @unittest.skipUnless(sys.platform == 'linux', 'the limit is that of a shell of Linux')
     def test_too_little_memory(self) -> None:
-        self.file('a.pkl', pickle.dumps([{'name': f'user{n}', 'jobs': [n, str(n)]} for n in range(30_000)], 4))
+        self.file('a.pkl', pickle.dumps([{'name': f'user{n}', 'jobs': [n, str(n)]} for n in range(120_000)], 4))
         for words in (['size', 'a.pkl'], ['optimize', 'a.pkl', '--save', 'less.pkl']):
             run = self.start(['sh', '-c', 'ulimit -v 60000; exec "$@"', 'sh', sys.executable, '-I', str(PACKAGE / 'entrance.py'), *words])
             self.assertEqual((run.returncode, run.stdout, run.stderr), (2, '', 'picklestep: out of memory\n'), words)
@@ -313,6 +313,59 @@ class HostileFolders(EntranceCase):
                 if way in ('clone', '-I -m'):
                     run = subprocess.run([*entrance, 'model.pkl'], cwd=self.folder, env=settings, capture_output=True, text=True, timeout=300)
                     self.assertEqual((run.returncode, run.stderr, self.seen()), (0, '', ''), way)
+
+
+@unittest.skipUnless(sys.platform == 'linux' and os.uname().machine == 'x86_64' and 'clone' in ways(), 'a clone with a program for this machine is wanted')
+class Sources(EntranceCase):
+    """In a clone a released program starts while no source is newer than its comparison with them. Python begins meanwhile."""
+
+    def setUp(self) -> None:
+        super().setUp()
+        self.file('a.pkl', HARMLESS)
+        self.root = self.folder / 'clone'
+        for name in ('python/picklestep', 'equipment', 'targets', 'crates/picklestep/src', 'dist/linux-x86_64-static', 'out'):
+            (self.root / name).mkdir(parents=True)
+        shutil.copytree(PACKAGE, self.root / 'python' / 'picklestep', dirs_exist_ok=True, ignore=shutil.ignore_patterns('bin', '__pycache__'))
+        for name in ('picklestep', 'equipment/program.sh'):
+            shutil.copy(ROOT / name, self.root / name)
+        (self.root / 'crates.txt').write_text('picklestep:\n')
+        self.source = self.root / 'crates/picklestep/src/main.rt'
+        self.source.write_text('')
+        program = self.root / 'dist/linux-x86_64-static/picklestep'
+        program.symlink_to(find_program())
+        for path in (*self.root.rglob('*'), self.root):
+            os.utime(path, (1_000_000_000, 1_000_000_000), follow_symlinks=False)
+        self.compared = self.root / 'out/released'
+        self.compared.write_text(f'{program}\n')
+
+    def begun(self, *before: str) -> 'subprocess.CompletedProcess[str]':
+        settings = {name: value for name, value in environment().items() if name != 'PICKLESTEP_PROGRAM'}
+        return subprocess.run([*before, str(self.root / 'picklestep'), 'scan', 'a.pkl'], cwd=self.folder, env={**settings, 'PYTHONDONTWRITEBYTECODE': '1'},
+                              stdin=subprocess.DEVNULL, capture_output=True, text=True, timeout=600)
+
+    def test_no_source_is_newer(self) -> None:
+        run = self.begun()
+        self.assertEqual((run.returncode, run.stderr), (0, ''))
+        self.assertIn('1 pickle', run.stdout)
+
+    def test_a_source_is_newer(self) -> None:
+        said = self.compared.read_text()
+        for path in (self.source, self.source.parent, self.root / 'dist' / 'linux-x86_64-static', self.root / 'targets'):
+            with self.subTest(path.name):
+                self.compared.write_text(said)  # (it is taken away where the sources are others)
+                os.utime(self.compared, (1_100_000_000, 1_100_000_000))
+                os.utime(path)
+                run = self.begun()
+                self.assertEqual((run.returncode, run.stdout), (2, ''))
+                self.assertIn('no program is of the sources as they are', run.stderr)
+                os.utime(path, (1_000_000_000, 1_000_000_000))
+
+    def test_nobody_says_it(self) -> None:
+        """A process that takes no heed of those that it has started does not learn how they ended: it begins anew, and looks first."""
+        run = self.begun('sh', '-c', 'trap "" CHLD; exec "$@"', 'sh')
+        self.assertEqual((run.returncode, run.stderr), (0, ''))
+        run = self.begun('env', 'PICKLESTEP_LOOKING=1')
+        self.assertEqual((run.returncode, run.stderr), (0, ''))
 
 
 @unittest.skipIf(os.name == 'nt', 'a shell of POSIX is wanted')

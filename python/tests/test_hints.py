@@ -68,17 +68,24 @@ class Answers(unittest.TestCase):
         self.assertEqual((answer.calls, answer.end.how, answer.array_at), (2, 'stopped', len(_WRAPPER)))
         self.assertEqual([picklestep.calls(data + b'\x01').array_at for data in OF_CLASS], list(map(len, OF_CLASS)))
 
+    def test_the_lines_for_people_say_the_same(self) -> None:
+        real = [path.read_bytes() for path in chosen(REAL, 20)]
+        for data in (ARRAYS, HIDDEN, SWALLOWED, CUT, b'N', *OF_CLASS, *(data + b'\x01' for data in OF_CLASS), *real):
+            answer, watch = picklestep.calls(data), Watch()
+            watch.feed(answer.text.encode('ascii'))
+            self.assertEqual((watch.array_at, watch.hints), (answer.array_at, answer.hints), data[:40])
+
     def test_a_line_with_the_name_again_and_again(self) -> None:
         """It takes the time of a line without it: it was tried from each of them on."""
         watch, begin = Watch(), time.process_time()
-        watch.feed(f"9: state ({', '.join([repr('NumpyArrayWrapper')] * 20_000)}) to #2\n")
+        watch.feed(f"9: state ({', '.join([repr('NumpyArrayWrapper')] * 20_000)}) to #2\n".encode('ascii'))
         self.assertEqual((watch.hints, watch.array_at), ((), None))
         self.assertLess(time.process_time() - begin, 3)
 
     def test_frames(self) -> None:
         self.assertEqual(picklestep.calls(CUT).end.code, 'F7')
         for said in ('\n'.join(picklestep.calls(CUT).hints), picklestep.source(CUT)[-1]):
-            self.assertRegex(said, r'`picklestep source --unframed FILE`.*`picklestep mend FILE OUT`')
+            self.assertRegex(said, r'`picklestep source --unframed FILE`.*`picklestep mend FILE --save OUT`')
         self.assertNotIn('that frame is', picklestep.source(CUT, unframed=True).text)
 
     def test_what_ends_at_a_frame(self) -> None:
@@ -151,7 +158,7 @@ class Reports(EntranceCase):
                 self.assertEqual(view([str(self.file(name, data)), '--export', str(out)]), 0)
             self.assertNotIn('Not all of the file', out.read_text(encoding='utf-8'))
         with contextlib.closing(Document(container, 'b.pt')) as document:  # (whose bytes are read as they are)
-            self.assertIn('begins like a container: zip archive (picklestep scan looks into it)', document.missing)
+            self.assertIn('begins like a container: a zip archive (picklestep scan looks into it)', document.missing)
 
 
 class Entrance(EntranceCase):
@@ -162,13 +169,14 @@ class Entrance(EntranceCase):
         for name, data, said in (('b.joblib', SWALLOWED, '`picklestep scan FILE`'),
                                  ('cut.pickle', CUT, '`picklestep source --unframed FILE`'), ('whole.pickle', whole, '')):
             self.file(name, data)
-            alone = self.start([find_program(), 'calls', name])
-            for way, entrance in chosen(ways().items(), 1):
-                with self.subTest((way, name)):
-                    run = self.start([*entrance, 'calls', name])
-                    self.assertEqual((run.returncode, run.stdout), (alone.returncode, alone.stdout))
-                    self.assertEqual(len(run.stderr.splitlines()), int(bool(said)), run.stderr)
-                    self.assertIn(said, run.stderr)
+            for words in (['calls', name], ['calls', '--json', name]):
+                alone = self.start([find_program(), *words])
+                for way, entrance in chosen(ways().items(), 1):
+                    with self.subTest((way, words)):
+                        run = self.start([*entrance, *words])
+                        self.assertEqual((run.returncode, run.stdout), (alone.returncode, alone.stdout))
+                        self.assertEqual(len(run.stderr.splitlines()), int(bool(said)), run.stderr)
+                        self.assertIn(said, run.stderr)
 
     @unittest.skipIf(os.name == 'nt' or is_module(find_program()), 'files by descriptors are opened by the program itself')
     def test_what_the_shell_has_opened(self) -> None:

@@ -22,6 +22,7 @@ from picklestep.scan.entries import said
 from picklestep.tasks import Asked
 from pickles import HOSTILE, ROOT, chosen, real_pickles
 from scan_support import python_with
+from test_tars import tarred
 
 FILE = ROOT / 'share' / 'picklestep-lines.schema.json'
 SCHEMA = json.loads(FILE.read_text('ascii'))
@@ -48,15 +49,15 @@ def values_in(given: Any) -> Iterator[Dict[str, Any]]:
 
 
 def may_lack(name: str, given: Dict[str, Any]) -> bool:
-    return (name in ('mark', 'more', 'keywords', 'text', 'changes', 'file', 'member', 'behind_header') or (name, given.get('how')) == ('offset', 'broken') or name == 'parts' and given['is'] in ('tuple', 'list', 'frozenset', 'dict', 'inst') or name.endswith('_more') or (name, given['kind']) == ('memo', 'opcode')
+    return (name in ('mark', 'more', 'keywords', 'text', 'changes', 'file', 'archive', 'member', 'behind_header') or (name, given.get('how')) == ('offset', 'broken') or name == 'parts' and given['is'] in ('tuple', 'list', 'frozenset', 'dict', 'inst') or name.endswith('_more') or (name, given['kind']) == ('memo', 'opcode')
             or given['kind'] == 'made' and name == 'since' and 'item' in given
             or given['kind'] == 'step' and name in ('begins', 'made', 'pushed', 'cut_mark', 'set_mark', 'changed', 'memo')
-            or name == 'protocol' and given['how'] == 'fault')
+            or name == 'protocol' and given.get('how') == 'fault')
 
 
 def named() -> Set[str]:
     """The kinds that the page names, each behind its word."""
-    found = {f'{word}-{kind}' for word, text in re.findall(r'^## (list|objects|form|reach|gate)\b(.*?)(?=^## )', PAGE, re.MULTILINE | re.DOTALL)
+    found = {f'{word}-{kind}' for word, text in re.findall(r'^## (list|objects|form|reach|gate|members|same|opcodes)\b(.*?)(?=^## )', PAGE, re.MULTILINE | re.DOTALL)
              for kind in re.findall(r'`{"kind":"(\w+)",\.\.}`', text)}
     calls = PAGE.partition('\n## calls\n')[2].partition('\n## ')[0]
     debug = PAGE.partition('\n## debug\n')[2].partition('\n### ')[0]
@@ -69,7 +70,7 @@ def verdicts() -> Iterator[str]:
     """Lines of `gate`: about a list that is none, pickles, archives, an array and packed files, and about several files."""
     array = b"\x93NUMPY\1\0v\0" + b"{'descr': '|O', 'fortran_order': False, 'shape': (), }".ljust(117) + b'\n'
     contents = [b'N.', HOSTILE, b'J\1\0\0\0.', b'PK\3\4', array + HOSTILE, gzip.compress(HOSTILE), gzip.compress(gzip.compress(b'N.')), b'',
-                *map(archive, (HOSTILE, b'J\1\0\0\0' + HOSTILE, archive(b'N.'), array + HOSTILE)), archive(b'N.').replace(b'N.', b'K.')]
+                *map(archive, (HOSTILE, b'J\1\0\0\0' + HOSTILE, archive(b'N.'), array + HOSTILE)), archive(b'N.').replace(b'N.', b'K.'), *tars()]
     for listed, content in (*((b'os.path.*', content) for content in contents), (b'a b', b'N.')):
         yield said(listed, content).decode('ascii').rstrip('\n')
     with tempfile.TemporaryDirectory() as folder:
@@ -77,6 +78,34 @@ def verdicts() -> Iterator[str]:
         for path, content in zip(given, (b'os.path.*', *contents)):
             path.write_bytes(content)
         yield from run_program(['gate', '--json', *map(str, given)]).decode('ascii').splitlines()
+
+
+def tars() -> Iterator[bytes]:
+    """Tar archives, plain and packed: each passes, has a member that does not, has one name twice, may be a pickle too, or is not as writers write it."""
+    for tar in (tarred(('a', b'N.')), tarred(('a', HOSTILE)), tarred(('a', b'N.'), ('a', b'N.')), tarred(('cos.x', b'N.')), tarred(('a', b'N.')) + bytes(512)):
+        yield from (tar, gzip.compress(tar))
+
+
+def listings() -> Iterator[str]:
+    """Lines of `members`: of archives, packed files, and a file that is neither."""
+    packed = io.BytesIO()
+    with zipfile.ZipFile(packed, 'w', zipfile.ZIP_DEFLATED) as made:
+        made.writestr('a.pkl', b'N.' * 50)
+    for content in (archive(b'N.'), packed.getvalue(), gzip.compress(b'N.'), b'N.'):
+        with Asked(content, None, None, is_opened=False) as asked:
+            yield from asked.answer(['members', '--json']).splitlines()
+    yield '{"kind":"end","how":"too_large"}'  # (of a packed file that unpacks to more than 1 GiB)
+
+
+def pairs() -> Iterator[str]:
+    """Lines of `same`, of each kind."""
+    with tempfile.TemporaryDirectory() as folder:
+        paths = Path(folder, 'one'), Path(folder, 'other')
+        for given in ((b'N.', b'N.'), (b'K\5.', b'K\6.'), (b'NK\x010.', b'N0K\x01.'), (b'cm\nf\n)R(NNe.', b'cm\nf\n)RNaNa.'), (b'', b'N.'), (b'N.', b'0.'),
+                      (b'\xff', b'N.'), (b'N.N.', b'N.'), (b'N.', b'N.x')):
+            for path, content in zip(paths, given):
+                path.write_bytes(content)
+            yield run_program(['same', '--json', *map(str, paths)]).decode('ascii').rstrip('\n')
 
 
 def conversations() -> Iterator[str]:
@@ -111,7 +140,9 @@ class Lines(unittest.TestCase):
 
     @classmethod
     def setUpClass(cls) -> None:
-        cls.printed = {'list': {}, 'objects': {}, 'form': {}, 'reach': {}, 'gate': {form_of(line): line for line in verdicts()}, 'debug': {form_of(line): line for line in conversations()}, 'calls': {}, 'value': {}}
+        cls.printed = {'list': {}, 'objects': {}, 'form': {}, 'reach': {}, 'gate': {form_of(line): line for line in verdicts()}, 'members': {form_of(line): line for line in listings()},
+                       'same': {form_of(line): line for line in pairs()}, 'opcodes': {form_of(line): line for line in run_program(['opcodes', '--json']).decode('ascii').splitlines()},
+                       'debug': {form_of(line): line for line in conversations()}, 'calls': {}, 'value': {}}
         for data in chosen(pickles(), 30):
             with Asked(data, None, None, is_opened=False) as asked:
                 for words in ASKED:
@@ -135,7 +166,7 @@ class Lines(unittest.TestCase):
                     self.assertEqual(not any(faults({'$ref': f'#/definitions/{word}'}, other, whole=SCHEMA)), fits, (line, other))
 
     def test_kinds_and_fields(self) -> None:
-        self.assertEqual({name for name in SCHEMA['definitions'] if re.match('(?:list|objects|form|reach|gate|calls|value|debug)-', name)}, named())
+        self.assertEqual({name for name in SCHEMA['definitions'] if re.match('(?:list|objects|form|reach|gate|members|same|opcodes|calls|value|debug)-', name)}, named())
         found = {f'{word}-{json.loads(line)["kind"].replace("_", "-")}' for word, lines in self.printed.items() for line in lines.values()}
         found.add('calls-too-many-ways')  # (no pickle of these has so many)
         self.assertEqual(found - named(), set())

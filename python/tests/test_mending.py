@@ -10,7 +10,6 @@ import os
 import pickle
 import pickletools
 import random
-import re
 import struct
 import subprocess
 import sys
@@ -365,9 +364,9 @@ class Words(unittest.TestCase):
                                                            '2: byte 0xff replaced by 0x5d: F2 unknown opcode 0xff at 2'))
             self.assertEqual(second, f'try 2 keeps 3 opcodes: {steps[0]}, and 2 more edits')
             self.assertRegex(taken, r'^try 2 is taken; --choose N takes another \([0-9]+ changes were tried\)$')
-            done = run('damaged', 'out', '--choose', '1')
+            done = run('damaged', '--save', 'out', '--choose', '1')
             self.assertEqual((done.returncode, Path(folder, 'out').read_bytes()), (1, whole))
-            done = run('damaged', 'none', '--choose', '3')
+            done = run('damaged', '--save', 'none', '--choose', '3')
             self.assertEqual((done.returncode, done.stderr, Path(folder, 'none').exists()), (2, 'picklestep: there is no try 3\n', False))
 
     def test_the_example_of_the_page(self) -> None:
@@ -375,7 +374,7 @@ class Words(unittest.TestCase):
         cut = next(data for name, data, _, _ in stories() if name == 'cut.pickle')
         with tempfile.TemporaryDirectory() as folder:
             Path(folder, 'cut.pickle').write_bytes(cut)
-            done = subprocess.run([sys.executable, '-m', 'picklestep', 'mend', 'cut.pickle', 'mended.pickle'], cwd=folder, env=environment(),
+            done = subprocess.run([sys.executable, '-m', 'picklestep', 'mend', 'cut.pickle', '--save', 'mended.pickle'], cwd=folder, env=environment(),
                                   capture_output=True, text=True, timeout=300, check=False)
             self.assertEqual((done.returncode, done.stderr), (1, ''))
             built = {'due': datetime.date(2026, 11, 26), 'jobs': [1, 2]}
@@ -392,17 +391,18 @@ class Words(unittest.TestCase):
             done = run('cut.pickle', '--save', 'out.pickle')
             self.assertEqual((done.returncode, done.stdout), (1, '4: STOP added: F1 ended at 4\nsaved out.pickle\n'))
             self.assertEqual(Path(folder, 'out.pickle').read_bytes(), b']K\x01a.')
-            path.with_name('out.pickle').unlink()
-            done = run('cut.pickle', 'out.pickle')
-            self.assertEqual((done.returncode, done.stdout), (1, '4: STOP added: F1 ended at 4\nsaved out.pickle\n'))
-            self.assertEqual((run('cut.pickle', 'a', '--save', 'b').returncode, run('cut.pickle', 'cut.pickle').returncode), (2, 2))
+            done = run('cut.pickle', 'other.pickle')
+            self.assertEqual((done.returncode, done.stdout, Path(folder, 'other.pickle').exists()), (2, '', False))
+            self.assertIn('unrecognized arguments: other.pickle', done.stderr)
+            done = run('cut.pickle', '--save', 'cut.pickle')
+            self.assertEqual((done.returncode, done.stdout, path.read_bytes()), (2, '', b']K\x01a'))
             done = run('out.pickle')
             self.assertEqual((done.returncode, done.stdout), (0, 'it is whole\n'))
             whole = pickle.dumps([1], 4)
             stream = io.BytesIO(whole + whole[:-3])
             pickle._Unpickler(stream).load()  # type: ignore[attr-defined]
             Path(folder, 'two.pickle').write_bytes(stream.getvalue())
-            done = run('two.pickle', 'out.pickle')
+            done = run('two.pickle', '--save', 'out.pickle')
             said = f'{len(stream.read())} bytes after STOP are not read (try --many)\nsaved out.pickle\n'
             self.assertEqual((done.returncode, done.stdout), (1, said))
             self.assertEqual(Path(folder, 'out.pickle').read_bytes(), stream.getvalue())

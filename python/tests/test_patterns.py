@@ -1,4 +1,4 @@
-"""Which modules read the program's text by patterns: those of answers that are not printed as lines of JSON yet. There are to be fewer, never more."""
+"""Which modules read by patterns what the program prints for people. There are to be fewer, never more."""
 
 from __future__ import annotations
 
@@ -15,7 +15,7 @@ PACKAGE = Path(picklestep.__file__).parent
 # (A wheel has the page that is made of the scripts, and not these.)
 SCRIPTS = ROOT / 'python' / 'picklestep'
 DECISIONS = ROOT / 'docs' / 'DECISIONS.md'
-# How many patterns each of them has, of which the page of decisions says why: of objects. No script of the page has one.
+# How many patterns each of them has: the page of decisions says why. No script of the page has one.
 OF_TEXTS = {'scan/hash_steps.py': 5}
 OF_SCRIPTS: Dict[str, int] = {}
 # Others of `scan`. They read files of other forms: names of files and of members, headers, and what begins or holds a pickle. Five modules read names and

@@ -6,10 +6,12 @@ from __future__ import annotations
 import re
 import struct
 import unittest
+from itertools import chain
 from typing import Dict, Iterator, List, Union
 
 import picklestep
 from picklestep import Brief, Briefs, Extension, Global, Reach, Ref
+from picklestep.reaches import alike_by
 from pickles import ROOT, real_pickles
 
 # Kinds of values that stand for themselves; all others but texts, objects and names are a word and a value.
@@ -103,6 +105,26 @@ def given() -> Iterator[bytes]:
     yield b'ca\nb\n(' + b''.join(kinds.values()) + b'tR.'
 
 
+def rows() -> Iterator[bytes]:
+    """The pickles of the rows."""
+    found = re.findall(r'^pickle ([0-9a-f ]+)$', (ROOT / 'equipment' / 'calls.txt').read_text('ascii'), re.MULTILINE)
+    yield from map(bytes.fromhex, found)
+
+
+def spelled() -> Iterator[bytes]:
+    """Calls with one argument, and persistent ids, of which some are spelled in several ways, behind fewer objects and more."""
+    arguments = (b'Va\n', b'V\\u0061\n', b'\x8c\x01a', b'V\\ud800\n', b'X\x03\0\0\0\xed\xa0\x80', b'V\xe9\n', b'X\x02\0\0\0\xc3\xa9', b"S'a'\n", b"S'\\x61'\n",
+                 b'U\x01a', b'U\x01\xff', b"S'\\xff'\n", b'K\x05', b'\x8a\x01\x05', b'\x8a\x11\x05' + bytes(16), b'I5\n', b'I05\n', b'L5L\n', b'G\0\0\0\0\0\0\0\0',
+                 b'G\x80\0\0\0\0\0\0\0', b'G\x7f\xf8\0\0\0\0\0\0', b'F0.0\n', b'K\x01', b'\x88', b'I01\n', b'N', b']', b'}', b')', b'ca\nb\n', b'Va\nVb\n\x93',
+                 b"S'\\x61'\nVb\n\x93", b'Na\x93', b'c__builtin__\nid\n', b'\x82\x07', b'\x82\x08')
+    for before in (b'', b'NNN', b'\x80\x04N'):
+        for argument in arguments:
+            yield b'%bcm\nn\n%b\x85R.' % (before, argument)
+            yield b'%b%b)R%bb.' % (before, argument, argument)
+            yield b'%b%bQ.' % (before, argument)
+        yield from (b'%bP%b\n.' % (before, line) for line in (b'a', b'\xff', b'\\u0061', b''))
+
+
 class Lines(unittest.TestCase):
     """What is read of a line is the line."""
 
@@ -112,8 +134,7 @@ class Lines(unittest.TestCase):
         return len(answer)
 
     def test_rows(self) -> None:
-        rows = re.findall(r'^pickle ([0-9a-f ]+)$', (ROOT / 'equipment' / 'calls.txt').read_text('ascii'), re.MULTILINE)
-        self.assertGreater(sum(self.check(picklestep.calls(bytes.fromhex(row))) for row in rows), 200)
+        self.assertGreater(sum(self.check(picklestep.calls(row)) for row in rows()), 200)
 
     def test_real_pickles(self) -> None:
         for name, data in real_pickles().items():
@@ -130,6 +151,21 @@ class Lines(unittest.TestCase):
         answer = picklestep.calls(b'cm\nn\n(X\x88\x13\0\0' + b'a' * 5000 + b'tR.', full=True)
         self.assertEqual(len(answer[1].text), 5000 + len("call 'm' 'n' ('') as #3"))
         self.check(answer)
+
+    def test_what_is_alike(self) -> None:
+        """Two lines are alike by their fields exactly if they are the same text but for offsets and numbers of objects. (No such number is in quotes.)"""
+        by_fields: Dict[str, str] = {}
+        by_text: Dict[str, str] = {}
+        count = 0
+        for data in (*rows(), *given(), *spelled(), *real_pickles().values()):
+            answer = picklestep.calls(data, full=True)
+            for fields, reach in zip(chain(answer.fields(), *(part.fields() for part in answer.parts)), answer.everything()):
+                alike, text = alike_by(fields), re.sub(r"('(?:[^'\\]|\\.)*')|#[0-9]+", lambda found: found[1] or '#', reach.text)
+                count += 1
+                with self.subTest(reach.text):
+                    self.assertEqual((by_fields.setdefault(alike, text), by_text.setdefault(text, alike)), (text, alike))
+        self.assertGreater(count, 2 * len(by_text))
+        self.assertGreater(len(by_text), 200)
 
 
 if __name__ == '__main__':

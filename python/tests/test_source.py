@@ -513,10 +513,10 @@ class Interrupted(unittest.TestCase):
             for name, item in (('a', b'K\7'), ('b', b'K\x08')):
                 with open(os.path.join(folder, name), 'wb') as file:
                     file.write(b'](' + item * 3_000_000 + b'e.')
-            for words in (['source', '--full', 'a'], ['diff', 'a', 'b']):
+            for words in (['source', 'a'], ['diff', 'a', 'b']):
                 run = subprocess.Popen([sys.executable, '-m', 'picklestep', *words], cwd=folder, env=environment(), stdout=subprocess.DEVNULL,
                                        stderr=subprocess.PIPE, preexec_fn=heed_ctrl_c, start_new_session=True)
-                while sum(map(int, Path(f'/proc/{run.pid}/stat').read_text(encoding='ascii').rpartition(')')[2].split()[11:13])) < 120:
+                while run.poll() is None and sum(map(int, Path(f'/proc/{run.pid}/stat').read_text(encoding='ascii').rpartition(')')[2].split()[11:13])) < 120:
                     time.sleep(0.05)  # (it has begun to read once it has worked for so many hundredths of a second)
                 os.killpg(run.pid, signal.SIGINT)
                 self.assertEqual((run.communicate(timeout=600)[1], run.returncode), (b'picklestep: interrupted\n', 130), words)

@@ -381,7 +381,7 @@ class Opened(StoreCase):
                     for each in (str(alone), f'{url} > evil')]
             self.assertEqual((runs[1].returncode, runs[1].stdout), (runs[0].returncode, runs[0].stdout), words)
             self.assertEqual(runs[1].stderr, f"picklestep: opened 'redis://127.0.0.1:{port}/0 > evil' (25 bytes)\n")
-        run = subprocess.run([python, '-m', 'picklestep', 'mend', f'{url} > evil', new], env=environment(), capture_output=True, text=True, timeout=600)
+        run = subprocess.run([python, '-m', 'picklestep', 'mend', f'{url} > evil', '--save', new], env=environment(), capture_output=True, text=True, timeout=600)
         self.assertEqual((run.returncode, Path(new).read_bytes()), (0, HOSTILE), run.stderr)
         for address, said in ((url, f'redis://127.0.0.1:{port}/0 is a server: give the address of one value'),
                               (f'redis://:{SECRET}@127.0.0.1:{free_port()}/0 > evil', 'cannot read redis://127.0.0.1:')):

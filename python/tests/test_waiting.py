@@ -17,7 +17,7 @@ from terminals import shown_at
 _TOLD = re.compile(r'\r\x1b\[K([^\r\n]*) \.\. ([0-9]+) s \(Ctrl-C ends it\)')
 _WORDS = (
     ['convert', 'a.pickle', '--protocol', '2', '--save', 'converted'], ['convert', 'a.pickle', '--python2', '--save', 'texts'],
-    ['optimize', 'a.pickle', '--save', 'smaller'], ['mend', 'cut.pickle', 'mended'], ['source', 'a.pickle'], ['size', 'a.pickle'],
+    ['optimize', 'a.pickle', '--save', 'smaller'], ['mend', 'cut.pickle', '--save', 'mended'], ['source', 'a.pickle'], ['size', 'a.pickle'],
     ['diff', 'a.pickle', 'b.pickle'], ['view', '--export', 'report.html', 'a.pickle'], ['rename', 'oldapp', 'newapp', 'a.pickle', '--save', 'renamed'],
     ['rename', 'oldapp', 'newapp', 'a.pickle', 'b.pickle', '--jobs', '2', '--dry-run'], ['scan', 'a.pickle'], ['calls', 'a.pickle'],
     ['assemble', 'a.txt', '--save', 'assembled'])

@@ -70,6 +70,7 @@ is_put_together() {
 # address or a container (entrance.py asks the same). Without Python the program's lines are all.
 is_told_more() {
     command -v python3 >/dev/null || return 1
+    [ "$1" != opcodes ] || return 1 # (it has no file)
     case " $* " in ' calls '* | ' members '* | ' assemble '*' --save'* | ' assemble '*' --frame '*) return 0 ;; esac # (Python saves, and frames)
     opens=1 listed=''
     [ "$1" != assemble ] || opens=''
@@ -110,6 +111,6 @@ enter() {
     if command -v python3 >/dev/null; then
         exec python3 -I -S ${PYTHONDONTWRITEBYTECODE:+-B} "$package/entrance.py" "$@" # (further.py brings what -S leaves out)
     fi
-    echo 'picklestep: python3 (3.8 or later) is not there: only list, objects, calls, form, gate, reach, members, assemble, same and debug work without it' >&2
+    echo 'picklestep: python3 (3.8 or later) is not there: only list, objects, calls, form, gate, reach, members, assemble, same, opcodes and debug work without it' >&2
     exit 2
 }

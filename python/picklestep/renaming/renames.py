@@ -8,7 +8,7 @@ from __future__ import annotations
 from typing import TYPE_CHECKING, Dict, Iterable, Iterator, List, NamedTuple, Optional, Sequence, Set, Tuple, Union
 
 from ..edits import Edit, EditError, of_value
-from ..opcodes import BY_NAME
+from ..opcodes import of_kinds, of_rows
 from ..records import Reach
 from .pairs import Names, Pairs, encoded_names, names_of
 
@@ -18,9 +18,8 @@ if TYPE_CHECKING:
 
 __all__ = ['Renaming', 'renamed_of', 'renaming', 'renaming_of']
 
-_STORES = ('MEMOIZE', 'PUT', 'BINPUT', 'LONG_BINPUT')
-_GETS = ('GET', 'BINGET', 'LONG_BINGET')
-_TEXTS = tuple(name for name in BY_NAME if 'UNICODE' in name or 'STRING' in name)
+_STORES, _GETS = of_rows('memoize', 'put'), of_rows('get')
+_TEXTS = of_kinds('text', 'text-line', 'string', 'string-line')
 
 
 class Renaming(NamedTuple):
@@ -112,7 +111,7 @@ class _Texts:
         """The edits for one import: of its own argument, or of the texts that it takes from the stack."""
         place, parts = self._pickle.lines.place_of(each.offset), self._parts.get(-1 if each.number is None else each.number)
         if parts is None:
-            yield Edit('replace', place, self._pickle.lines.at(place).name, encoded_names(each.wanted))
+            yield Edit('replace', place, self._pickle.lines.name(place), encoded_names(each.wanted))
             return
         shared = [False, False]
         for at, (part, name, wanted) in enumerate(zip(parts, each.names, each.wanted)):
@@ -122,7 +121,7 @@ class _Texts:
             if shared[at]:
                 self._stays.add(maker)
             elif name != wanted:
-                yield self._text('replace', maker, wanted, self._pickle.lines.at(maker).name)
+                yield self._text('replace', maker, wanted, self._pickle.lines.name(maker))
         if any(shared):
             yield from self._own_texts(place, each.wanted, shared)
 
@@ -135,7 +134,7 @@ class _Texts:
             yield from (self._text('insert', place, text) for text in wanted)
             return
         for (first, end), text, is_shared in zip((module, name), wanted, shared):
-            if is_shared and end == first + 1 and self._pickle.lines.at(first).name in _GETS:
+            if is_shared and end == first + 1 and self._pickle.lines.name(first) in _GETS:
                 yield self._text('replace', first, text)
             elif is_shared:
                 yield Edit('insert', end, 'POP')
@@ -144,9 +143,9 @@ class _Texts:
     def _pushed(self, end: int) -> Optional[Tuple[int, int]]:
         """The opcode that pushes a text, perhaps with others that store it, right before a place: where it is, and where these end."""
         first = end - 1
-        while first >= 0 and self._pickle.lines.at(first).name in _STORES:
+        while first >= 0 and self._pickle.lines.name(first) in _STORES:
             first -= 1
-        return (first, end) if first >= 0 and self._pickle.lines.at(first).name in _GETS + _TEXTS else None
+        return (first, end) if first >= 0 and self._pickle.lines.name(first) in _GETS + _TEXTS else None
 
     def _text(self, word: str, place: int, text: str, now: str = '') -> Edit:
         try:

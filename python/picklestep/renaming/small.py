@@ -42,7 +42,11 @@ class _Opcodes:
 
     def at(self, place: int) -> _Line:
         """The opcode at a place."""
-        return _Line(BY_CODE[self.codes[place]].name, self._content[min(self.offsets[place] + 1, len(self._content) - 1)])
+        return _Line(self.name(place), self._content[min(self.offsets[place] + 1, len(self._content) - 1)])
+
+    def name(self, place: int) -> str:
+        """The name of the opcode at a place."""
+        return BY_CODE[self.codes[place]].name
 
     def place_of(self, offset: int) -> int:
         """The place of the opcode that begins at an offset."""
