@@ -14,8 +14,8 @@ from typing import Dict, List, NamedTuple, Optional
 HOLDS, MISSED, SHORT = 'holds', '**missed**', 'too short to say'
 # The head of the last column, which says whether the bars of a row hold.
 RESULT = 'result'
-# The bars of instructions. All others are of times, but for bytes and MB.
-COUNTED = ('`list`', '`objects`', '`calls`', '`debug`', '`show`', 'twice the file', 'times as many', 'times as many instructions for twice as many')
+# The bars of instructions, besides those that are named after a command. All others are of times, but for bytes and MB.
+COUNTED = ('twice the file', 'times as many', 'times as many instructions for twice as many')
 # A time of fewer seconds says nothing: times are counted in hundredths, and other work of the machine is in them.
 SHORTEST = 0.1
 
@@ -63,7 +63,7 @@ def verdict(bars: Dict[str, Compared]) -> str:
 
 def kind_of(bar: str) -> str:
     """What a bar is about: instructions, memory, or time."""
-    if bar in COUNTED:
+    if bar in COUNTED or bar.startswith('`'):
         return 'instructions'
     return 'memory' if 'bytes' in bar or bar == 'MB' else bar if bar == 'status' else 'time'
 

@@ -9,6 +9,7 @@ import subprocess
 import sys
 import tempfile
 from collections.abc import Callable, Sequence
+from concurrent.futures import ThreadPoolExecutor
 from typing import NamedTuple
 
 from bars import at_most, heading, verdict
@@ -20,6 +21,8 @@ TWICE = 2.1
 PARTS = 10_000
 # what a command takes of this one, it takes of any file: it is left out of what is compared
 SMALLEST = b'N.'
+# instructions for each byte to read a file into memory that grows by steps: a command that ends at the beginning takes no more, and counts as this many
+TO_READ = 4
 
 
 # --- Shapes: a pickle of so many parts ---
@@ -40,6 +43,11 @@ def gets_at_random(parts: int) -> bytes:
     return b'N\x94' * parts + b''.join(b'j' + little(part * 7919 % parts, 4) for part in range(parts)) + b'.'
 
 
+def few_keys_far_apart(parts: int) -> bytes:
+    """Each of 4,096 keys is given again and again."""
+    return b'N' + b''.join(b'r' + little(part % 4096 << 20, 4) for part in range(parts)) + b'.'
+
+
 def frames(parts: int) -> bytes:
     return b'\x80\x04' + (b'\x95' + little(2, 8) + b'N0') * parts + b'N.'
 
@@ -54,6 +62,12 @@ def many_calls_of_many_arguments(parts: int) -> bytes:
     return b'cm\nn\nq\x000(' + side + b'tq\x010' + b'h\x00h\x01R0' * parts + b'N.'
 
 
+def calls_with_one_text(parts: int) -> bytes:
+    """The lines of `calls` have the text again and again, and the pickle has it once."""
+    text = b'\x8c' + bytes([200]) + b'a' * 200 + b'q\x000'
+    return text + b'cm\nn\nq\x010' + b'h\x01h\x00\x85R0' * parts + b'N.'
+
+
 class Shape(NamedTuple):
     """What it is, its pickle of so many parts, whether that is several pickles, and how many times fewer parts it gets."""
 
@@ -65,8 +79,10 @@ class Shape(NamedTuple):
 
 SHAPES = [
     Shape('open marks', lambda parts: b'(' * parts + b'N.', divisor=10),
+    Shape('objects above open marks', lambda parts: b'(' * parts + b'N0' * parts + b'N.', divisor=33),
     Shape('marks that are set and taken', lambda parts: b'(N1' * parts + b'N.'),
     Shape('keys of the memo far apart', keys_far_apart),
+    Shape('4,096 keys of the memo far apart', few_keys_far_apart),
     Shape('PUT of the largest keys', largest_keys),
     Shape('MEMOIZE, and gets at random', gets_at_random),
     Shape('GLOBAL, each another', lambda parts: b''.join(b'cm%d\nn\n0' % part for part in range(parts)) + b'N.'),
@@ -84,13 +100,34 @@ SHAPES = [
     Shape('calls of one function', lambda parts: b'cm\nn\nq\x000' + b'h\x00)R0' * parts + b'N.'),
     Shape('calls of what a call made', lambda parts: b'cm\nn\n' + b')R' * parts + b'.'),
     Shape('calls with many arguments', many_calls_of_many_arguments, divisor=5),
+    Shape('calls with one text', calls_with_one_text),
+    Shape('a call with tuples of the same twice', lambda parts: b'cm\nn\nN' + b'2\x86' * parts + b'R.'),
     Shape('states of one object', lambda parts: b'cm\nn\n)R' + b'}b' * parts + b'.'),
     Shape('many small pickles', lambda parts: b'N.' * parts, many=True),
     Shape('early end: no STOP', lambda parts: b'N0' * parts),
     Shape('early end: a refused POP', lambda parts: b'N0' * parts + b'0N.'),
     Shape('early end behind calls', lambda parts: b'cm\nn\nq\x000' + b'h\x00)R0' * parts),
 ]
-COMMANDS = ('list', 'objects', 'calls', 'debug')
+# what stands for the file of a shape, and for a list that allows all names
+FILE, NAMES = 'FILE', 'NAMES'
+ALL_NAMES = b'**\n'
+# `same` compares the file with itself
+COMMANDS = {
+    'list': ('list', FILE),
+    'list --json': ('list', '--json', FILE),
+    'objects': ('objects', FILE),
+    'objects --json': ('objects', '--json', FILE),
+    'calls': ('calls', FILE),
+    'calls --full': ('calls', '--full', FILE),
+    'calls --json': ('calls', '--json', FILE),
+    'form': ('form', FILE),
+    'reach': ('reach', FILE),
+    'gate': ('gate', NAMES, FILE),
+    'same': ('same', FILE, FILE),
+    'debug': ('debug', FILE),
+}
+# the words with an option for several pickles
+OF_SEVERAL = ('list', 'objects', 'same', 'debug')
 # `debug` runs to the end; what `show` takes is what it adds to that
 RUN, SHOW = b'run\n', b'run\nshow 0\n'
 
@@ -98,18 +135,22 @@ RUN, SHOW = b'run\n', b'run\nshow 0\n'
 # --- Runs ---
 
 class Asked(NamedTuple):
-    """A command, and the file with the lines that it reads."""
+    """A command, with a word in the place of its file, and the file with the lines that it reads."""
 
     words: Sequence[str]
     lines: str
 
+    def of(self, path: str) -> list[str]:
+        """The command that is about a file."""
+        return [path if word == FILE else word for word in self.words]
+
     def instructions(self, path: str) -> int:
-        return instructions([*self.words, path], self.lines)
+        return instructions(self.of(path), self.lines)
 
     def printed(self, path: str) -> int:
         """How many bytes it prints."""
         with open(self.lines, 'rb') as given, tempfile.TemporaryFile() as answer:
-            subprocess.run([*self.words, path], stdin=given, stdout=answer, stderr=subprocess.DEVNULL)
+            subprocess.run(self.of(path), stdin=given, stdout=answer, stderr=subprocess.DEVNULL)
             return answer.seek(0, os.SEEK_END)
 
 
@@ -122,25 +163,37 @@ def written(folder: str, name: str, content: bytes) -> str:
 
 def questions(program: str, folder: str, many: bool) -> dict[str, tuple[Asked, Asked | None]]:
     """What is compared: each command, and what of it is left out."""
-    run, show = written(folder, 'run', RUN), written(folder, 'show', SHOW)
-    options = ['--many'] if many else []
-    plain = {word: Asked([program, word, *options], run) for word in COMMANDS}
-    return {**{word: (asked, None) for word, asked in plain.items()}, 'show': (Asked([program, 'debug', *options], show), plain['debug'])}
+    run, show, names = (written(folder, name, content) for name, content in (('run', RUN), ('show', SHOW), ('names', ALL_NAMES)))
+    plain = {}
+    for what, (word, *rest) in COMMANDS.items():
+        options = ['--many'] if many and word in OF_SEVERAL else []
+        plain[what] = Asked([program, word, *options, *(names if each == NAMES else each for each in rest)], run)
+    return {**{what: (asked, None) for what, asked in plain.items()}, 'show': (plain['debug']._replace(lines=show), plain['debug'])}
+
+
+def grown(asked: Asked, within: Asked | None, smallest: str, once: str, twice: str) -> float:
+    """How many times as much a command takes of twice the file."""
+    if within is not None:
+        taken, more = (asked.instructions(path) - within.instructions(path) for path in (once, twice))
+    else:
+        least = asked.instructions(smallest)
+        taken, more = (max(asked.instructions(path) - least, TO_READ * os.path.getsize(path)) for path in (once, twice))
+    return more / taken
 
 
 def row(program: str, folder: str, shape: Shape, parts: int) -> str:
     """A line of the table: how many times as much each command takes of twice the file."""
     smallest, once, twice = (written(folder, name, content) for name, content in (
         ('smallest', SMALLEST), ('once', shape.make(parts)), ('twice', shape.make(2 * parts))))
-    factors, bars, quadratic = [], {}, []
-    for word, (asked, within) in questions(program, folder, shape.many).items():
-        least = asked.instructions(smallest) if within is None else 0
-        taken, more = (asked.instructions(path) - (within.instructions(path) if within else least) for path in (once, twice))
-        factors.append(more / taken)
-        longer = asked.printed(twice) / asked.printed(once) if factors[-1] > TWICE else 0
+    asked_of = questions(program, folder, shape.many)
+    bars, quadratic = {}, []
+    with ThreadPoolExecutor(os.cpu_count()) as pool:  # (how many there are depends on nothing else that runs)
+        factors = list(pool.map(lambda each: grown(each[0], each[1], smallest, once, twice), asked_of.values()))
+    for (word, (asked, _)), factor in zip(asked_of.items(), factors):
+        longer = asked.printed(twice) / asked.printed(once) if factor > TWICE else 0
         if longer > TWICE:
             quadratic.append(f'; the output of `{word}` is {longer:.2f} times as long')
-        bars[f'`{word}`'] = at_most(factors[-1], TWICE if longer <= TWICE else round(TWICE / 2 * longer, 2))
+        bars[f'`{word}`'] = at_most(factor, TWICE if longer <= TWICE else round(TWICE / 2 * longer, 2))
     cells = ' | '.join(f'{factor:.2f}' for factor in factors)
     return f'| {shape.what} | {os.path.getsize(once) / 1000:,.1f} | {cells} | {verdict(bars)}{"".join(quadratic)} |'
 
@@ -150,8 +203,9 @@ def main() -> None:
     if '--alone' in sys.argv:
         print(when(scale))
     print(heading('Growth', 'How many times the instructions each command takes of a file that is twice as large as one of *KB*. `debug` runs to the '
-                  'end. `show` is what `show 0` adds to that: in most shapes it shows one small object among many. What a command takes of the '
-                  'smallest pickle is left out. '
+                  'end. `show` is what `show 0` adds to that: in most shapes it shows one small object among many. `gate` has a list that allows all '
+                  'names, and `same` compares the file with itself. What a command takes of the smallest pickle is left out. '
+                  f'A command that ends at the beginning of the file only reads it, which counts as {TO_READ} instructions for each byte. '
                   f'Bars: {TWICE} times; where the output itself grows by more, the result says so, and that many times and a twentieth.',
                   'Shape', 'KB', *(f'`{word}`' for word in (*COMMANDS, 'show'))))
     with tempfile.TemporaryDirectory() as folder:

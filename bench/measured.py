@@ -83,7 +83,7 @@ WORDS = [
     Word('`debug`, run to the end', [ENTRANCE, 'debug', 'FILE'], b'run\n', largest=100),
     Word('`calls`', [ENTRANCE, 'calls', 'FILE'], largest=100),
     Word('`scan`', [ENTRANCE, 'scan', *WITHOUT_LIMITS, 'FILE'], largest=100),
-    Word('`mend` of the same, cut off', [ENTRANCE, 'mend', 'CUT', 'OUT'], status=1),
+    Word('`mend` of the same, cut off', [ENTRANCE, 'mend', 'CUT', '--save', 'OUT'], status=1),
     Word('`assemble` of what `list` prints', [ENTRANCE, 'assemble', 'TEXT', '--save', 'OUT']),
     Word('`source`', [ENTRANCE, 'source', 'FILE'], largest=1),
     Word('`picklestep.tree` (Python)', [sys.executable, '-c', PACKAGE + 'picklestep.tree(sys.argv[1])', 'FILE'], largest=1),

@@ -144,10 +144,12 @@ static uint8_t ask_gate(const char *path, memory given, memory out, picklestep_w
 }
 
 static uint8_t ask_same(const char *path, memory given, memory out, picklestep_written *written) {
-    const char *many = "--many ";
+    const char *json = "--json ", *many = "--many ";
+    bool is_json = begins(path, json);
+    path += is_json ? strlen(json) : 0;
     bool is_many = begins(path, many);
     memory one = content_of(path + (is_many ? strlen(many) : 0));
-    uint8_t found = picklestep_same(is_many, one.bytes, one.size, given.bytes, given.size, out.bytes, out.size, written);
+    uint8_t found = (is_json ? picklestep_same_json : picklestep_same)(is_many, one.bytes, one.size, given.bytes, given.size, out.bytes, out.size, written);
     free(one.bytes);
     return found;
 }
@@ -177,6 +179,8 @@ static uint8_t ask(const char *task, memory given, memory out, picklestep_writte
         return picklestep_form(given.bytes, given.size, out.bytes, out.size, written);
     if (!strcmp(task, "members"))
         return picklestep_members(given.bytes, given.size, out.bytes, out.size, written);
+    if (!strcmp(task, "members --json"))
+        return picklestep_members_json(given.bytes, given.size, out.bytes, out.size, written);
     if (!strcmp(task, "assemble"))
         return picklestep_assemble(given.bytes, given.size, out.bytes, out.size, written);
     if (!strcmp(task, "form --json"))

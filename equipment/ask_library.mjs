@@ -12,6 +12,7 @@ const TASKS = {
     'form': ['picklestep_form'],
     'form --json': ['picklestep_form_json'],
     'members': ['picklestep_members'],
+    'members --json': ['picklestep_members_json'],
     'assemble': ['picklestep_assemble'],
     'debug': ['picklestep_debug', 0],
     'debug --many': ['picklestep_debug', 1],
@@ -26,12 +27,11 @@ if (WebAssembly.Module.imports(module).length) throw new Error('it has imports')
 // The function for a task, and what comes before its other arguments: holes and lists are put into its memory.
 function asked(task, library) {
     if (TASKS[task]) return TASKS[task];
-    const [, word, option, path] = /^(gate|same) (--json |--many )?(.+)$/.exec(task) ?? [];
+    const [, word, json, many, path] = /^(gate|same) (--json )?(--many )?(.+)$/.exec(task) ?? [];
     if (word) {
         const before = readFileSync(path), place = library.take(BigInt(before.length + 1));
         if (place) new Uint8Array(library.memory.buffer).set(before, Number(place));
-        const name = word === 'same' ? ['picklestep_same', option ? 1 : 0] : [option ? 'picklestep_gate_json' : 'picklestep_gate'];
-        return [...name, place, BigInt(before.length)];
+        return [`picklestep_${word}${json ? '_json' : ''}`, ...(word === 'same' ? [many ? 1 : 0] : []), place, BigInt(before.length)];
     }
     const words = task.split(' '), sum = (values) => words.map((word) => values[word] ?? 0).reduce((all, one) => all | one);
     const options = sum(words[0] === 'reach' ? GRANTED : OPTIONS);

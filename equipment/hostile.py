@@ -1,4 +1,4 @@
-"""Gives the program and the library inputs that are deep or long, with a stack of 256 KiB. The library answers in this process.
+"""Gives the program inputs that are deep or long, with a stack of 256 KiB, and some to the library, which answers in this process.
 
 (Inputs that are cut short have a law of fuzz.py.)
 """
@@ -165,6 +165,8 @@ ROWS = [
     ("lengths at their largest", largest_lengths, len(LARGEST)),
     ("each byte alone", single_bytes, 256),
 ]
+# Those of the library, which is made of the same code: objects in one another, a long line, and lines of calls.
+OF_LIBRARY = (deep_tuples, many_parts, deep_arguments)
 
 
 def limit_stack() -> None:
@@ -188,9 +190,7 @@ class Hostile:
         return f"{self.inputs} inputs, by hostile.py"
 
 
-def trials_of(hostile: Hostile, program: str, by: str) -> list[Trial]:
-    return [Trial(f"{name}{by}", functools.partial(hostile.row_fault, program, row, count)) for name, row, count in ROWS]
-
-
 def trials(hostile: Hostile) -> list[Trial]:
-    return [*trials_of(hostile, hostile.program, ""), *trials_of(hostile, hostile.library, ", by the library")]
+    made = [Trial(name, functools.partial(hostile.row_fault, hostile.program, row, count)) for name, row, count in ROWS]
+    of_library = [each for each in ROWS if each[1] in OF_LIBRARY]
+    return [*made, *(Trial(f"{name}, by the library", functools.partial(hostile.row_fault, hostile.library, row, count)) for name, row, count in of_library)]

@@ -55,6 +55,11 @@ SAID = {
         "too_large": "it unpacks to .*",
     }.items()
 }
+# What `members` and `same` say.
+IN_ARCHIVE = re.compile(rf"(\d+): (\d+) (?:stored|deflated to (\d+)) ({QUOTED})")
+NO_ARCHIVE = re.compile(r"not in form: (\d+): (.*)\n")
+OTHER_OBJECT, OF_ONE = re.compile(r"another object #(\d+)\n"), re.compile(r"(first|second): (.*)\n")
+COMPARED = {"the same objects\n": "same", "another result\n": "results", "other calls, or in another order\n": "order"}
 # What opcodes reach, but for imports.
 REACHES = {"EXT1": "extension", "EXT2": "extension", "EXT4": "extension", "PERSID": "persistent", "BINPERSID": "persistent", "NEXT_BUFFER": "buffer"}
 # The faults of frames.
@@ -195,3 +200,40 @@ def of_form(text: str) -> Fields:
     if other is None:
         return {"kind": "end", "how": "in_form"}
     return {"kind": "end", "how": "other_form", "item": whole(other[1]), "offset": whole(other[2]), "words": other[3]}
+
+
+def of_member(line: str) -> Fields:
+    """The object of a member's line."""
+    found = IN_ARCHIVE.fullmatch(line)
+    if found is None:
+        raise ValueError(line)
+    offset, size, packed, name = found.groups()
+    method: Fields = {"method": "stored"} if packed is None else {"method": "deflated", "packed": whole(packed)}
+    return {"kind": "member", **of_bytes("name", unquoted(name)), "offset": whole(offset), "size": whole(size), **method}
+
+
+def of_members(text: str) -> Iterator[Fields]:
+    """The objects of the members of a file."""
+    other = NO_ARCHIVE.fullmatch(text)
+    if other is not None:
+        yield {"kind": "end", "how": "not_in_form", "offset": whole(other[1]), "words": other[2]}
+    elif text.startswith("it unpacks to "):
+        yield {"kind": "end", "how": "too_large"}
+    else:
+        yield from map(of_member, text.splitlines())
+        yield {"kind": "end", "how": "whole"}
+
+
+def of_same(text: str) -> Nested:
+    """The object of whether two pickles make the same."""
+    if text in COMPARED:
+        return {"kind": "same", "how": COMPARED[text]}
+    if number := OTHER_OBJECT.fullmatch(text):
+        return {"kind": "same", "how": "object", "object": whole(number[1])}
+    found = OF_ONE.fullmatch(text)
+    if found is None:
+        raise ValueError(text)
+    file = "first" if found[1] == "first" else "other"
+    if found[2] == "bytes follow behind the pickle":
+        return {"kind": "same", "how": f"{file}_goes_on"}
+    return {"kind": "same", "how": f"{file}_ends", "end": [*of_objects(f"{found[2]}\n")][-1]}

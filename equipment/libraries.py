@@ -1,6 +1,7 @@
 """Tries the library in each of its forms: each answer is, byte for byte, what the program prints. The examples of docs/reference/library.md run.
 
-One form gets all rows and real pickles: the shared library for x86-64, which the package asks. The others get a sample (sample.py).
+One form gets all rows and real pickles: the shared library for x86-64, which the package asks. The others get a sample (sample.py). Options are
+asked for in all rows, and of some real pickles.
 """
 
 from __future__ import annotations
@@ -74,7 +75,10 @@ MUSL, MUSL_HEADERS, MUSL_LOADER = Path("/usr/lib/x86_64-linux-musl"), Path("/usr
 ARM_ROOT = Path("/usr/aarch64-linux-gnu")
 # (of these lines some edit each pickle, and some are refused)
 EDITS = b"insert 0 GLOBAL 6f730a6765746377640a\ngoto 1\nstep\ninsert 2 NONE\nundo\nnonsense\ndelete 3\nframe 2 2\nrun\n"
-MODES = ((), ("--many",), ("--unframed",), ("--window", "3"))
+MODES = ((), ("--window", "3"), ("--many",), ("--unframed",))
+# One real pickle in so many is asked about with options, and one in so many where most is known of another way.
+WITH_OPTIONS, SOME = 5, 10
+WAYS_OF_PAIRS = 4
 WARNINGS = ("-Wall", "-Wextra", "-Werror")
 OF_STOPS = {1: b"picklestep: out of memory\n", 2: b"picklestep: too large\n", 4: b"no task\n"}
 SEED_OF_LAWS, CASES_OF_LAWS = 2, 400
@@ -123,6 +127,12 @@ class Libraries(Machines):
             yield Answer(2, b"", OF_STOPS[answer]) if answer else Answer(status, (folder / str(number)).read_bytes(), b"")
 
     @functools.cached_property
+    def real(self) -> list[Asked]:
+        """Each function over each real pickle, and with options over some."""
+        files = sorted(self.pickles.glob("*.pickle"))
+        return [Asked(words, file) for number, file in enumerate(files) for words in self.tasks if len(words) == 1 or number % WITH_OPTIONS == 0]
+
+    @functools.cached_property
     def rows(self) -> list[Asked]:
         """The rows that the library has a function for."""
         return [replace(asked, saves=False) for asked in self.asked_of(row for row in rows() if row.words in TASKS)]
@@ -133,19 +143,18 @@ class Libraries(Machines):
         chosen = self.asked_of(sample_of(row for row in rows() if row.words in TASKS))
         return [*(replace(asked, saves=False) for asked in chosen), *self.some]
 
-    def sessions(self, every: int) -> tuple[list[Asked], list[Answer], list[Asked]]:
-        """Conversations about each real pickle, or about one in so many: what the program is asked, what it saves after each, and what the library is asked
-        for both."""
-        folder = self.folder / "saved"
-        folder.mkdir(parents=True, exist_ok=True)
+    def sessions(self, is_whole: bool) -> tuple[list[Asked], list[Answer], list[Asked]]:
+        """Conversations about some real pickles in each mode, and where all are asked about the others in two: what the program is asked, what it saves
+        after each, and what the library is asked for both."""
+        out = self.folder / "saved.pickle"
         talks: list[Asked] = []
         saved: list[Answer] = []
         runs: list[Asked] = []
-        for file in sorted(self.pickles.glob("*.pickle"))[::every]:
-            for modes in MODES:
-                out = folder / "saved.pickle"
-                subprocess.run([self.program, "debug", file, *modes, "--save", out], input=EDITS, capture_output=True, timeout=300, check=False)
+        for number, file in enumerate(sorted(self.pickles.glob("*.pickle"))):
+            for modes in MODES if number % SOME == 0 else MODES[:2] if is_whole else ():
+                done = subprocess.run([self.program, "debug", *modes, file, "--save", out], input=EDITS, capture_output=True, timeout=300, check=False)
                 talks.append(Asked(("debug", *modes), file, EDITS))
+                self.answers[talks[-1]] = Answer(done.returncode, done.stdout, done.stderr)
                 saved.append(Answer(0, out.read_bytes(), b""))
                 runs.append(Asked(("session", *modes), file, EDITS))
         return talks, saved, runs
@@ -174,13 +183,19 @@ class Libraries(Machines):
     @functools.cached_property
     def of_members(self) -> list[Asked]:
         """The bytes of the trial of the members of archives."""
-        return self.in_files("members", ((("members",), case.given) for case in MEMBERS))
+        return self.in_files("members", ((("members", *json), case.given) for case in MEMBERS for json in ((), ("--json",))))
 
     @functools.cached_property
     def of_pairs(self) -> list[Asked]:
         """Real pickles that are compared with themselves, and with others."""
         files = sorted(self.pickles.glob("*.pickle"))
-        return [Asked(("same", *many, str(one)), other) for one, next_one in zip(files, files[1:]) for other in (one, next_one) for many in ((), ("--many",))]
+        pairs = [(one, other) for one, next_one in zip(files, files[1:]) for other in (one, next_one)]
+        return [Asked(("same", *json, *many, str(one)), other) for one, other in pairs for many in ((), ("--many",)) for json in ((), ("--json",))]
+
+    @functools.cached_property
+    def of_some_pairs(self) -> list[Asked]:
+        """Some of them, in each of these ways."""
+        return [asked for number, asked in enumerate(self.of_pairs) if number // WAYS_OF_PAIRS % SOME == 0]
 
     # --- The ways to link it ---
 
@@ -281,7 +296,7 @@ def compared(libraries: Libraries, way: str, kind: str) -> Noted:
 def of_sessions(libraries: Libraries, way: str) -> "str | Noted":
     """The lines that are asked one after another of a session that stays open are answered as the program answers a script of them, and its bytes are
     then those that the program saves."""
-    talks, saved, runs = libraries.sessions(1 if way == WHOLE else 10)
+    talks, saved, runs = libraries.sessions(way == WHOLE)
     command = getattr(libraries, way)()
     for run, wanted, found in zip(runs, saved, libraries.asked(command, [replace(run, words=("saved", *run.words[1:])) for run in runs]), strict=True):
         if found != wanted:
@@ -396,7 +411,10 @@ ROWS: list[tuple[str, Callable[[Libraries], "str | Noted"]]] = [
     *((f"the library, {WAYS[way]}: lists of the gate", functools.partial(compared, way=way, kind="at_gate")) for way in (WHOLE, "arm", "module")),
     *((f"the library, {WAYS[way]}: what is reached", functools.partial(compared, way=way, kind="of_reach")) for way in (WHOLE, "arm", "module")),
     *((f"the library, {WAYS[way]}: members of archives", functools.partial(compared, way=way, kind="of_members")) for way in (WHOLE, "arm", "module")),
-    *((f"the library, {WAYS[way]}: pickles that are compared", functools.partial(compared, way=way, kind="of_pairs")) for way in (WHOLE, "arm", "module")),
+    *(
+        (f"the library, {WAYS[way]}: pickles that are compared", functools.partial(compared, way=way, kind="of_pairs" if way == WHOLE else "of_some_pairs"))
+        for way in (WHOLE, "arm", "module")
+    ),
     *((f"the library, {WAYS[way]}: options of no task", functools.partial(no_tasks, way=way)) for way in (WHOLE, "module")),
     ("the library: a window keeps few records", keeps_a_window),
     ("the library: random pickles and scripts", fuzzed),

@@ -320,10 +320,9 @@ def trials(loads: Loads, pickles: pathlib.Path) -> list[Trial]:
     made.append(Trial("oddities in loaders", functools.partial(_odd, loads, rows)))
     as_bytes = functools.partial(loads.fault, "odd_bytes", [row.data for row in rows], ["--bytes"])
     made.append(Trial("oddities in loaders for which STRING is bytes", as_bytes))
-    for number in range(8):
+    for number in (0, 1, 3):  # (by the last one STRING is read as bytes)
         made.append(Trial(f"pickles {number} of seed {SEED} in loaders", functools.partial(_tried, loads, "singles", number, real)))
-    for number in range(2):
-        made.append(Trial(f"rows {number} of seed {SEED} in loaders", functools.partial(_tried, loads, "rows", number, real)))
+    made.append(Trial(f"rows of seed {SEED} in loaders", functools.partial(_tried, loads, "rows", 0, real)))
     made.append(Trial(f"rows of seed {SEED} in loaders that keep their memo", functools.partial(_tried, loads, "kept", 0, real)))
     return [*made, Trial("names of Python 2", old_names)]
 

@@ -32,6 +32,7 @@ from trials.trial import Lack, Noted, Trial
 
 STATIC, ARM, MODULE, SCRIPTED = "linux-x86_64-static/picklestep", "linux-aarch64/picklestep", "picklestep.wasm", "picklestep.mjs"
 BUILT = "linux-x86_64/picklestep"
+LIBRARY = "linux-x86_64-library"
 # What is asked of a real pickle in a conversation. (`nonsense` is refused.)
 SCRIPT = b"run\nstack\nmemo\nobjects\nback\nwhere\nnonsense\ninsert 0 NONE\nitems\nundo\nquit\n"
 TASKS = (
@@ -60,7 +61,7 @@ AT_ONCE = 4
 NEEDS_OTHERS = ("INTERP", "NEEDED")
 LIMITS = (8, 16, 32, 64)  # MiB
 LIMITS_OF_ARM = (48, 64, 96)  # MiB of addresses in the emulator, which puts a stack and the like into the first 40
-MOST_BYTES = 12_750_000
+MOST_BYTES = 13_750_000
 
 
 class Answer(NamedTuple):
@@ -150,15 +151,10 @@ class Machines:
         return f"{self.runs} runs for further machines were compared, by machines.py"
 
     @functools.cached_property
-    def real(self) -> list[Asked]:
-        """Each task over each real pickle."""
-        files = sorted(self.pickles.glob("*.pickle"))
-        return [Asked(words, file) for file in files for words in self.tasks]
-
-    @property
     def some(self) -> list[Asked]:
-        """A few of them, with each task among them."""
-        return self.real[:: 10 * len(self.tasks) + 1]
+        """Each task over another real pickle."""
+        files = sorted(self.pickles.glob("*.pickle"))
+        return [Asked(words, file) for words, file in zip(self.tasks, files[:: len(files) // len(self.tasks)])]
 
     @functools.cached_property
     def sample(self) -> list[Asked]:
@@ -311,26 +307,27 @@ class Machines:
                 (to / name).unlink(missing_ok=True)
 
 
-def make(machines: Machines, to: Path) -> bytes:
-    """Makes the programs for further machines, and answers why not, or nothing."""
-    done = subprocess.run([sys.executable, "-B", str(machines.root / "targets/make.py"), str(to)], capture_output=True, check=False)
-    return done.stderr if done.returncode != 0 else b""
-
-
 def made_again(machines: Machines) -> str:
-    """From what the proofs built, each byte for byte. Tools of another version make others, so that nobody knows what is released: that
-    fails."""
-    to = machines.folder / "made"
-    fault = beginning(make(machines, to))
-    if "is not installed" in fault:
-        raise Lack(fault)
-    if fault:
-        return fault
-    files = [line.split()[1] for line in (machines.dist / "SHA256SUMS").read_text().splitlines()]
-    for file in (*files, "SHA256SUMS"):
-        if not filecmp.cmp(to / file, machines.dist / file, shallow=False):
-            return f"{file} differs from that in dist"
-    return ""
+    """A program and a library, from what the proofs built, byte for byte: one of each LLVM module. (./release makes all of both, and dist/SOURCES says of
+    what.) Tools of another version make others, so that nobody knows what is released: that fails."""
+    sys.path.insert(0, str(machines.root / "targets"))
+    import make
+    folder, to = machines.folder / "modules", machines.folder / "made"
+    try:
+        make.check_tools()
+        make.build_beside()
+        with ThreadPoolExecutor() as pool:
+            modules = pool.map(lambda crate: make.plain_text(make.keep_module(crate, folder), folder, crate), make.CRATES)
+        maker = make.Maker(folder, *modules)
+        (to / STATIC).parent.mkdir(parents=True)
+        maker.make_static(to / STATIC)
+        maker.make_library(make.X86, to / LIBRARY)
+    except make.Fault as fault:
+        if "is not installed" in str(fault):
+            raise Lack(str(fault)) from fault
+        return str(fault)
+    files = (STATIC, *(f"{LIBRARY}/{part}" for part in make.PARTS))
+    return next((f"{file} differs from that in dist" for file in files if not filecmp.cmp(to / file, machines.dist / file, shallow=False)), "")
 
 
 def other_tools(machines: Machines) -> str:
@@ -354,7 +351,7 @@ def alone(machines: Machines, file: str) -> str:
 
 
 def in_empty_root(machines: Machines) -> Noted:
-    return machines.compare_in(machines.empty_root, ["/picklestep"], machines.sample)
+    return machines.compare_in(machines.empty_root, ["/picklestep"], machines.some)
 
 
 def on_alpine(machines: Machines) -> Noted:
@@ -377,7 +374,7 @@ def on_plain(machines: Machines) -> Noted:
     refused = subprocess.run([*plain, str(machines.dist / BUILT), "list"], capture_output=True, check=False)
     if refused.returncode != 127:
         return Noted(f"the processor has more: status {refused.returncode}, errors {beginning(refused.stderr)}", "")
-    return machines.compare_all([*plain, str(machines.dist / STATIC)], machines.sample)
+    return machines.compare_all([*plain, str(machines.dist / STATIC)], machines.some)
 
 
 def in_arm_root(machines: Machines) -> Noted:
@@ -545,11 +542,11 @@ Row = tuple[str, Callable[[Machines], "str | Noted"]]
 ROWS: list[Row] = [
     ("the sample meets each word, option, opcode and code", lambda machines: fault_of_sample(machines.root)),
     ("further machines: tools of another version are noted", other_tools),
-    ("further machines: dist is under 12.75 MB", size_of_all),
+    ("further machines: dist is under 13.75 MB", size_of_all),
     ("x86-64, static: needs no other file", lambda machines: alone(machines, STATIC)),
-    ("x86-64, static: the sample in an empty root", in_empty_root),
+    ("x86-64, static: each task in an empty root", in_empty_root),
     ("x86-64, static: a few real pickles on what is like an Alpine", on_alpine),
-    ("x86-64, static: the sample on the plainest processor, under an emulator", on_plain),
+    ("x86-64, static: each task on the plainest processor, under an emulator", on_plain),
     ("x86-64, static: out of memory is an answer", memory_of_static),
     ("ARM: needs no other file", lambda machines: alone(machines, ARM)),
     ("ARM, under an emulator: the sample in a root with nothing else", in_arm_root),
@@ -565,7 +562,7 @@ ROWS: list[Row] = [
 
 def making(machines: Machines) -> list[Trial]:
     """This takes as long as a group: two programs are proved for it."""
-    return [Trial("further machines: made again, each is the released one", functools.partial(made_again, machines))]
+    return [Trial("further machines: made again, a program and a library are the released ones", functools.partial(made_again, machines))]
 
 
 def trials(machines: Machines) -> list[Trial]:

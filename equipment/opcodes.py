@@ -1,12 +1,13 @@
 """Compares the table of opcodes with Python's pickletools, and with it the lists of opcodes of the package and of the tests.
 
-The table is the macro `opcodes!` in crates/pickle_ops/src/opcode.rt. The proofs say that it is the table of crates/pickle_ops/specs/Table.antt;
-that both are right is what is tried here.
+The table is the macro `opcodes!` in crates/pickle_ops/src/opcode.rt. The proofs say that it is the table of crates/pickle_ops/specs/Table.antt, and that
+`opcodes` prints it; that all of it is right is what is tried here.
 """
 
 from __future__ import annotations
 
 import functools
+import json
 import pickletools
 import re
 import subprocess
@@ -120,6 +121,17 @@ def fault_of_program(program: str, folder: Path) -> str:
     return next(filter(None, (fault_of_opcode(program, folder / "one.pickle", opcode) for opcode in pickletools.opcodes)), "")
 
 
+def fault_of_answer(program: str) -> str:
+    """What the program prints of the table: what pickletools says, in its order, and the same sentences in the text for people."""
+    text, lines = (subprocess.run([program, "opcodes", *options], capture_output=True, timeout=600, check=True).stdout.decode("ascii") for options in ((), ("--json",)))
+    printed = [json.loads(line) for line in lines.splitlines()]
+    found = [tuple(fields[name] for name in ("kind", "name", "code", "protocol", "argument")) for fields in printed]
+    wanted = [("entry", opcode.name, ord(opcode.code), opcode.proto, opcode.arg.name if opcode.arg is not None else "") for opcode in pickletools.opcodes]
+    faults = [difference(*pair) for pair in zip(found, wanted)]
+    said = "".join(f"{fields['name']}: {fields['sentence']}\n" for fields in printed)
+    return next(filter(None, faults), "") or difference(len(found), len(wanted)) or difference(text, said)
+
+
 # --- Other lists ---
 
 
@@ -132,10 +144,10 @@ def fault_of_rows(root: Path) -> str:
     return difference(sorted(tested - set(table)), []) or difference([name for name, shape in table.items() if shape not in shapes], [])
 
 
-def fault_of_package(root: Path) -> str:
-    """The table of the package is made of the definitions, and says of arguments what pickletools says; an opcode that makes no object has no
+def fault_of_package(root: Path, program: str) -> str:
+    """The table of the package is made of the program's answer, and says of arguments what pickletools says; an opcode that makes no object has no
     kind."""
-    made = subprocess.run([sys.executable, "-B", str(root / "tools/make_opcodes.py")], capture_output=True, timeout=600, check=True).stdout
+    made = subprocess.run([sys.executable, "-B", str(root / "tools/make_opcodes.py"), program], capture_output=True, timeout=600, check=True).stdout
     if made != (root / "python/picklestep/opcodes.py").read_bytes():
         return "python3 tools/make_opcodes.py makes another"
     arguments = {opcode.name: opcode.arg.name if opcode.arg is not None else "" for opcode in pickletools.opcodes}
@@ -156,6 +168,7 @@ def trials(root: Path, program: str, folder: Path) -> list[Trial]:
         Trial("the table of opcodes, against pickletools", functools.partial(fault_of_table, root)),
         Trial("each opcode as it is listed and put in, against pickletools", functools.partial(fault_of_program, program, folder)),
         Trial("the rows of the unit tests, for each row, kind and form", functools.partial(fault_of_rows, root)),
-        Trial("the table of the package", functools.partial(fault_of_package, root)),
+        Trial("the table that the program prints, against pickletools", functools.partial(fault_of_answer, program)),
+        Trial("the table of the package", functools.partial(fault_of_package, root, program)),
         Trial("the arguments that the fuzzer makes", functools.partial(fault_of_fuzzer, root)),
     ]

@@ -4,8 +4,8 @@
 
 Without classes all of them. Each module (or each class `--alone`, or that is named) is an interpreter of its own, at most four at once; each
 prints how many of its tests passed, were skipped and failed, and its processor time. What cannot run there is in `NOT_THERE`, with its reason. The
-gate runs a sample of the others, and so does this with `--gate`. A test is in the sample where it names what no test before it named: a word, an
-option or a code. Status 1 where a test failed.
+gate runs a sample of the others, in as few interpreters as run at once, and so does this with `--gate`. A test is in the sample where it names what
+no test before it named: a word, an option or a code. Status 1 where a test failed.
 """
 
 from __future__ import annotations
@@ -67,6 +67,7 @@ DEAR = {
     "test_answers.RealPickles": 7,
     "test_closing.ClosingLines.test_real_pickles": 13,
     "test_compare": 16,
+    "test_document.Objects.test_real_pickles": 20,
     "test_entrance.Words.test_names_that_look_like_options": 8,
     "test_library.Scan.test_what_takes_more_memory_is_asked_of_the_program": 8,
     "test_mending.Crooked.test_many_open_marks": 4,
@@ -195,8 +196,8 @@ def environment(interpreter: Path, system: str) -> dict[str, str]:
     return {**own_environment(), "PYTHONDONTWRITEBYTECODE": "1", "PYTHONPATH": str(ROOT / "python/tests"), "PATH": path, "PICKLESTEP_LESSER": system}
 
 
-def run_group(interpreter: Path, system: str, name: str, names: list[str], folder: Path) -> Tried:
-    """Runs classes or tests of one module in one interpreter."""
+def run_group(interpreter: Path, system: str, folder: Path, name: str, names: list[str]) -> Tried:
+    """Runs classes or tests in one interpreter."""
     lines, log, skipped = (folder / f"{name}.{kind}" for kind in ("lines", "log", "skipped"))
     skipped.write_text("".join(f"{test}\t{reason}\n" for test, reason in NOT_THERE.items()))
     words = [str(interpreter), str(ROOT / "equipment/packages.py"), "--run", str(lines), "--skip", str(skipped), *(f"python {one}" for one in names)]
@@ -221,13 +222,23 @@ def ended(process: subprocess.Popen[bytes]) -> tuple[int, float]:
     return process.returncode, used.ru_utime + used.ru_stime
 
 
-def run_classes(interpreter: Path, system: str, names: list[str], folder: Path, alone: bool = False) -> Iterator[Tried]:
-    """What became of the classes or tests, of each module or of each class `alone`, as they end."""
+def run_groups(interpreter: Path, system: str, folder: Path, groups: dict[str, list[str]]) -> Iterator[Tried]:
+    """What became of classes or tests, each group in an interpreter of its own, as they end."""
+    with ThreadPoolExecutor(AT_ONCE) as pool:
+        yield from pool.map(lambda group: run_group(interpreter, system, folder, *group), groups.items())
+
+
+def by_module(names: list[str]) -> dict[str, list[str]]:
     groups: dict[str, list[str]] = {}
     for name in names:
-        groups.setdefault(name if alone else name.split(".")[0], []).append(name)
-    with ThreadPoolExecutor(AT_ONCE) as pool:
-        yield from pool.map(lambda group: run_group(interpreter, system, group[0], group[1], folder), groups.items())
+        groups.setdefault(name.split(".")[0], []).append(name)
+    return groups
+
+
+def in_parts(names: list[str]) -> dict[str, list[str]]:
+    """As many groups as run at once, each with whole modules."""
+    modules = list(by_module(names).values())
+    return {f"part {number}": [name for module in modules[number::AT_ONCE] for name in module] for number in range(AT_ONCE)}
 
 
 def main() -> int:
@@ -243,7 +254,8 @@ def main() -> int:
         interpreter = Path(wheels.Wheels(ROOT, ROOT / wheels.RELEASED, folder).lesser())
         failed = 0
         names = words.names or (sample() if words.gate else classes(interpreter, NOT_THERE))
-        for tried in run_classes(interpreter, words.system, names, folder, bool(words.names) or words.alone):
+        groups = {name: [name] for name in names} if words.names or words.alone else in_parts(names) if words.gate else by_module(names)
+        for tried in run_groups(interpreter, words.system, folder, groups):
             print(tried, *tried.faults, sep="\n    ", flush=True)
             failed += len(tried.faults)
     return 1 if failed else 0

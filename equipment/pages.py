@@ -59,7 +59,7 @@ CHECKLISTS = [
         {
             "python/picklestep/arguments.py": "an example",
             "python/picklestep/session.py": "an example",
-            "python/picklestep/opcodes.py": "made of the definitions",
+            "python/picklestep/opcodes.py": "made of what the program answers",
         },
     ),
     Checklist(
@@ -382,7 +382,7 @@ def fault_of_change_log(page: Path) -> str:
 # --- The notices of third parties ---
 
 # Of these Rattle's libraries the notices are in a section of their own.
-OF_KIT = ("core", "json", "std_alloc")
+OF_KIT = ("core", "json", "std_alloc", "ucd_age", "ucd_category")
 # Debian's packages that only work on what is linked.
 TOOLS = ("binaryen", "gcc-12-aarch64-linux-gnu", "binutils-aarch64-linux-gnu")
 KIT = Path("/opt/rattle/rattle")

@@ -154,13 +154,26 @@ choose_program() {
     return 1
 }
 
-# Names the program for the words of the package too, where there is one for this machine.
+# Begins to look whether a source is newer than the latest comparison of the released program with them, if that was the same, and no program
+# was built here. `chosen` is the program then, and `looking` the process that looks, whose status is 0 where none is newer.
+begin_to_look() {
+    [ ! -e "$program" ] && find_fitting && [ -x "$fits" ] && [ -e "$checked" ] && [ "$fits" = "$(<"$checked")" ] || return 1
+    { [ -z "$(newer_source "$checked" "$further" "$root/targets")" ]; } </dev/null >/dev/null 2>&1 &
+    looking=$! chosen=$fits
+}
+
+# Names the program for the words of the package too, where there is one for this machine. Python starts while PICKLESTEP_LOOKING looks at the
+# sources, and waits for it before it starts the program. Where a source is newer it begins this anew with PICKLESTEP_LOOK_FIRST (entrance.py).
 name_program() {
+    local looks_first=${PICKLESTEP_LOOK_FIRST-}
+    unset PICKLESTEP_LOOK_FIRST PICKLESTEP_LOOKING
     case ${1-} in
     '' | -h | --help | help | --version) return ;;
     esac
     if [ -z "${PICKLESTEP_PROGRAM-}" ] && ! is_for_program "$@"; then
-        if find_program; then
+        if [ -z "$looks_first" ] && begin_to_look; then
+            export PICKLESTEP_PROGRAM=$chosen PICKLESTEP_LOOKING=$looking
+        elif find_program; then
             export PICKLESTEP_PROGRAM=$chosen
         elif find_fitting; then
             choose_program

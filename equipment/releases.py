@@ -518,8 +518,7 @@ def stands_beside_it(releases: Releases) -> str:
 PAGES = ("share/man/man1/picklestep.1", "share/man/man1/picklestep-scan.1", "share/man/man1/picklestep-view.1")
 BASH = "share/bash-completion/completions/picklestep"
 ZSH = "share/zsh/site-functions/_picklestep"
-PLAIN = ("members",)  # (words without options)
-WORDS = ("scan", "view", "list", "objects", "calls", "form", "gate", "reach", "members", "assemble", "same", "debug", "shell", "dap", "source", "diff", "size", "mend", "rename", "convert", "optimize")
+WORDS = ("scan", "view", "list", "objects", "calls", "form", "gate", "reach", "members", "assemble", "same", "opcodes", "debug", "shell", "dap", "source", "diff", "size", "mend", "rename", "convert", "optimize")
 PAGES_OF = {"scan": PAGES[1], "view": PAGES[2]}
 PROGRAM = ("picklestep", "TOOLCHAIN", "libpicklestep.so", "picklestep.html")
 MODULE = ("picklestep.mjs", "picklestep.wasm", "libpicklestep.wasm", "TOOLCHAIN", "picklestep.html")
@@ -688,7 +687,7 @@ def options_of_words(releases: Releases) -> str:
         # (an option of which its line says that it changes nothing need not be offered)
         lines = re.findall(r"^  (--[a-z].*)", run.output, flags=re.M)
         options = {line.split()[0] for line in lines if "changes nothing" not in line}
-        if run.status != 0 or run.errors or not lines and word not in PLAIN:
+        if run.status != 0 or run.errors or not lines:
             return f"{word} --help: status {run.status}, errors {run.errors[:200]!r}"
         name = PAGES_OF.get(word, PAGES[0])
         for place, found in ((name, in_manual((releases.clone / name).read_text(), word)), *((name, words[word]) for name, words in shells.items())):
@@ -731,7 +730,7 @@ def completions(releases: Releases) -> str:
     (at / "two words").write_text("")
     page = str(releases.clone / BASH)
     for words, wanted in (
-        ([""], ["--help", "--version", "assemble", "calls", "convert", "dap", "debug", "diff", "form", "gate", "help", "list", "members", "mend", "objects", "optimize", "policy", "reach", "rename", "same", "scan",
+        ([""], ["--help", "--version", "assemble", "calls", "convert", "dap", "debug", "diff", "form", "gate", "help", "list", "members", "mend", "objects", "opcodes", "optimize", "policy", "reach", "rename", "same", "scan",
                "shell", "size", "source", "view"]),
         (["help", "sc"], ["scan"]),
         (["ob"], ["objects"]),

@@ -59,14 +59,7 @@ class Saves:
     def words(self, source: str, out: str) -> list[str]:
         return [self.program, "debug", source, "--save", out]
 
-    def save(
-        self,
-        out: str,
-        source: str = "new",
-        before: list[str] | None = None,
-        limit: int | None = None,
-        **environment: str,
-    ) -> Run:
+    def save(self, out: str, source: str = "new", before: list[str] | None = None, limit: int | None = None, **environment: str) -> Run:
         """Saves `source` to `out`. With a limit no file may grow past this many bytes, and the signal of that is ignored."""
 
         def hold() -> None:
@@ -582,10 +575,7 @@ def run_side_by_side(saves: Saves) -> str:
     for number, document in enumerate(documents):
         (saves.room / f"new{number}").write_bytes(document)
     saves.count += len(documents)
-    runs = [
-        subprocess.Popen(saves.words(f"new{number}", "out"), cwd=saves.room, stdin=subprocess.DEVNULL)
-        for number in range(len(documents))
-    ]
+    runs = [subprocess.Popen(saves.words(f"new{number}", "out"), cwd=saves.room, stdin=subprocess.DEVNULL) for number in range(len(documents))]
     statuses = [run.wait(timeout=600) for run in runs]
     if any(statuses) or saves.left():
         return f"statuses {statuses}, and there are {saves.left()}"

@@ -114,7 +114,7 @@ def _trial(number: int, pickles: Sequence[pathlib.Path]) -> Noted:
 
 def trials(pickles: pathlib.Path) -> list[Trial]:
     real = sorted(pickles.glob("*.pickle"))
-    return [Trial(f"the definition of the unpickler beside CPython's {number}", functools.partial(_trial, number, real)) for number in range(4)]
+    return [Trial(f"the definition of the unpickler beside CPython's {number}", functools.partial(_trial, number, real)) for number in range(2)]
 
 
 def main() -> None:

@@ -13,7 +13,7 @@ from dataclasses import dataclass
 from pathlib import Path
 from typing import Callable
 
-from over_node import prepare, run_classes, sample
+from over_node import in_parts, prepare, run_groups, sample
 from packages import LICENCES, NO_BUILDER, builder, own_environment
 from trials.room import beginning
 from trials.trial import Lack, Noted, Trial
@@ -91,27 +91,36 @@ class Wheels:
         return found
 
     @functools.cache
-    def wheel(self, machine: str, sources: Path) -> Path:
-        """The wheel for a kind of machine, built in the folder of these sources (pip would start them several times; that it builds them too
-        is tried where it installs the source distribution)."""
-        to = self.folder / f"wheel-{machine}-{sources.name}"
-        self.call(self.python, "setup.py", "-q", "bdist_wheel", "-d", to, at=sources, PICKLESTEP_MACHINE=machine)
+    def wheel(self, machine: str) -> Path:
+        """The wheel for a kind of machine, built in the repository (pip would start the build several times)."""
+        to = self.folder / f"wheel-{machine}"
+        self.call(self.python, "setup.py", "-q", "bdist_wheel", "-d", to, at=self.sources, PICKLESTEP_MACHINE=machine)
         (found,) = to.glob("*.whl")
         return found
 
-    def environment(self, name: str, *flags: str) -> str:
+    @functools.cached_property
+    def wheel_of_distribution(self) -> Path:
+        """The wheel for this machine that pip builds of the source distribution."""
+        to = self.folder / "wheel-of-distribution"
+        self.pip("wheel", "--no-build-isolation", "-w", to, self.source_distribution)
+        (found,) = to.glob("*.whl")
+        return found
+
+    def environment(self, name: str) -> str:
         """The interpreter of a fresh environment."""
-        self.call(self.python, "-m", "venv", "--without-pip", *flags, self.folder / name)
+        self.call(self.python, "-m", "venv", "--without-pip", self.folder / name)
         return str(self.folder / name / "bin/python")
 
-    def install(self, interpreter: str, *words: "str | Path", **environment: str) -> None:
-        pip = ("-m", "pip", "--disable-pip-version-check", "-q", "--python", interpreter, "install", "--no-index", "--no-deps")
-        self.call(self.python, *pip, *words, **environment)
+    def pip(self, word: str, *words: "str | Path", options: tuple[str, ...] = ()) -> None:
+        self.call(self.python, "-m", "pip", "--disable-pip-version-check", "-q", *options, word, "--no-index", "--no-deps", *words)
+
+    def install(self, interpreter: str, wheel: Path) -> None:
+        self.pip("install", wheel, options=("--python", interpreter))
 
     def lesser(self) -> str:
         """The interpreter of an environment with the wheel for any machine, which hides what another system has not."""
         interpreter = self.environment("env-node")
-        self.install(interpreter, self.wheel("any", self.sources))
+        self.install(interpreter, self.wheel("any"))
         prepare(Path(interpreter))
         return interpreter
 
@@ -119,15 +128,18 @@ class Wheels:
 
 
 def same_wheels(wheels: Wheels) -> str:
-    """The wheels of the repository and those of the source distribution have the same files."""
+    """The wheel that pip builds of the source distribution has the files of ours for this machine. What the others carry is in it too."""
+    held = {file.read_bytes() for file in wheels.unpacked.rglob("*") if file.is_file()}
     for machine in MACHINES:
-        ours, others = (contents(wheels.wheel(machine, sources)) for sources in (wheels.sources, wheels.unpacked))
-        if ours != others:
-            return f"{machine}: {sorted(ours.items() ^ others.items())[0][0]} differs"
+        ours = contents(wheels.wheel(machine))
         lacking = [name for name in LICENCES if (wheels.root / name).read_bytes() not in [ours[file] for file in ours if file.endswith(f"/{name}")]]
         if lacking:
             return f"{machine}: it has no {', '.join(lacking)}"
-    return ""
+        lost = [name for name, content in ours.items() if ".dist-info/" not in name and content not in held]
+        if lost:
+            return f"{machine}: the source distribution has no {lost[0]}"
+    ours, others = (contents(wheel) for wheel in (wheels.wheel(MACHINES[0]), wheels.wheel_of_distribution))
+    return f"{sorted(ours.items() ^ others.items())[0][0]} differs" if ours != others else ""
 
 
 def contents(wheel: Path) -> dict[str, bytes]:
@@ -140,7 +152,7 @@ def installed(wheels: Wheels, machine: str, in_process: bool, program: str) -> s
     if program == "picklestep.mjs" and shutil.which("node") is None:
         raise Lack("there is no Node (equipment/install_servers)")
     interpreter = wheels.environment(f"env-{machine}")
-    wheels.install(interpreter, wheels.wheel(machine, wheels.sources))
+    wheels.install(interpreter, wheels.wheel(machine))
     found = wheels.call(interpreter, "-c", ASK)
     if found != f"{SAID}{in_process} {program}\n":
         return f"it says {found!r}"
@@ -153,11 +165,10 @@ def installed(wheels: Wheels, machine: str, in_process: bool, program: str) -> s
 def by_tags(wheels: Wheels, machine: str) -> str:
     """pip takes the wheel by the tags of both C libraries, and its program runs."""
     runs = [] if machine == "x86_64" else [emulator_of(machine)]
-    wheel = wheels.wheel(f"linux-{machine}", wheels.sources)
+    wheel = wheels.wheel(f"linux-{machine}")
     for platform in (f"manylinux_2_17_{machine}", f"musllinux_1_1_{machine}"):
         to = wheels.folder / platform
-        words = ("--target", to, "--platform", platform, "--only-binary=:all:", "--python-version", "3.8")
-        wheels.call(wheels.python, "-m", "pip", "--disable-pip-version-check", "-q", "install", "--no-index", "--no-deps", *words, wheel)
+        wheels.pip("install", "--target", to, "--platform", platform, "--only-binary=:all:", "--python-version", "3.8", wheel)
         file = wheels.folder / "none.pickle"
         file.write_bytes(b"N.")
         if wheels.call(*runs, to / "picklestep/bin/picklestep", "objects", file) != "#0 none\nresult #0\n":
@@ -175,9 +186,9 @@ def emulator_of(machine: str) -> str:
 
 
 def from_sources(wheels: Wheels) -> str:
-    """pip installs the source distribution, and builds what is for this machine."""
-    interpreter = wheels.environment("env-sources", "--system-site-packages")
-    wheels.install(interpreter, "--no-build-isolation", wheels.source_distribution)
+    """pip builds a wheel for this machine of the source distribution, and installs it."""
+    interpreter = wheels.environment("env-sources")
+    wheels.install(interpreter, wheels.wheel_of_distribution)
     found = wheels.call(interpreter, "-c", ASK)
     return "" if found.startswith(SAID) else f"it says {found!r}"
 
@@ -187,9 +198,9 @@ def over_node(wheels: Wheels) -> Noted:
     if shutil.which("node") is None:
         raise Lack("there is no Node (equipment/install_servers)")
     interpreter = Path(wheels.lesser())
-    tried = list(run_classes(interpreter, "windows", sample(), wheels.folder))
+    tried = list(run_groups(interpreter, "windows", wheels.folder, in_parts(sample())))
     faults = [fault for one in tried for fault in one.faults]
-    return Noted(beginning("; ".join(faults).encode()), f": {sum(one.passed for one in tried)} tests of {len(tried)} modules")
+    return Noted(beginning("; ".join(faults).encode()), f": {sum(one.passed for one in tried)} tests")
 
 
 ROWS: list[tuple[str, Callable[[Wheels], "str | Noted"]]] = [

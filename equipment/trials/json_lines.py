@@ -24,6 +24,7 @@ from .trial import Lack, Trial
 WORDS: dict[str, Callable[[str], Iterator[Any]]] = {"list": json_of_texts.of_listing, "objects": json_of_texts.of_objects}
 MODES: Sequence[Sequence[str]] = ((), ("--many",), ("--unframed",), ("--many", "--unframed"))
 TOGETHER = 20  # pickles whose lines Node reads in one start
+IN_ALL_MODES = 10  # one pickle in so many (fuzz.py looks in all modes at the lines of what it makes)
 CALLS_MODES: Sequence[Sequence[str]] = ((), ("--first",), ("--memo", "kept"), ("--full",), ("--memo", "kept", "--full"))
 # Reads lines of JSON, and writes each again without white space.
 NODE = r"process.stdout.write(require('fs').readFileSync(0, 'utf8').split('\n').slice(0, -1).map((line) => JSON.stringify(JSON.parse(line)) + '\n').join(''))"
@@ -52,10 +53,15 @@ def fault_of_lines(lines: bytes, wanted: Sequence[Any]) -> str:
     return "" if len(found) == len(wanted) else f"{len(found)} lines and not {len(wanted)}"
 
 
+def asked(pickles: Iterable[Path], modes: Sequence[Sequence[str]]) -> list[tuple[Path, Sequence[str]]]:
+    """Each pickle in the first mode, and some in all."""
+    return [(pickle, mode) for number, pickle in enumerate(pickles) for mode in modes[: 1 if number % IN_ALL_MODES else None]]
+
+
 def fault_of(room: Room, pickles: Iterable[Path]) -> str:
-    """Of pickles, in each mode. Node is started once for all of them."""
+    """Of pickles, each in its modes. Node is started once for all of them."""
     printed = b""
-    for pickle, word, mode in itertools.product(pickles, WORDS, MODES):
+    for (pickle, mode), word in itertools.product(asked(pickles, MODES), WORDS):
         text, lines = (room.observe(room.program, word, *mode, *options, pickle) for options in ((), ("--json",)))
         why = lines.fault_of_status(text.status) or fault_of_lines(lines.output, list(WORDS[word](text.output.decode())))
         if why or lines.errors:
@@ -75,10 +81,10 @@ def calls_as_lines(room: Room, pickle: Path, mode: Sequence[str]) -> tuple[bytes
     return lines.output, why or ("" if said == wanted else f"{' '.join(mode)}: they say {beginning(said.encode())} and not {beginning(wanted.encode())}")
 
 
-def fault_of_calls(room: Room, asked: Iterable[tuple[Path, Sequence[str]]]) -> str:
+def fault_of_calls(room: Room, rows: Iterable[tuple[Path, Sequence[str]]]) -> str:
     """Of pickles, each with its options. Node is started once for all of them."""
     printed = b""
-    for pickle, mode in asked:
+    for pickle, mode in rows:
         lines, why = calls_as_lines(room, pickle, mode)
         if why:
             return f"{pickle.stem}, {pickle.read_bytes()[:100].hex()}: {why}"
@@ -100,6 +106,19 @@ def rows_of_calls(room: Room) -> Iterator[tuple[Path, Sequence[str]]]:
         pickle = room.files / f"line_{size}.pickle"
         pickle.write_bytes(b"cm\nn\n(X" + len(text).to_bytes(4, "little") + text + b"tR.")
         yield pickle, ["--full"]
+
+
+def fault_of_pairs(room: Room, pickles: Sequence[Path]) -> str:
+    """Of each pickle with itself, with the next one and with a beginning of it: the line of JSON says what the text says."""
+    for one, next_one in zip(pickles, pickles[1:]):
+        cut = room.files / f"cut_{one.stem}.pickle"
+        cut.write_bytes(one.read_bytes()[:-1])
+        for first, second, mode in itertools.product((one, cut), (one, next_one, cut), ((), ("--many",))):
+            text, lines = (run([room.program, "same", *mode, *options, first, second], room.files) for options in ((), ("--json",)))
+            why = lines.fault_of_status(text.status) or fault_of_lines(lines.output, [json_of_texts.of_same(text.output.decode())])
+            if why or lines.errors:
+                return f"{one.stem}: {why or beginning(lines.errors)}"
+    return ""
 
 
 def fault_of_forms(room: Room, page: Path) -> str:
@@ -180,6 +199,8 @@ ROWS = (
     fails("JSON of a file past the size limit", "too large", "list", "--json", "too_large.pickle"),
     fails("JSON, on a full device", "cannot write", "list", "--json", "pair.pickle", through=FULL),
     fails("JSON, with closed standard output", "cannot write", "list", "--json", "pair.pickle", through=CLOSED),
+    Row("JSON of a pair and itself", ("same", "pair.pickle", "--json", "pair.pickle"), output='{"kind":"same","how":"same"}\n'),
+    fails("JSON of what is the same, on a full device", "cannot write", "same", "--json", "pair.pickle", "pair.pickle", through=FULL),
 )
 
 
@@ -191,6 +212,7 @@ def trials(room: Room) -> list[Trial]:
         Trial("JSON of conversations", functools.partial(fault_of_answers, room, room.equipment / "conversations.txt")),
         Trial("JSON of forms", functools.partial(fault_of_forms, room, room.equipment / "conversations.txt")),
         *(Trial(f"JSON of {name}", functools.partial(fault_of, room, part)) for name, part in named.items()),
-        *(Trial(f"JSON of the calls of {name}", functools.partial(fault_of_calls, room, [*itertools.product(part, CALLS_MODES)])) for name, part in named.items()),
+        *(Trial(f"JSON of pairs of {name}", functools.partial(fault_of_pairs, room, part)) for name, part in named.items()),
+        *(Trial(f"JSON of the calls of {name}", functools.partial(fault_of_calls, room, asked(part, CALLS_MODES))) for name, part in named.items()),
         Trial("JSON of the rows of calls.txt", lambda: fault_of_calls(room, rows_of_calls(room))),
     ]

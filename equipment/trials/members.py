@@ -8,6 +8,7 @@ from __future__ import annotations
 
 import functools
 import io
+import json
 import re
 import struct
 import warnings
@@ -15,7 +16,9 @@ import zipfile
 from dataclasses import dataclass
 from pathlib import Path
 
-from .room import Room, run
+import json_of_texts
+
+from .room import Room, Run, lines_of, run
 from .row import CLOSED, FULL, LITTLE_MEMORY, MISSING, Row, fails, trials_of
 from .trial import Trial
 
@@ -112,7 +115,13 @@ class Case:
         folder = room.folder / "members"
         folder.mkdir(parents=True, exist_ok=True)
         (folder / "given").write_bytes(self.given)
-        return run([room.program, "members", "given"], folder).difference(self.status, self.output, "")
+        words = [room.program, "members", "given"]
+        return run(words, folder).difference(self.status, self.output, "") or self.fault_of_json(run([*words, "--json"], folder))
+
+    def fault_of_json(self, found: Run) -> str:
+        objects = [list(json.loads(line).items()) for line in lines_of(found.output)]
+        wanted = [list(fields.items()) for fields in json_of_texts.of_members(self.output)]
+        return "" if (objects, found.status, found.errors) == (wanted, self.status, b"") else f"with --json: {found.output!r}"
 
 
 def in_form(name: str, archive: bytes) -> Case:
@@ -214,6 +223,7 @@ ROWS = (
     fails("the members of a file that is missing", "cannot read", "members", "missing.zip", unread=f"missing.zip: {MISSING}"),
     fails("members past the size limit, with little memory", "too large", "members", "too_large.pickle", through=LITTLE_MEMORY),
     fails("members, on a full device", "cannot write", "members", "pair.pickle", through=FULL),
+    fails("JSON of members, on a full device", "cannot write", "members", "--json", "pair.pickle", through=FULL),
     fails("members, with closed standard output", "cannot write", "members", "pair.pickle", through=CLOSED),
 )
 

@@ -13,8 +13,10 @@ from collections.abc import Callable, Iterator
 from dataclasses import dataclass, field
 from pathlib import Path
 
+from picklestep.opcodes import TABLE
+
 from .room import Room, Run, Word, beginning
-from .samples import HOSTILE_CALLS, MEMBERS, NOT_ALLOWED, PAIR_JSON, PAIR_LISTING, PAIR_OBJECTS, PAIR_OBJECTS_JSON, REACHED, SEVERAL, TWICE_OBJECTS
+from .samples import HOSTILE_CALLS, MEMBERS, MEMBERS_JSON, NOT_ALLOWED, PAIR_JSON, PAIR_LISTING, PAIR_OBJECTS, PAIR_OBJECTS_JSON, REACHED, SEVERAL, TWICE_OBJECTS
 from .trial import Noted, Trial
 
 LIBRARY = "refuse_memory"
@@ -63,7 +65,10 @@ COMMANDS = (
     Command("JSON of what a list says of an archive", ("gate", "--json", "names.list", "two.zip"), '{"kind":"verdict","how":"passes","text":"passes"}\n', is_nothing),
     Command("what is reached", ("reach", "hostile.pickle"), REACHED, is_nothing, status=1),
     Command("the members of an archive", ("members", "two.zip"), MEMBERS, is_nothing),
+    Command("JSON of the members of an archive", ("members", "--json", "two.zip"), MEMBERS_JSON, is_nothing),
     Command("whether pickles make the same", ("same", "pair.pickle", "pair.pickle"), "the same objects\n", is_nothing),
+    Command("the table of opcodes", ("opcodes",), "".join(f"{info.name}: {info.sentence}\n" for info in TABLE), is_nothing),
+    Command("JSON of whether pickles make the same", ("same", "--json", "pair.pickle", "pair.pickle"), '{"kind":"same","how":"same"}\n', is_nothing),
     Command(
         "saving a pickle from a window",
         ("debug", "doubled.pickle", "--window", "2", "--save", "saved.pickle"),

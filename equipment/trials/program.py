@@ -19,12 +19,17 @@ UNKNOWN = "refused: X1 unknown word\n"
 STEPS = "step\nstep\nstep\nback\nstack\nstep\nstep\nstep\nfly\n"
 STEPS_ANSWERED = "at 1\nat 2\nat 3\nat 2\nstack #0 #0\nat 3\nat 4\nrefused: C2 at the end, stopped\n" + UNKNOWN
 CUT_LISTING = "    0: K    BININT1    1\nfault: F3 truncated at 2\nhighest protocol among opcodes = 1\n"
+SOURCE = "# What loading the pickle would do. Running this does the same.\nfrom picklestep.running import *\nresult = (1, 2)\n"
+CUT_SOURCE = """\
+# What loading the file would do first: the last lines say why this is not all.
+from picklestep.running import *
+# fault: F3 truncated at 2
+stack = [1, ]
+"""
 MANY = 50_000
 # Lines of 65,536 bytes at most are run; of a longer one no word is.
 BLANKS = " " * 65_532
-LONG_LINES = (
-    f"    {BLANKS}\n     {BLANKS}\n{BLANKS}step\nstep{BLANKS} \nfly{BLANKS}  \nstep{BLANKS}\nback {BLANKS}"
-)
+LONG_LINES = f"    {BLANKS}\n     {BLANKS}\n{BLANKS}step\nstep{BLANKS} \nfly{BLANKS}  \nstep{BLANKS}\nback {BLANKS}"
 TOO_LONG = "refused: X7 line too long\n"
 LONG_LINES_ANSWERED = f"{TOO_LONG}at 1\n{TOO_LONG}{TOO_LONG}at 2\n{TOO_LONG}"
 
@@ -157,6 +162,14 @@ FAULTS = (
     fails("a missing file that is compared", "cannot read", "same", "missing.pickle", "none.pickle", unread=f"missing.pickle: {MISSING}"),
     fails("a file that is compared with a missing one", "cannot read", "same", "none.pickle", "missing.pickle", unread=f"missing.pickle: {MISSING}"),
     fails("a file that is compared with one past the size limit", "too large", "same", "none.pickle", "too_large.pickle", through=LITTLE_MEMORY),
+    Row("the source of a pair", ("source", "pair.pickle"), output=SOURCE, is_bare=True),
+    Row("the source of a file that ends too early", ("source", "/dev/stdin"), status=1, output=CUT_SOURCE, through=CUT, is_bare=True),
+    fails("the source of no such file", "cannot read", "source", "missing.pickle", is_bare=True),
+    fails("the source of a file past the size limit", "too large", "source", "too_large.pickle", is_bare=True),
+    fails("the source, on a full device", "cannot write", "source", "pair.pickle", through=FULL, is_bare=True),
+    fails("the table of opcodes, on a full device", "cannot write", "opcodes", through=FULL),
+    fails("the table of opcodes for programs, on a full device", "cannot write", "opcodes", "--json", through=FULL),
+    fails("the table of opcodes, with closed standard output", "cannot write", "opcodes", through=CLOSED),
     fails("no such file, with closed standard output", "cannot read", "list", "missing.pickle", through=CLOSED, unread=f"missing.pickle: {MISSING}"),
 )
 
@@ -184,12 +197,7 @@ def leaves_early(room: Room) -> str:
 
 
 # Lines that are typed, and the answer to each.
-TALK = (
-    ("step", "at 1"),
-    ("stack", "stack #0"),
-    ("fly", UNKNOWN.rstrip("\n")),
-    ("back", "at 0"),
-)
+TALK = (("step", "at 1"), ("stack", "stack #0"), ("fly", UNKNOWN.rstrip("\n")), ("back", "at 0"))
 TEN = (("step", "at 1"), ("back", "at 0")) * 4 + (("fly", UNKNOWN.rstrip("\n")), ("step", "at 1"))
 
 Exchange = Sequence[tuple[str, str]]

@@ -71,11 +71,11 @@ def trials_of(rows: Iterable[Row], room: Room) -> list[Trial]:
 MISSING = "No such file or directory"
 
 
-def fails(name: str, why: str, *words: Word, given: str = "", through: str = "", unmade: str = "", unread: str = "") -> Row:
+def fails(name: str, why: str, *words: Word, given: str = "", through: str = "", unmade: str = "", unread: str = "", is_bare: bool = False) -> Row:
     """The program has no answer, and says why in the one line of its errors. `unread` is what the entrance says behind it of a file that
     cannot be read."""
     errors = f"picklestep: {why}\n" + (f"picklestep: cannot read {unread}\n" if unread else "")
-    return Row(name, words, given, status=2, errors=errors, through=through, unmade=unmade)
+    return Row(name, words, given, status=2, errors=errors, through=through, unmade=unmade, is_bare=is_bare)
 
 
 def misused(name: str, *words: Word, why: str, usage: str = "", through: str = "", is_bare: bool = False) -> Row:
@@ -86,10 +86,10 @@ def misused(name: str, *words: Word, why: str, usage: str = "", through: str = "
     return Row(name, words, status=2, errors=errors, through=through, is_bare=is_bare)
 
 
-def unexpected(name: str, option: str, usage: str, *words: Word) -> Row:
+def unexpected(name: str, option: str, usage: str, *words: Word, is_bare: bool = False) -> Row:
     """A task is given an option that it does not have. The usage names what stands before it."""
     why = f"unexpected argument '{option}' found\n\n  tip: to pass '{option}' as a value, use '-- {option}'"
-    return misused(name, *words, why=why, usage=usage)
+    return misused(name, *words, why=why, usage=usage, is_bare=is_bare)
 
 
 def repeated(name: str, option: str, task: str, *words: Word) -> Row:

@@ -43,6 +43,10 @@ SEVERAL = f"'none.pickle': passes\n'hostile.pickle': {NOT_ALLOWED}"
 REACHED = "reached at 0: GLOBAL 'posix' 'system'\n"
 # Of two.zip. (A header has 30 bytes, and a name here 5.)
 MEMBERS = "35: 2 stored 'a.pkl'\n72: 3 stored 'b.pkl'\n"
+MEMBERS_JSON = (
+    '{"kind":"member","name":"a.pkl","offset":35,"size":2,"method":"stored"}\n'
+    '{"kind":"member","name":"b.pkl","offset":72,"size":3,"method":"stored"}\n{"kind":"end","how":"whole"}\n'
+)
 
 # The size from which an edit is too large, and the size from which a file is not opened.
 LARGE = 2**28

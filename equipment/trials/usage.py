@@ -12,7 +12,9 @@ from .row import Row, fails, misused, repeated, trials_of, unexpected, valueless
 from .trial import Trial
 
 OF_ONE_FILE = ("list", "objects", "calls", "debug", "form")
-TASKS = (*OF_ONE_FILE, "gate", "reach", "members", "assemble", "same")
+TASKS = (*OF_ONE_FILE, "gate", "reach", "members", "assemble", "same", "source", "opcodes")
+# (the entrance has words of its own for these)
+OF_PYTHON = ("source",)
 ANY_TASK = "<COMMAND>"
 GATE = "gate <LIST> <FILE>..."
 MEMBERS = "members <FILE>"
@@ -29,43 +31,32 @@ NO_TASKS = (
         is_bare=True,
     ),
     misused("an unknown subcommand", "fly", "pair.pickle", why="unrecognized subcommand 'fly'", usage=ANY_TASK, is_bare=True),
-    misused(
-        "a subcommand that is spelled wrong",
-        "lst",
-        "pair.pickle",
-        why="unrecognized subcommand 'lst'\n\n  tip: a similar subcommand exists: 'list'",
-        usage=ANY_TASK,
-        is_bare=True,
-    ),
+    misused("a subcommand that is spelled wrong", "lst", "pair.pickle", why="unrecognized subcommand 'lst'\n\n  tip: a similar subcommand exists: 'list'", usage=ANY_TASK, is_bare=True),
     misused("an unknown option", "--fast", why="unexpected argument '--fast' found", usage=ANY_TASK, is_bare=True),
 )
 
 WORDS = (
-    *(misused(f"{task} without a file", task, why=FILE_MISSING, usage=f"{task} <FILE>") for task in TASKS if task not in ("gate", "same")),
+    *(misused(f"{task} without a file", task, why=FILE_MISSING, usage=f"{task} <FILE>", is_bare=task in OF_PYTHON) for task in TASKS if task not in ("gate", "same", "opcodes")),
     *(
-        misused(f"{task} with two files", task, "pair.pickle", "none.pickle", why="unexpected argument 'none.pickle' found", usage=f"{task} [OPTIONS] <FILE>")
+        misused(f"{task} with two files", task, "pair.pickle", "none.pickle", why="unexpected argument 'none.pickle' found", usage=f"{task} [OPTIONS] <FILE>", is_bare=task in OF_PYTHON)
         for task in TASKS
-        if task not in ("gate", "members", "assemble", "same")
+        if task not in ("gate", "assemble", "same", "opcodes")
     ),
-    *(misused(f"{task} with two files", task, "pair.pickle", "none.pickle", why="unexpected argument 'none.pickle' found", usage=f"{task} <FILE>") for task in ("members", "assemble")),
+    misused("assemble with two files", "assemble", "pair.pickle", "none.pickle", why="unexpected argument 'none.pickle' found", usage="assemble <FILE>"),
     misused("same without a file", "same", why=f"{FILE_MISSING}\n  <OTHER>", usage=SAME),
     misused("same with one file", "same", "pair.pickle", why=f"{MISSING}\n  <OTHER>", usage=SAME),
     misused("same with three files", "same", "pair.pickle", "none.pickle", "pair.pickle", why="unexpected argument 'pair.pickle' found", usage=SAME.replace(" ", " [OPTIONS] ", 1)),
     unexpected("unframed pickles that are compared", "--unframed", SAME, "same", "pair.pickle", "none.pickle", "--unframed"),
+    misused("opcodes with a file", "opcodes", "pair.pickle", why="unexpected argument 'pair.pickle' found", usage="opcodes [OPTIONS]"),
+    misused("several pickles of no file", "opcodes", "--many", why="unexpected argument '--many' found", usage="opcodes [OPTIONS]"),
     misused("a gate without a file", "gate", why=f"{MISSING}\n  <LIST>\n  <FILE>...", usage=GATE),
     misused("a gate with a list alone", "gate", "names.list", why=f"{FILE_MISSING}...", usage=GATE),
     unexpected("several pickles of a file at a gate", "--many", GATE, "gate", "names.list", "pair.pickle", "--many"),
+    unexpected("JSON of a source", "--json", "source <FILE>", "source", "pair.pickle", "--json", is_bare=True),
     unexpected("several pickles for members", "--many", MEMBERS, "members", "pair.pickle", "--many"),
     unexpected("an unknown option of list", "--fast", "list [OPTIONS] <FILE>", "list", "--fast", "pair.pickle"),
     unexpected("an unknown option of list after its file", "--fast", "list <FILE>", "list", "pair.pickle", "--fast"),
-    misused(
-        "an option that is spelled wrong",
-        "list",
-        "--mani",
-        "pair.pickle",
-        why="unexpected argument '--mani' found\n\n  tip: a similar argument exists: '--many'",
-        usage="list --many <FILE>",
-    ),
+    misused("an option that is spelled wrong", "list", "--mani", "pair.pickle", why="unexpected argument '--mani' found\n\n  tip: a similar argument exists: '--many'", usage="list --many <FILE>"),
     unexpected("a window of calls", "--window", "calls <FILE>", "calls", "pair.pickle", "--window", "2"),
     unexpected("bytes of list that are left out", "--skip", "list <FILE>", "list", "pair.pickle", "--skip", "1:1"),
     unexpected("what several pickles reach", "--many", "reach <FILE>", "reach", "pair.pickle", "--many"),
@@ -133,6 +124,8 @@ REACH_DOES = ("reach", "Says whether any loader of FILE comes to an import or a 
 MEMBERS_DOES = ("members", "Prints the members of FILE, if it is an archive in the form that writers write, else where it is not and why")
 ASSEMBLE_DOES = ("assemble", "Writes the pickle whose opcodes stand in FILE as `list` prints them, else says which line is none")
 SAME_DOES = ("same", "Says whether the pickles in FILE and OTHER make the same objects in the same order, else how they differ")
+SOURCE_DOES = ("source", "Prints the pickle in FILE as statements of Python, which do what loading it does")
+OPCODES_DOES = ("opcodes", "Prints the table of all opcodes, with what each does")
 SAME_FILES = (("<FILE>", "the pickle"), ("<OTHER>", "the pickle that it is compared with"))
 SAME_MANY = ("    --many", "read both files as pickles that follow one another: go on after each STOP")
 GATE_FILES = (("<LIST>", "the list of names, and of what may be done with each"), ("<FILE>...", "a pickle or an archive, or several"))
@@ -172,24 +165,24 @@ def columns(heading: str, rows: Sequence[tuple[str, str]]) -> str:
 
 def help_of(does: tuple[str, str], usage: str, files: Sequence[tuple[str, str]] = FILE, options: Sequence[tuple[str, str]] = ()) -> Row:
     """The help of a subcommand of the program itself; the entrance has its own."""
-    rows = columns("Arguments:\n", files) + columns("\nOptions:\n", (*options, NO_MORE_HELP))
+    rows = (columns("Arguments:\n", files) + "\n" if files else "") + columns("Options:\n", (*options, NO_MORE_HELP))
     return Row(f"the help of {does[0]}", (does[0], "--help"), status=2, errors=f"{does[1]}\n\nUsage: picklestep {does[0]} {usage}\n\n{rows}", is_bare=True)
 
 
 PROGRAM_HELP = (
     "Shows what a Python pickle would import, call and build, and runs nothing of it\n\nUsage: picklestep <COMMAND>\n\n"
-    + columns("Commands:\n", (*WHAT_EACH_DOES, GATE_DOES, REACH_DOES, MEMBERS_DOES, ASSEMBLE_DOES, SAME_DOES, ("help", "Print this message or the help of the given subcommand(s)")))
+    + columns("Commands:\n", (*WHAT_EACH_DOES, GATE_DOES, REACH_DOES, MEMBERS_DOES, ASSEMBLE_DOES, SAME_DOES, SOURCE_DOES, OPCODES_DOES, ("help", "Print this message or the help of the given subcommand(s)")))
     + columns("\nOptions:\n", (NO_MORE_HELP,))
 )
 HELPS = (
-    *(
-        Row(f"the help of the program, by {word}", (word,), status=2, errors=PROGRAM_HELP, is_bare=True)
-        for word in ("--help", "-h", "help")
-    ),
+    *(Row(f"the help of the program, by {word}", (word,), status=2, errors=PROGRAM_HELP, is_bare=True) for word in ("--help", "-h", "help")),
     *(help_of(does, "[OPTIONS] <FILE>", options=OPTIONS[does[0]]) for does in (*WHAT_EACH_DOES, REACH_DOES)),
     help_of(GATE_DOES, "[OPTIONS] <LIST> <FILE>...", GATE_FILES, (JSON_HELP,)),
-    help_of(SAME_DOES, "[OPTIONS] <FILE> <OTHER>", SAME_FILES, (SAME_MANY,)),
-    *(help_of(does, "<FILE>") for does in (MEMBERS_DOES, ASSEMBLE_DOES)),
+    help_of(SAME_DOES, "[OPTIONS] <FILE> <OTHER>", SAME_FILES, (SAME_MANY, JSON_HELP)),
+    help_of(SOURCE_DOES, "[OPTIONS] <FILE>", options=(("    --many", MANY_HELP), ("    --unframed", UNFRAMED_HELP))),
+    help_of(OPCODES_DOES, "[OPTIONS]", (), (JSON_HELP,)),
+    help_of(MEMBERS_DOES, "[OPTIONS] <FILE>", options=(JSON_HELP,)),
+    help_of(ASSEMBLE_DOES, "<FILE>"),
 )
 
 
