@@ -84,6 +84,8 @@ uint8_t picklestep_reach_json(uint32_t granted, const uint8_t *bytes, size_t len
 /* The members of the zip archive that the bytes are, in the form in which usual writers write, or the first rule that they break, and where
  * (`picklestep members FILE`). */
 uint8_t picklestep_members(const uint8_t *bytes, size_t length, uint8_t *out, size_t room, picklestep_written *written);
+/* The same as JSON Lines (`picklestep members --json FILE`). */
+uint8_t picklestep_members_json(const uint8_t *bytes, size_t length, uint8_t *out, size_t room, picklestep_written *written);
 
 /* The bytes that a text of opcodes is assembled to, which has lines as `picklestep list` prints them (`picklestep assemble FILE`). Where a line
  * gives none, its number and the reason are the text, and the status is 1. */
@@ -93,6 +95,9 @@ uint8_t picklestep_assemble(const uint8_t *text, size_t length, uint8_t *out, si
  * (`picklestep same FILE OTHER [--many]`). The status is 0 where they make the same, else 1. */
 uint8_t picklestep_same(bool many, const uint8_t *bytes, size_t length, const uint8_t *other, size_t other_length, uint8_t *out, size_t room,
                         picklestep_written *written);
+/* The same as a line of JSON (`picklestep same --json FILE OTHER [--many]`). */
+uint8_t picklestep_same_json(bool many, const uint8_t *bytes, size_t length, const uint8_t *other, size_t other_length, uint8_t *out, size_t room,
+                             picklestep_written *written);
 
 /* The answers of a conversation: those to all lines of a script, of `script_length` bytes, in a session of a pickle, or with `many` of several
  * (`picklestep debug FILE [--many]`, with the script as its standard input). A conversation that goes on is asked with all lines so far. */
